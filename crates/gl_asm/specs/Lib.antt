@@ -1,0 +1,9 @@
+pub mod Additions
+pub mod Code
+pub mod Definitions
+pub mod Forms
+pub mod Listing
+pub mod Names
+pub mod Sayings
+pub mod Texts
+pub mod Words

@@ -1,0 +1,13 @@
+// Laws of the definitions.
+ghost use Rattle.std.specs.Prelude.{◌≡◌, ℕ, ℤ, List};
+ghost use Rattle.gl_bytecode.specs.Programs.{Bytecode, draft_of};
+ghost use Rattle.gl_asm.specs.Texts.{IsFirstFault, IsText};
+
+/// A text has one meaning: a program and its inputs, or its first fault.
+pub fn one_meaning()
+    ensures apart { (text : List ℕ) (program : Bytecode) (inputs : List ℤ) (line kind : ℕ) → IsText text program inputs → IsFirstFault text line kind → ⊥ }
+    ensures faults { (text : List ℕ) (a b j k : ℕ) → IsFirstFault text a j → IsFirstFault text b k → (a ≡ b) × (j ≡ k) }
+    ensures texts { (text : List ℕ) (P Q : Bytecode) (xs ys : List ℤ) → IsText text P xs → IsText text Q ys → (draft_of P ≡ draft_of Q) × (xs ≡ ys) }
+{
+    gl_bytecode::one_meaning();
+}

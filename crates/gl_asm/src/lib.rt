@@ -1,0 +1,22 @@
+//! Program texts: the assembler, and the canonical listing.
+#![tactic(auto)]
+
+mod additions;
+mod assembling;
+mod definitions;
+mod forms;
+mod laws;
+mod limits;
+mod listing;
+mod names;
+mod places;
+mod refusal;
+mod sayings;
+mod table;
+
+pub use assembling::{Assembled, assemble};
+pub use laws::one_meaning;
+pub use listing::list;
+
+#[cfg(test)]
+mod tests;

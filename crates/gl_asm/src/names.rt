@@ -1,0 +1,53 @@
+// Names, and the words that define labels.
+ghost use Rattle.std.specs.Prelude.{◌≡◌, MatchOption, false, true, bytes_eq};
+ghost use Rattle.std.specs.List.{list_all};
+ghost use Rattle.gl_asm.specs.Names.{is_letter, is_name_byte, is_name, label_of};
+
+use crate::limits::NAME_TAIL;
+
+fn is_letter(byte: u8) -> bool
+    ensures { result ≡ is_letter byte }
+{
+    matches!(byte, b'A'..=b'Z' | b'a'..=b'z')
+}
+
+fn is_name_byte(byte: u8) -> bool
+    ensures { result ≡ is_name_byte byte }
+{
+    is_letter(byte) || matches!(byte, b'0'..=b'9' | b'_')
+}
+
+fn are_name_bytes(bytes: &[u8]) -> bool
+    ensures { result ≡ list_all is_name_byte bytes.now }
+{
+    bytes.iter().all(|byte| is_name_byte(*byte))
+}
+
+/// Whether a word is a name: a letter, and then at most `NAME_TAIL` letters, digits and `_`.
+pub fn is_name(word: &[u8]) -> bool
+    ensures { result ≡ is_name word.now }
+{
+    match word {
+        [first, others @ ..] => {
+            is_letter(*first) && others.len() <= NAME_TAIL && are_name_bytes(others)
+        }
+        [] => false,
+    }
+}
+
+/// Whether two words are the same.
+pub fn same(one: &[u8], other: &[u8]) -> bool
+    ensures { result ≡ bytes_eq one.now other.now }
+{
+    one == other
+}
+
+/// What stands before the colon at the end of a word.
+pub fn label_of(word: &[u8]) -> Option<&[u8]>
+    ensures { MatchOption result (label_of word.now ≡ None) (λ name. label_of word.now ≡ Some name.now) }
+{
+    match word {
+        [name @ .., b':'] => Some(name),
+        _ => None,
+    }
+}

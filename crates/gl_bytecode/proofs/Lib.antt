@@ -1,0 +1,12 @@
+pub mod Agreement
+pub mod Answers
+pub mod Attempts
+pub mod DepthSearch
+pub mod Drafts
+pub mod Faultless
+pub mod Growth
+pub mod OneMeaning
+pub mod Rows
+pub mod Soundness
+pub mod Validation
+pub mod ValidExample

@@ -1,0 +1,13 @@
+pub mod Catches
+pub mod Faults
+pub mod Fits
+pub mod Instructions
+pub mod Lawful
+pub mod Machine
+pub mod Passing
+pub mod Programs
+pub mod References
+pub mod Rows
+pub mod Runs
+pub mod Searches
+pub mod Validity

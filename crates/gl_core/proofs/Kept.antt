@@ -1,0 +1,125 @@
+-- Walks that are kept.
+use Rattle.std.proofs.Common.{◌≡◌, ℕ, ◌+◌, ◌-◌, ◌<◌, ◌≤◌, List, [], ◌∷◌, ◌++◌, length, take, drop, get_or, refl, sym, ◌∙◌, ap, subst, inl, inr, arith, Some, None, true, false, Bool}
+use Rattle.std.specs.Prelude.{Option, ◌↔◌, ◌⊎◌, IsTrue, slice_range, not}
+use Rattle.std.proofs.lemmas.List.{take-append-drop, length-drop, drop-drop}
+use Rattle.std.proofs.Math.Seq.{drop-length}
+use Rattle.gl_model.specs.declared.event.Stamp.{Stamp}
+use Rattle.gl_model.specs.declared.event.Element.{Element}
+use Rattle.gl_model.specs.declared.event.Element.TheVariants.{Thread}
+use Rattle.gl_model.specs.declared.row.Info.{Info}
+use Rattle.gl_model.specs.Lockset.{Has}
+use Rattle.gl_model.specs.Locksets.{Elements, AfterAcquiring, After, AfterAll, IsOrderedOrExcepted}
+use Rattle.gl_laws.proofs.Walks.{walk_more}
+use Rattle.gl_draws.specs.RowFacts.{set_after, Fails}
+use Rattle.gl_core.specs.Moved.{IsMoved, IsStepped}
+use Rattle.gl_core.proofs.Walked.{AfterAll-has, passes_greater, take_rest}
+
+abbrev pub SameSets : Elements → Elements → Type 0
+SameSets S T = (y : Element) → S y ↔ T y
+
+acquiring_same : (S T : Elements) (s : Stamp) → SameSets S T → SameSets (AfterAcquiring S s) (AfterAcquiring T s)
+acquiring_same S T s same y = (λ h. elim h [ inl c ↦ inl ((same y).0 c) | inr c ↦ inr (c.0, (c.1.0, c.1.1, (same c.1.0).0 c.1.2)) ], λ h. elim h [ inl c ↦ inl ((same y).1 c) | inr c ↦ inr (c.0, (c.1.0, c.1.1, (same c.1.0).1 c.1.2)) ])
+
+after_same : (S T : Elements) (s : Stamp) → SameSets S T → SameSets (After S s) (After T s)
+after_same S T s same y =
+    let t = acquiring_same S T s same in
+    (λ h. elim h [ inl c ↦ inl ((t y).0 c) | inr c ↦ inr (c.0, (t (Thread s.thread)).0 c.1) ], λ h. elim h [ inl c ↦ inl ((t y).1 c) | inr c ↦ inr (c.0, (t (Thread s.thread)).1 c.1) ])
+
+pub all_same : (S T : Elements) (xs : List Stamp) → SameSets S T → SameSets (AfterAll S xs) (AfterAll T xs)
+all_same S T [] same = same
+all_same S T (s ∷ xs) same = all_same (After S s) (After T s) xs (after_same S T s same)
+
+pub all_append : (S : Elements) (xs ys : List Stamp) → AfterAll S (xs ++ ys) ≡ AfterAll (AfterAll S xs) ys
+all_append S [] ys = refl
+all_append S (x ∷ xs) ys = all_append (After S x) xs ys
+
+-- a walk by k of the events behind the Info
+pub record IsWalked (rest : List Stamp) (old new : Info) (k : ℕ) : Type 0 where
+  pub thread : new.thread ≡ old.thread
+  pub write : new.write ≡ old.write
+  pub commit : new.commit ≡ old.commit
+  pub held : new.held ≡ old.held
+  pub pos : new.pos ≡ old.pos + k
+  pub set : (y : Element) → Has new.set y ↔ AfterAll (Has old.set) (take k rest) y
+
+pub stayed : (rest : List Stamp) (old : Info) → IsWalked rest old old 0
+stayed rest old = record { thread = refl; write = refl; commit = refl; held = refl; pos = omega arith; set = λ y. (λ c. c, λ c. c) }
+
+pub walked_more : (rest : List Stamp) (old mid new : Info) (k : ℕ) (s : Stamp) → IsWalked rest old mid k → k < length rest → s ≡ get_or rest k s → IsStepped s mid new → IsWalked rest old new (k + 1)
+walked_more rest old mid new k s w n is step =
+    let at = w.pos in
+    let next = step.pos in
+    record {
+      thread = step.thread ∙ w.thread;
+      write = step.write ∙ w.write;
+      commit = step.commit ∙ w.commit;
+      held = step.held ∙ w.held;
+      pos = omega arith;
+      set = walk_more (Has old.set) (Has mid.set) (Has new.set) rest k s n is w.set step.set;
+    }
+
+pub rest_length : (h rest : List Stamp) (p : ℕ) → rest ≡ take (length h - p) (drop p h) → p ≤ length h → length rest + p ≡ length h
+rest_length h rest p e n = omega (arith, ap length (e ∙ take_rest h p), length-drop p h)
+
+pub moved_by : (h rest : List Stamp) (old new : Info) (k : ℕ) → rest ≡ take (length h - old.pos) (drop old.pos h) → old.pos ≤ length h → k ≤ length rest → IsWalked rest old new k → IsMoved h old new
+moved_by h rest old new k e n less w =
+    let whole = rest_length h rest old.pos e n in
+    let at = w.pos in
+    let steps : k ≡ new.pos - old.pos = omega arith in
+    record {
+      thread = w.thread;
+      write = w.write;
+      commit = w.commit;
+      held = w.held;
+      forward = omega arith;
+      within = omega arith;
+      set = λ y. subst (λ xs. Has new.set y ↔ AfterAll (Has old.set) xs y) (ap (take k) (e ∙ take_rest h old.pos) ∙ ap (λ j. take j (drop old.pos h)) steps) (w.set y);
+    }
+
+-- nothing walked
+pub unmoved : (h : List Stamp) (i : Info) → i.pos ≤ length h → IsMoved h i i
+unmoved h i n =
+    let none : i.pos - i.pos ≡ 0 = omega arith in
+    let nothing : slice_range h i.pos i.pos ≡ [] = ap (λ j. take j (drop i.pos h)) none in
+    record { thread = refl; write = refl; commit = refl; held = refl; forward = omega arith; within = n; set = λ y. subst (λ xs. Has i.set y ↔ AfterAll (Has i.set) xs y) (sym nothing) (λ c. c, λ c. c) }
+
+-- the events from one position on are those up to another, and those from there on
+pub range_then_rest : (h : List Stamp) (a b : ℕ) → a ≤ b → drop a h ≡ slice_range h a b ++ drop b h
+range_then_rest h a b le =
+    let back : a + (b - a) ≡ b = omega arith in
+    sym (ap (λ xs. take (b - a) (drop a h) ++ xs) (sym (drop-drop (b - a) a h ∙ ap (λ k. drop k h) back)) ∙ take-append-drop (b - a) (drop a h))
+
+-- a moved Info has the same lockset after all of the list
+pub set_after_moved : (h : List Stamp) (old new : Info) → IsMoved h old new → SameSets (set_after h new) (set_after h old)
+set_after_moved h old new m y =
+    let same = all_same (Has new.set) (AfterAll (Has old.set) (slice_range h old.pos new.pos)) (drop new.pos h) m.set y in
+    let e : AfterAll (Has old.set) (drop old.pos h) ≡ AfterAll (AfterAll (Has old.set) (slice_range h old.pos new.pos)) (drop new.pos h) = ap (AfterAll (Has old.set)) (range_then_rest h old.pos new.pos m.forward) ∙ all_append (Has old.set) (slice_range h old.pos new.pos) (drop new.pos h) in
+    subst (λ (S : Elements). set_after h new y ↔ S y) (sym e) same
+
+-- the test of an Info that was walked until it passed or to the end
+pub fails_walked : (h : List Stamp) (old new : Info) (u : ℕ) (variables : Option (List ℕ)) (b : Bool) → IsMoved h old new → ((new.pos ≡ length h) ⊎ Has new.set (Thread u)) → IsTrue b ↔ IsOrderedOrExcepted (Has new.set) u variables → IsTrue (not b) ↔ Fails h old u variables
+fails_walked h old new u variables b m far test = by_case b test
+  where
+    same : (y : Element) → set_after h new y ↔ set_after h old y
+    same = set_after_moved h old new m
+
+    grown : IsOrderedOrExcepted (Has new.set) u variables → IsOrderedOrExcepted (set_after h old) u variables
+    grown c = passes_greater (set_after h new) (set_after h old) u variables (λ y. (same y).0) (passes_greater (Has new.set) (set_after h new) u variables (AfterAll-has (Has new.set) (drop new.pos h)) c)
+
+    thread_passes : (v : Option (List ℕ)) → Has new.set (Thread u) → IsOrderedOrExcepted (Has new.set) u v
+    thread_passes None c = c
+    thread_passes (Some xs) c = inr (inl c)
+
+    back : IsOrderedOrExcepted (set_after h old) u variables → ((new.pos ≡ length h) ⊎ Has new.set (Thread u)) → IsOrderedOrExcepted (Has new.set) u variables
+    back c (inr has) = thread_passes variables has
+    back c (inl at) =
+        let none : drop new.pos h ≡ [] = ap (λ k. drop k h) at ∙ drop-length h in
+        subst (λ xs. IsOrderedOrExcepted (AfterAll (Has new.set) xs) u variables) none (passes_greater (set_after h old) (set_after h new) u variables (λ y. (same y).1) c)
+
+    by_case : (b : Bool) → IsTrue b ↔ IsOrderedOrExcepted (Has new.set) u variables → IsTrue (not b) ↔ Fails h old u variables
+    by_case true t = (λ f. absurd (cc), λ fails. absurd (fails (grown (t.0 refl))))
+    by_case false t = (λ f c. let k = t.1 (back c far) in absurd (cc), λ fails. refl)
+
+-- a fact of the Info in an Option
+pub some_fails : (o : Option Info) (i : Info) (P : Info → Type 0) (b : Bool) → o ≡ Some i → IsTrue b ↔ P i → IsTrue b ↔ ((j : Info) × (o ≡ Some j) × P j)
+some_fails o i P b is k = (λ t. (i, is, k.0 t), λ w. let same : w.0 ≡ i = cc in k.1 (subst P same w.2))

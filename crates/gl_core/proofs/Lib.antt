@@ -1,0 +1,12 @@
+pub mod Walked
+pub mod RowTests
+pub mod Kept
+pub mod Threading
+pub mod Owners
+pub mod RowMoves
+pub mod Notes
+pub mod RowSets
+pub mod Unions
+pub mod Ready
+pub mod Steps
+pub mod AccessSteps

@@ -1,0 +1,10 @@
+use Rattle.std.proofs.Common.{◌≡◌, ◌∙◌, ap, subst, sym, length}
+use Rattle.gl_core.specs.Follows.{AreReady}
+use Rattle.gl_core.specs.Rows.{after_act}
+use Rattle.gl_core.proofs.Ready.{ready_act}
+use Rattle.gl_core.proofs.detector.Detector.act.Goals as goal
+
+pub returns-clause-ready : goal.returns-clause-ready
+returns-clause-ready c =
+    let e : c.push_act.new.events.items ≡ after_act c.is_over-over.result c.args.self.now.events.items c.args.thread c.args.act = c.push_act.ensures ∙ ap (λ h. after_act c.is_over-over.result h c.args.thread c.args.act) c.reserve.ensures.items in
+    subst (λ h. AreReady h c.args.self.now.rows.items c.take.new.self) (sym e) (ready_act c.is_over-over.result c.args.self.now.events.items c.args.thread c.args.act c.args.self.now.rows.items c.args.self.now.threads c.take.new.self c.requires.ready c.requires.thread c.requires.act (c.take.ensures.within (length c.args.self.now.events.items) c.requires.ready.depth))

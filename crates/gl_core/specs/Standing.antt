@@ -1,0 +1,29 @@
+-- A row that stands for what was done with its variable, before a next access of it.
+use Rattle.std.specs.Prelude.{◌≡◌, ℕ, true, List, Option, Some, None, Contains, ◌↔◌}
+use Rattle.gl_model.specs.declared.event.Stamp.{Stamp}
+use Rattle.gl_model.specs.declared.row.Row.{Row}
+use Rattle.gl_model.specs.declared.row.Question.{Question}
+use Rattle.gl_model.specs.Entries.{Entry}
+use Rattle.gl_model.specs.Machine.{Setting, State, Allows, Running}
+use Rattle.gl_model.specs.Records.{IsPlain, Writes}
+use Rattle.gl_draws.specs.Draws.{Draw}
+use Rattle.gl_draws.specs.Verdicts.{DrawsHold}
+use Rattle.gl_draws.specs.RowFacts.{RowStands}
+
+-- thread t runs behind the list h, the draws of x so far hold, and the row stands for them
+pub record StandsFor (setting : Setting) (h : List Stamp) (x : ℕ) (ds : List Draw) (row : Row) (t : ℕ) : Type 0 where
+  pub now : State
+  pub allowed : Allows setting h now
+  pub running : now.threads t ≡ Running
+  pub holds : DrawsHold h x ds
+  pub stands : RowStands setting h x ds row
+
+-- the entry is a plain access, or touches x where it is a commit on these variables
+abbrev pub IsAccessOn : ℕ → Option (List ℕ) → Entry → Type 0
+IsAccessOn x None f = IsPlain f
+IsAccessOn x (Some xs) f = Contains xs x
+
+-- the question is of this access, as far as it speaks of x
+pub record AsksFor (q : Question) (f : Entry) (x : ℕ) : Type 0 where
+  pub kind : IsAccessOn x q.commit f
+  pub writes : (q.write ≡ true) ↔ Writes f x

@@ -1,0 +1,135 @@
+ghost use Rattle.std.specs.Prelude.{◌≡◌};
+
+use crate::lines::{
+    all_of, first_events, judge_commit, judge_plain, plain, push_act, untouched_rows,
+};
+use crate::threads::Threads;
+use gl_model::{Act, Item, Judged, Row, Stamp, VarSet};
+use gl_shortcut::Cuts;
+use std::alloc::{AllocError, Global};
+
+/// Judges the lines of a trace, one after another.
+#[derive(Drop)]
+pub struct Detector {
+    events: Vec<Stamp>,
+    rows: Vec<Row>,
+    threads: Threads,
+}
+
+impl Detector {
+    ghost use Rattle.std.specs.Prelude.{◌≡◌, ◌<◌, ◌≤◌, ◌∷◌, ◌++◌, [], ℕ, List, length, None, OnOk, OnErr, IfOk, slice_index_or};
+    ghost use Rattle.gl_model.specs.declared.limits.TheConstants.{THREADS, VARIABLES, TX_VARIABLES};
+    ghost use Rattle.gl_model.specs.declared.row.Item.TheVariants.{Act as Acts, Access as Accessed, Commit as Commits};
+    ghost use Rattle.gl_model.specs.Elements.{IsActInRange};
+    ghost use Rattle.gl_model.specs.Rising.{with_all};
+    ghost use Rattle.gl_model.specs.TraceSteps.{Step, IsStep};
+    ghost use Rattle.gl_core.specs.Tracks.{Tracks, AreLeastHeld};
+    ghost use Rattle.gl_core.specs.Rows.{row_of, asked_plain, asked_part, PlainDone, CommitDone, joins_ended, after_act};
+    ghost use Rattle.gl_core.specs.Follows.{Follows, IsReady, IsAsBefore, IsStepped};
+
+    /// A detector before the first line: thread 0 has begun.
+    pub fn new(alloc: Global) -> Result<Detector, AllocError>
+        ensures ready { IfOk result IsReady }
+        ensures follows { IfOk result (Follows []) }
+    {
+        let events = first_events(alloc)?;
+        let rows = untouched_rows(alloc)?;
+        Ok(Detector {
+            events,
+            rows,
+            threads: Threads::new(),
+        })
+    }
+
+    /// Judges the next line, which a trace can have and which has no fault behind those before it. Without memory the detector
+    /// is as before.
+    pub fn step(&mut self, thread: u8, item: &Item, _cuts: &Cuts) -> Result<Judged, AllocError>
+        requires ready { IsReady self.old }
+        requires step { IsStep (thread, item.now) }
+        ensures ready { IsReady self.new }
+        ensures right { IfOk result (λ judged. IsStepped thread item.now judged self.old self.new) }
+        ensures err { OnErr result (IsAsBefore self.old self.new) }
+    {
+        match item {
+            Item::Act(act) => {
+                self.act(thread, *act)?;
+                Ok(Judged::NoAccess)
+            }
+            Item::Access { var, write } => Ok(self.access(thread, *var, *write)),
+            Item::Commit { reads, writes } => self.commit(thread, reads, writes),
+        }
+    }
+
+    fn act(&mut self, thread: u8, act: Act) -> Result<(), AllocError>
+        requires ready { IsReady self.old }
+        requires thread { thread < THREADS }
+        requires act { IsActInRange act }
+        ensures ready { IsReady self.new }
+        ensures rows { self.new.rows.items ≡ self.old.rows.items }
+        ensures events { OnOk result ((steps : List Step) → Tracks steps self.old.threads → self.new.events.items ≡ after_act (joins_ended steps act) self.old.events.items thread act) }
+        ensures threads { OnOk result ((steps : List Step) → Tracks steps self.old.threads → Tracks (steps ++ (thread, Acts act) ∷ []) self.new.threads) }
+        ensures err { OnErr result (IsAsBefore self.old self.new) }
+    {
+        self.events.reserve(2)?;
+        let over = self.is_over(act);
+        push_act(&mut self.events, thread, act, over);
+        self.threads.take(thread, &act);
+        Ok(())
+    }
+
+    // Whether the act joins a thread that has ended.
+    fn is_over(&self, act: Act) -> bool
+        requires { IsActInRange act }
+        ensures { (steps : List Step) → Tracks steps self.now.threads → result ≡ joins_ended steps act }
+    {
+        match act {
+            Act::Join(other) => self.threads.has_ended(other),
+            Act::Begin(_)
+            | Act::End
+            | Act::Acq(_)
+            | Act::Rel(_)
+            | Act::VRead(_)
+            | Act::VWrite(_)
+            | Act::Fork { .. }
+            | Act::Alloc(_)
+            | Act::Print
+            | Act::Input
+            | Act::Fail(_) => false,
+        }
+    }
+
+    fn access(&mut self, thread: u8, var: u16, write: bool) -> Judged
+        requires ready { IsReady self.old }
+        requires thread { thread < THREADS }
+        requires var { var < VARIABLES }
+        ensures ready { IsReady self.new }
+        ensures events { self.new.events.items ≡ self.old.events.items }
+        ensures threads { self.new.threads ≡ self.old.threads }
+        ensures others { (y : ℕ) → (y ≡ var → ⊥) → row_of self.new.rows.items y ≡ row_of self.old.rows.items y }
+        ensures done { (held : List ℕ) × AreLeastHeld (λ m. slice_index_or self.old.threads.holders m None) thread held × PlainDone self.old.events.items (row_of self.old.rows.items var) (asked_plain thread write held) var result (row_of self.new.rows.items var) }
+    {
+        let q = plain(thread, write, self.threads.held(thread));
+        judge_plain(&mut self.rows, var, &q, &self.events)
+    }
+
+    fn commit(&mut self, thread: u8, reads: &VarSet, writes: &VarSet) -> Result<Judged, AllocError>
+        requires ready { IsReady self.old }
+        requires thread { thread < THREADS }
+        ensures ready { IsReady self.new }
+        ensures threads { self.new.threads ≡ self.old.threads }
+        ensures done { IfOk result (λ judged. (held : List ℕ) × (variables : List ℕ) × AreLeastHeld (λ m. slice_index_or self.old.threads.holders m None) thread held × (length (with_all writes.now reads.now) ≤ TX_VARIABLES → variables ≡ with_all writes.now reads.now) × CommitDone self.old.events.items self.old.rows.items thread variables (asked_part thread variables writes.now held) judged self.new.events.items self.new.rows.items) }
+        ensures err { OnErr result (IsAsBefore self.old self.new) }
+    {
+        self.events.reserve(1)?;
+        let variables = all_of(reads, writes);
+        let held = self.threads.held(thread);
+        Ok(judge_commit(
+            &mut self.rows,
+            &mut self.events,
+            thread,
+            held,
+            &variables,
+            writes,
+        ))
+    }
+}

@@ -1,0 +1,18 @@
+//! Races by lazily walked locksets: the walk, the judgement over a row, and the detector of a whole trace.
+#![tactic(auto)]
+
+mod detector;
+mod judging;
+mod keeping;
+mod lines;
+mod noting;
+mod threads;
+mod window;
+
+pub use detector::Detector;
+pub use judging::{Verdict, judge};
+pub use noting::note;
+pub use window::walk;
+
+#[cfg(test)]
+mod tests;

@@ -1,0 +1,13 @@
+pub mod Draws
+pub mod Verdicts
+pub mod RowFacts
+pub mod Ties
+pub mod Events
+pub mod Resolved
+pub mod NextRaces
+pub mod TraceStates
+pub mod Traced
+pub mod TraceLaws
+pub mod TraceRows
+pub mod DrawLaws
+pub mod TraceRecords

@@ -1,0 +1,9 @@
+pub mod Bits
+pub mod Variables
+pub mod Rules
+pub mod RisingLists
+pub mod ListsOf
+pub mod Pushed
+pub mod Parts
+pub mod Reported
+pub mod GrownLists

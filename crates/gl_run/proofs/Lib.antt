@@ -1,0 +1,7 @@
+pub mod JudgedLines
+pub mod LongPrograms
+pub mod CleanLines
+pub mod Snoc
+pub mod BuiltPrograms
+pub mod Entries
+pub mod FewWords

@@ -1,0 +1,49 @@
+-- What `check` answers.
+use Rattle.std.specs.Prelude.{◌≡◌, ◌⊎◌, ℕ, List, Option, Some, None, map, if◌then◌else◌}
+use Rattle.std.specs.List.{list_any}
+use Rattle.gl_model.specs.declared.row.Judged.{Judged}
+use Rattle.gl_model.specs.Lists.{lists_of}
+use Rattle.gl_model.specs.Trace.{Line, AreVerdicts, trace_record}
+use Rattle.gl_trace.specs.Judging.{judged_lines, line_of}
+use Rattle.gl_trace.specs.Trace.{IsTrace, IsFirstFault}
+use Rattle.gl_trace.specs.TraceLine.{TraceLine}
+use Rattle.gl_trace.specs.Verdicts.{is_race, verdict_text}
+use Rattle.gl_run.specs.Output.{refusal}
+use Rattle.gl_run.specs.declared.kept.Kept.{Kept}
+use Rattle.gl_run.specs.declared.kept.Kept.TheVariants.{Trace}
+
+-- 6 where some access is raised
+abbrev pub status_of : List Judged → ℕ
+status_of judged = if list_any is_race judged then 6 else 0
+
+-- the record of these lines is kept
+abbrev pub KeepsRecord : List Line → Option Kept → Type 0
+KeepsRecord lines None = ⊥
+KeepsRecord lines (Some (Trace made)) = (t : ℕ) → lists_of made t ≡ trace_record lines t
+
+-- the status, the bytes and what is kept for a trace: those of its verdicts, which are what the race law says
+pub record AnswersLines (trace : List TraceLine) (status : ℕ) (bytes : List ℕ) (kept : Option Kept) : Type 0 where
+  pub judged : List Judged
+  pub right : AreVerdicts (map line_of (judged_lines trace judged))
+  pub status_is : status ≡ status_of judged
+  pub bytes_are : bytes ≡ verdict_text trace judged
+  pub kept_is : KeepsRecord (map line_of (judged_lines trace judged)) kept
+
+-- the status and the bytes for a text that is a trace
+pub record AcceptsTrace (input : List ℕ) (status : ℕ) (bytes : List ℕ) (kept : Option Kept) : Type 0 where
+  pub trace : List TraceLine
+  pub meaning : IsTrace input trace
+  pub answer : AnswersLines trace status bytes kept
+
+-- the status and the bytes for a text that is none
+pub record RefusesTrace (input : List ℕ) (status : ℕ) (bytes : List ℕ) (kept : Option Kept) : Type 0 where
+  pub line : ℕ
+  pub kind : ℕ
+  pub fault : IsFirstFault input line kind
+  pub status_is : status ≡ 4
+  pub bytes_are : bytes ≡ refusal line kind
+  pub kept_is : kept ≡ None
+
+-- what a text is answered
+abbrev pub ChecksText : List ℕ → ℕ → List ℕ → Option Kept → Type 0
+ChecksText input status bytes kept = AcceptsTrace input status bytes kept ⊎ RefusesTrace input status bytes kept

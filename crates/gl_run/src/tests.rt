@@ -1,0 +1,242 @@
+use super::*;
+use gl_io::{MemorySink, MemorySource, ReaderSource, WriterSink};
+use gl_shortcut::Cuts;
+use std::alloc::Global;
+use std::io;
+use std::test::Fail;
+
+// The words of a command line.
+fn words(alloc: Global, given: &[&str]) -> Result<Vec<String>, Fail> {
+    let mut words = Vec::new(alloc);
+    for word in given {
+        words.push(String::from_str(alloc, word)?)?;
+    }
+    Ok(words)
+}
+
+const CHECK: &[&str] = &["goldi", "check"];
+
+const LIST: &[&str] = &["goldi", "list"];
+
+// A command over a source of 8 bytes a call and a sink of 4 bytes a call, which fail at these calls: the status, and
+// whether these bytes were written.
+fn checked(
+    rt: &HostRuntime,
+    command: &[&str],
+    input: &str,
+    source_fails: &[u64],
+    sink_fails: &[u64],
+    written: &[u8],
+) -> Result<(u8, bool), Fail> {
+    let alloc = rt.alloc();
+    let bytes = input.as_bytes().to_vec(alloc)?;
+    let mut source = MemorySource::new(bytes, source_fails.to_vec(alloc)?, 8);
+    let mut sink = match MemorySink::new(alloc, 100, sink_fails.to_vec(alloc)?, 4) {
+        Ok(sink) => sink,
+        Err((_, refused)) => return Err(Fail::from(refused)),
+    };
+    let words = words(alloc, command)?;
+    let answer = goldi(alloc, &words, &mut source, &mut sink, &Cuts::none());
+    Ok((answer.status, sink.written() == written))
+}
+
+// Each row: the trace, the status, and what is written.
+#[test]
+fn traces(rt: HostRuntime) -> Result<(), Fail> {
+    let rows: [(&str, u8, &str); 18] = [
+        ("", 0, "races 0\n"),
+        ("0 fork 1\n0 wr 1\n1 rd 1\n", 6, "2 ok\n3 race\nraces 1\n"),
+        ("0 wr 1\n0 fork 1\n1 rd 1\n", 0, "1 ok\n3 ok\nraces 0\n"),
+        (
+            "0 fork 1\n0 acq 0\n0 wr 7\n0 rel 0\n1 acq 0\n1 acq 1\n1 rel 0\n1 wr 7\n1 rel 1\n0 acq 1\n0 rd 7\n",
+            0,
+            "3 ok\n8 ok\n11 ok\nraces 0\n",
+        ),
+        (
+            "0 fork 1\n0 fork 2\n0 wr 4\n1 wr 4\n0 acq 0\n0 rel 0\n2 acq 0\n2 rd 4\n",
+            6,
+            "3 ok\n4 race\n8 ok\nraces 1\n",
+        ),
+        ("0 fork 1\n0 acq 0\n1 acq 0\n", 4, "refused 3 20\n"),
+        ("0 acq 0\n0 acq 0\n0 rel 0\n0 rel 0\n", 0, "races 0\n"),
+        ("0 ac", 4, "refused 1 4\n"),
+        ("0 vw 0", 0, "races 0\n"),
+        (
+            "0 fork 1\n1 wr 3\n0 join 1\n0 rd 3\n",
+            0,
+            "2 ok\n4 ok\nraces 0\n",
+        ),
+        (
+            "0 fork 1\n1 wr 3\n0 join 1\n0 rd 3\n1 rd 3\n",
+            4,
+            "refused 5 22\n",
+        ),
+        (
+            "0 fork 1\n0 wr 2\n0 vw 0\n1 vw 0\n1 rd 2\n",
+            6,
+            "2 ok\n5 race\nraces 1\n",
+        ),
+        (
+            "0 fork 1\n0 fork 2\n2 rd 3\n1 rd 3\n1 vw 0\n0 vr 0\n0 wr 3\n",
+            6,
+            "3 ok\n4 ok\n7 race\nraces 1\n",
+        ),
+        (
+            "0 fork 1\n0 wr 5\n0 commit r - w 2\n1 commit r 2 w 5\n",
+            0,
+            "2 ok\n3 ok\n4 ok\nraces 0\n",
+        ),
+        (
+            "0 fork 1\n0 wr 5\n0 commit r - w 2\n1 commit r 3 w 5\n",
+            6,
+            "2 ok\n3 ok\n4 race\nraces 1\n",
+        ),
+        ("0 commit r 2,1 w -", 4, "refused 1 25\n"),
+        ("0 join 0", 4, "refused 1 24\n"),
+        ("0 zz 1", 4, "refused 1 4\n"),
+    ];
+    for (input, status, written) in rows {
+        assert_eq!(rt;
+            checked(&rt, CHECK, input, &[], &[], written.as_bytes())?,
+            (status, true),
+            "at {input}"
+        );
+    }
+    Ok(())
+}
+
+// Each row: the program, the status, and what `list` writes.
+#[test]
+fn programs(rt: HostRuntime) -> Result<(), Fail> {
+    let one = "func main 0 0\n  push 5\n  print\n  halt\n";
+    let rows: [(&str, u8, &str); 3] = [
+        (one, 0, one),
+        ("func main 0 0", 4, "refused 1 46\n"),
+        ("", 4, "refused 0 48\n"),
+    ];
+    for (input, status, written) in rows {
+        assert_eq!(rt;
+            checked(&rt, LIST, input, &[], &[], written.as_bytes())?,
+            (status, true),
+            "at {input}"
+        );
+    }
+    Ok(())
+}
+
+// Each row: the words, the program, the status, and what `run` writes.
+#[test]
+fn runs(rt: HostRuntime) -> Result<(), Fail> {
+    let one = "func main 0 0\n  push 5\n  print\n  halt\n";
+    let two = "func main 0 0\npush 1\nprint\npush 2\nprint\nhalt\n";
+    let rows: [(&[&str], &str, u8, &str); 6] = [
+        (&["goldi", "run"], one, 0, "out 5\nend 0 halt\nraces 0\n"),
+        (
+            &["goldi", "run", "--steps=3"],
+            one,
+            0,
+            "out 5\nend 0 halt\nraces 0\n",
+        ),
+        (
+            &["goldi", "run", "--steps", "3"],
+            two,
+            7,
+            "out 1\nend 0 spent\nraces 0\n",
+        ),
+        (
+            &["goldi", "run", "--steps", "0"],
+            one,
+            1,
+            "usage: goldi check|list|run|load|audit\n",
+        ),
+        (
+            &["goldi", "run"],
+            "func main 0 0\ninput\nprint\nhalt\ninput 41\n",
+            0,
+            "out 41\nend 0 halt\nraces 0\n",
+        ),
+        (
+            &["goldi", "run"],
+            "func main 0 0\ntxbegin\nhalt\n",
+            4,
+            "refused 2 9\n",
+        ),
+    ];
+    for (given, input, status, written) in rows {
+        assert_eq!(rt;
+            checked(&rt, given, input, &[], &[], written.as_bytes())?,
+            (status, true),
+            "at {input}"
+        );
+    }
+    Ok(())
+}
+
+// The source and the sink fail at each call in turn.
+#[test]
+fn faults(rt: HostRuntime) -> Result<(), Fail> {
+    let input = "0 wr 1\n0 fork 1\n1 rd 1\n";
+    let written = "1 ok\n3 ok\nraces 0\n".as_bytes();
+    for call in 1..=4 {
+        assert_eq!(rt; checked(&rt, CHECK, input, &[call], &[], &[])?, (2, true));
+    }
+    assert_eq!(rt; checked(&rt, CHECK, input, &[5], &[], written)?, (0, true));
+    for call in 1..=5 {
+        let part = &written[..4 * (call as usize - 1)];
+        assert_eq!(rt; checked(&rt, CHECK, input, &[], &[call], part)?, (3, true));
+    }
+    assert_eq!(rt; checked(&rt, CHECK, input, &[], &[6], written)?, (0, true));
+    Ok(())
+}
+
+// A writer whose flush fails.
+#[derive(Drop)]
+struct Unflushed;
+
+impl io::Write for Unflushed {
+    fn write(&mut self, buf: &[u8]) -> io::Result<usize> {
+        Ok(buf.len())
+    }
+
+    fn flush(&mut self) -> io::Result<()> {
+        Err(io::Error::from(io::ErrorKind::Other))
+    }
+}
+
+// Readers and writers of std.
+#[test]
+fn adapters(rt: HostRuntime) -> Result<(), Fail> {
+    let alloc = rt.alloc();
+    let words = words(alloc, CHECK)?;
+    let input = "0 wr 1\n".as_bytes();
+    let mut out = Vec::new(alloc);
+    let answer = goldi_text(
+        alloc,
+        &words,
+        &mut ReaderSource::new(input),
+        &mut WriterSink::new(&mut out),
+        &Cuts::none(),
+    );
+    assert_eq!(rt; answer.status, 0);
+    assert_eq!(rt; answer.kept.is_some(), true);
+    assert_eq!(rt; &out[..], "1 ok\nraces 0\n".as_bytes());
+    let mut narrow = [0u8; 3];
+    let answer = goldi_text(
+        alloc,
+        &words,
+        &mut ReaderSource::new(input),
+        &mut WriterSink::new(&mut narrow[..]),
+        &Cuts::none(),
+    );
+    assert_eq!(rt; answer.status, 3);
+    assert_eq!(rt; &narrow[..], "1 o".as_bytes());
+    let answer = goldi_text(
+        alloc,
+        &words,
+        &mut ReaderSource::new(input),
+        &mut WriterSink::new(Unflushed),
+        &Cuts::none(),
+    );
+    assert_eq!(rt; answer.status, 3);
+    Ok(())
+}

@@ -1,0 +1,11 @@
+pub mod Alone
+pub mod Answering
+pub mod Counting
+pub mod Few
+pub mod FormLaw
+pub mod LegalLaw
+pub mod MachineLaw
+pub mod Moves
+pub mod Reporting
+pub mod Running
+pub mod Telling

@@ -1,0 +1,13 @@
+//! Lines, words and numbers of texts of bytes, and the faults that texts have.
+#![tactic(auto)]
+
+mod fault;
+pub mod kinds;
+mod numerals;
+mod parts;
+mod text;
+
+pub use fault::{TextError, TextFault};
+pub use numerals::{magnitude, number};
+pub use parts::{Words, words_are_slices, words_of};
+pub use text::{Line, Lines, is_bad};

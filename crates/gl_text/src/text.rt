@@ -1,0 +1,171 @@
+// Lines of a text.
+ghost use Rattle.std.specs.Prelude.{◌≡◌, ◌+◌, ◌<◌, ◌≤◌, length, MatchOption, IsNone, [], ◌∷◌, slice_get, Some, None};
+ghost use Rattle.std.specs.List.{position};
+ghost use Rattle.std.specs.Str.Lines.{lines, strip_carriage_return};
+ghost use Rattle.std.specs.Iterator.{YieldsFirstBy, item_count};
+ghost use Rattle.gl_text.specs.Text.{is_line_feed, is_bad, words};
+ghost use Rattle.gl_text.specs.Spans.{spans};
+
+use crate::parts::{Spans, Words, spans_of, words_of};
+use std::marker::Model;
+
+// The place of the first line feed.
+fn line_end(text: &[u8]) -> Option<usize>
+    ensures { result ≡ position is_line_feed text.now }
+{
+    text.iter().position(|b| *b == b'\n')
+}
+
+// A line without the one carriage return at its end.
+fn without_return(line: &[u8]) -> &[u8]
+    ensures { result.now ≡ strip_carriage_return line.now }
+{
+    match line {
+        [front @ .., b'\r'] => front,
+        _ => line,
+    }
+}
+
+// The first line of a text, and what follows it.
+fn first_line(text: &[u8]) -> (&[u8], &[u8])
+    requires { 0 < length text.now }
+    ensures lines { lines text.now ≡ result.0.now ∷ lines result.1.now }
+    ensures shorter { length result.1.now < length text.now }
+{
+    match line_end(text) {
+        Some(end) => (without_return(&text[..end]), &text[end + 1..]),
+        None => (text, &[]),
+    }
+}
+
+/// The lines of a text, in order, those without words too.
+#[derive(Drop)]
+pub struct Lines<'a> {
+    rest: &'a [u8],
+    given: u32,
+}
+
+// Seen as the number of lines that were given, and those that are left.
+impl<'a> Model for Lines<'a> {
+    ghost use Rattle.std.specs.Prelude.{◌+◌, ◌<◌, ◌^◌, ◌-◌, length};
+    ghost use Rattle.std.specs.Str.Lines.{lines};
+    ghost use Rattle.gl_text.specs.Numbered.{LinesLeft};
+
+    ghost Value = { LinesLeft };
+
+    ghost view = { λ s. record { given = s.given; left = lines s.rest.now } };
+
+    ghost invariant = { λ s. s.given + length s.rest.now < 2 ^ 32 - 1 };
+}
+
+impl<'a> Lines<'a> {
+    /// The lines of a text, which has to be shorter than 2^32 - 1 bytes.
+    pub fn new(text: &'a [u8]) -> Self
+        requires { length text.now < u32.MAX }
+        ensures given { result.given ≡ 0 }
+        ensures left { result.left ≡ lines text.now }
+    {
+        Lines {
+            rest: text,
+            given: 0,
+        }
+    }
+
+    /// The next line with its number, or `None` where no line is left.
+    pub fn next_line(&mut self) -> Option<Line<'a>>
+        ensures line { MatchOption result (self.old.left ≡ []) (λ line. self.old.left ≡ line.text ∷ self.new.left) }
+        ensures number { MatchOption result (self.new ≡ self.old) (λ line. (line.number ≡ self.old.given + 1) × (self.new.given ≡ line.number)) }
+    {
+        if self.rest.is_empty() {
+            return None;
+        }
+        let (text, rest) = first_line(self.rest);
+        self.rest = rest;
+        self.given += 1;
+        Some(Line {
+            number: self.given,
+            text,
+        })
+    }
+}
+
+impl<'a> Iterator for Lines<'a> {
+    type Item = &'a [u8];
+
+    ghost next_gives = { YieldsFirstBy (λ line. line.now) (λ s. s.left) };
+
+    ghost remaining = { item_count (λ s. s.left) };
+
+    fn next(&mut self) -> Option<&'a [u8]> {
+        match self.next_line() {
+            Some(line) => Some(line.text),
+            None => None,
+        }
+    }
+}
+
+/// A line of a text, and its number, counted from 1.
+#[derive(Drop)]
+pub struct Line<'a> {
+    number: u32,
+    text: &'a [u8],
+}
+
+// Seen as its number and its bytes.
+impl<'a> Model for Line<'a> {
+    ghost use Rattle.gl_text.specs.Numbered.{NumberedLine};
+
+    ghost Value = { NumberedLine };
+
+    ghost view = { λ s. record { number = s.number; text = s.text.now } };
+}
+
+impl<'a> Line<'a> {
+    /// The number of the line in its text, from 1 on.
+    pub fn number(&self) -> u32
+        ensures { result ≡ self.now.number }
+    {
+        self.number
+    }
+
+    /// Whether the line has a byte that no line may have.
+    pub fn bad(&self) -> bool
+        ensures { result ≡ is_bad self.now.text }
+    {
+        is_bad(self.text)
+    }
+
+    /// The words of the line, in order.
+    pub fn words(&self) -> Words<'a>
+        ensures { result ≡ words self.now.text }
+    {
+        words_of(self.text)
+    }
+
+    fn spans(&self) -> Spans<'a>
+        ensures { result ≡ spans self.now.text }
+    {
+        spans_of(self.text)
+    }
+
+    /// The word of this index, from 0 on.
+    pub fn word(&self, i: usize) -> Option<&'a [u8]>
+        ensures { MatchOption result (slice_get (words self.now.text) i ≡ None) (λ word. slice_get (words self.now.text) i ≡ Some word.now) }
+    {
+        self.words().nth(i)
+    }
+
+    /// Where the word of this index begins in the line, and where it has ended.
+    pub fn span(&self, i: usize) -> Option<(usize, usize)>
+        ensures { result ≡ slice_get (spans self.now.text) i }
+    {
+        self.spans().nth(i)
+    }
+}
+
+/// Whether a line has a byte that no line may have.
+pub fn is_bad(line: &[u8]) -> bool
+    ensures { result ≡ is_bad line.now }
+{
+    line.iter().any(|b| !matches!(b, b'\t' | 32..=126))
+}

@@ -1,0 +1,12 @@
+pub mod TraceLine
+pub mod Form
+pub mod Ids
+pub mod Kept
+pub mod Phrase
+pub mod Tracks
+pub mod Trace
+pub mod Faulty
+pub mod Reads
+pub mod Judging
+pub mod Verdicts
+pub mod Traced

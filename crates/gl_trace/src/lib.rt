@@ -1,0 +1,24 @@
+//! Trace texts: what each line says, the first fault, and the verdicts and the record of a trace.
+#![tactic(auto)]
+
+mod form;
+mod ids;
+mod kept;
+mod laws;
+mod limits;
+mod phrase;
+mod reader;
+mod standing;
+mod tracer;
+mod union;
+mod verdicts;
+
+pub use kept::Trace;
+pub use laws::one_meaning;
+pub use limits::{TRACE_BYTES, TRACE_LINES};
+pub use reader::read_trace;
+pub use tracer::trace_record;
+pub use verdicts::verdict_text;
+
+#[cfg(test)]
+mod tests;

@@ -1,0 +1,44 @@
+// The text of the verdicts.
+ghost use Rattle.std.specs.Prelude.{◌≡◌, ◌++◌, IfOk, OnOk, string_bytes, count_by};
+ghost use Rattle.gl_trace.specs.Judging.{AreJudged};
+ghost use Rattle.gl_trace.specs.Verdicts.{is_race, verdict_line, verdict_text};
+
+use crate::kept::Trace;
+use gl_model::Judged;
+use std::alloc::{AllocError, Global};
+
+// Adds the line of a verdict.
+fn push_verdict(out: &mut String, line: u32, judged: Judged) -> Result<(), AllocError>
+    ensures { OnOk result (string_bytes out.new ≡ string_bytes out.old ++ verdict_line line judged) }
+{
+    match judged {
+        Judged::NoAccess => Ok(()),
+        Judged::Performed => writeln!(out, "{line} ok"),
+        Judged::Raised { .. } => writeln!(out, "{line} race"),
+    }
+}
+
+// How many races there are.
+fn races(judged: &[Judged]) -> usize
+    ensures { result ≡ count_by is_race judged.now }
+{
+    judged
+        .iter()
+        .filter(|said| matches!(said, Judged::Raised { .. }))
+        .count()
+}
+
+/// For each access its line's number and `ok` or `race`, and then the number of races.
+pub fn verdict_text(alloc: Global, trace: &Trace, judged: &[Judged]) -> Result<Vec<u8>, AllocError>
+    requires { AreJudged trace.now judged.now }
+    ensures { IfOk result (λ text. text.items ≡ verdict_text trace.now judged.now) }
+{
+    let mut out = String::new(alloc);
+    let lines = trace.lines();
+    for i in 0..lines.len() {
+        push_verdict(&mut out, lines[i].0, judged[i])?;
+    }
+    let races = races(judged);
+    writeln!(out, "races {races}")?;
+    Ok(out.into_bytes())
+}

@@ -1,0 +1,5 @@
+pub mod Asking
+pub mod MachineView
+pub mod Named
+pub mod Orderly
+pub mod Ready

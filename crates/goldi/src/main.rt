@@ -1,0 +1,30 @@
+// The program: the words of the command line, standard input and standard output.
+#![tactic(auto)]
+
+use gl_io::{ReaderSource, WriterSink};
+use gl_run::goldi;
+use gl_shortcut::Cuts;
+use std::alloc::{AllocError, Global};
+use std::process::ExitCode;
+use std::rt::Env;
+use std::{env, io};
+
+// The words of the command line; none where they are no text.
+fn words_given(rt: &(impl Env + AllocGlobal)) -> Result<Vec<String>, AllocError> {
+    match env::args(rt) {
+        Ok(args) => args.collect(rt.alloc()),
+        Err(_) => Ok(Vec::new(rt.alloc())),
+    }
+}
+
+fn main(rt: HostRuntime) -> ExitCode {
+    match words_given(&rt) {
+        Ok(words) => {
+            let mut source = ReaderSource::new(rt.stdin());
+            let mut sink = WriterSink::new(rt.stdout());
+            let answer = goldi(rt.alloc(), &words, &mut source, &mut sink, &Cuts::none());
+            ExitCode::from(answer.status)
+        }
+        Err(_) => ExitCode::from(5),
+    }
+}
