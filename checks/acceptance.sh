@@ -4,7 +4,7 @@
 # stdin.sh and stdout.sh. A row whose folder has a file `later` waits for a command that is not built yet.
 # The last line is 'N passed, M failed'.
 set -u
-top=$(cd "$(dirname "$0")/.." && pwd)
+top=$(cd "$(dirname "$0")/.." >/dev/null && pwd)
 passed=0
 failed=0
 work=$(mktemp -d)

@@ -1,6 +1,6 @@
 #!/usr/bin/env bash
-# That the documents do not drift from the code: the picture of the crates is that of crates.txt, and the guide's table
-# of faults has each kind of crates/gl_text/src/kinds.rt with its number and name, and no other.
+# That the documents do not drift from the code: the picture of the crates is that of crates.txt, each file that they name is
+# there, and the files on README's way from the top call to the definitions have the names from which it goes on.
 cd "$(dirname "$0")/.." || exit 2
 passed=0
 failed=0
@@ -17,11 +17,21 @@ check() {
 python3 docs/crates.py --check
 check "the picture of the crates" $?
 
-kinds=$(sed -n 's/^pub const \([A-Z_]*\): u8 = \([0-9]*\);$/\2 \1/p' crates/gl_text/src/kinds.rt |
-    grep -v PROGRAM_FAULT_BASE | tr 'A-Z_' 'a-z ' | sort -n)
-table=$(sed -n 's/^| \([0-9][0-9]*\) | \([a-z][a-z ]*\) |.*/\1 \2/p' docs/guide.md | sort -n)
-[ -n "$kinds" ] && [ "$kinds" = "$table" ]
-check "the guide's table of faults: $(diff <(echo "$kinds") <(echo "$table") | tr '\n' ' ')" $?
+missing=$(grep -oh 'crates/[a-z_]*/[A-Za-z_/.]*[A-Za-z]' README.md docs/*.md | sort -u | while read -r file; do
+    [ -e "$file" ] || echo "$file"
+done)
+[ -z "$missing" ]
+check "named in the documents, and not there: $missing" $?
+
+steps=$(sed -n 's/^| \(crates[^ ]*\) | \([^|]*\) |.*/\1 \2/p' README.md)
+lost=$(while read -r file names; do
+    # shellcheck disable=SC2016
+    for name in $(grep -o '`[A-Za-z_]*`' <<<"$names" | tr -d '`'); do
+        grep -qw "$name" "$file" || echo "$name in $file"
+    done
+done <<<"$steps")
+[ -n "$steps" ] && [ -z "$lost" ]
+check "the way from the top call to the definitions: $lost" $?
 
 echo "$passed passed, $failed failed"
 [ "$failed" = 0 ]

@@ -6,7 +6,7 @@ cd "$(dirname "$0")/.." || exit 2
 passed=0
 failed=0
 
-# says NAME: whether the two texts agree
+# same NAME WANTED CAME: whether the two texts agree
 same() {
     if [ "$2" == "$3" ]; then
         passed=$((passed + 1))
@@ -36,6 +36,13 @@ for example in examples/*.trace examples/*.program; do
         failed=$((failed + 1))
         diff "$name.out" "$work/out" | sed "s|^|failed: $name: |"
     fi
+    # The same with lines that end as on other systems, and with nothing behind the last one.
+    case $example in
+    *.trace)
+        same "$name with carriage returns" "$(cat "$name.out")" "$(sed -z 's/\n/\r\n/g' "$example" | ./goldi check)"
+        same "$name without its last line end" "$(cat "$name.out")" "$(printf %s "$(cat "$example")" | ./goldi check)"
+        ;;
+    esac
 done
 
 # An input that cannot be read, an output that is lost, and words of no command.
@@ -48,20 +55,38 @@ same "no input: status" 2 $?
 same "a full device: status" 3 $?
 ./goldi >/dev/full
 same "usage to a full device: status" 3 $?
-for words in "" "chek" "check more" "run --workers 0"; do
+./goldi check <examples/ordered_fork.trace >&-
+same "no output: status" 3 $?
+{ sleep 1; ./goldi check <examples/ordered_fork.trace; echo $? >"$work/status"; } | true
+same "a reader that has gone: status" 3 "$(cat "$work/status")"
+./goldi check <examples/ordered_fork.trace | head -n 1 >"$work/out"
+same "the first line alone" "1 ok" "$(cat "$work/out")"
+for words in "" "chek" "check more" "--help" "run --steps" "run --steps=" "run --steps 1000001" "run --steps 00000001" \
+    "run --steps +1" "run --steps 1 --steps=1" "run --workers 0" $'\xff'; do
     # shellcheck disable=SC2086
     ./goldi $words </dev/null >"$work/out"
     same "words '$words': status" 1 $?
     same "words '$words': output" "usage: goldi check|list|run|load|audit" "$(cat "$work/out")"
 done
 
-# One byte more than a trace may have.
-head -c 1048577 /dev/zero | tr '\0' '\n' | ./goldi check >"$work/out"
-same "a text that is too long: status" 4 "${PIPESTATUS[2]}"
-same "a text that is too long: output" "refused 0 1" "$(cat "$work/out")"
+# A text without an end, one that comes in two parts, and each front of a program.
+yes "0 rd 1" | ./goldi check >"$work/out"
+same "a text without an end: status" 4 "${PIPESTATUS[1]}"
+same "a text without an end: output" "refused 0 1" "$(cat "$work/out")"
+same "a text in two parts" "1 ok 2 ok races 0" "$({ echo "0 wr 1"; sleep 0.2; echo "0 rd 1"; } | ./goldi check | tr '\n' ' ' | sed 's/ $//')"
+program=examples/exceptions.program
+wrong=$(for ((n = 0; n < $(wc -c <$program); n++)); do
+    head -c "$n" $program | crates/goldi/out/goldi list >"$work/out"
+    status=${PIPESTATUS[1]}
+    [ "$status" = 0 ] || [ "$status" = 4 ] || echo "$n: $status"
+done)
+same "each front of a program" "" "$wrong"
 # From another folder, through a pipe.
 (cd "$work" && printf '0 fork 1\n0 wr 1\n1 rd 1\n' | "$OLDPWD/goldi" check >out)
 same "from another folder: status" 6 $?
+ln -s "$PWD/goldi" "$work/link"
+"$work/link" check <examples/ordered_fork.trace >"$work/out"
+same "through a link: status" 0 $?
 
 echo "$passed passed, $failed failed"
 [ "$failed" -eq 0 ]

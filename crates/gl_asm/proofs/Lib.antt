@@ -1,3 +1,16 @@
+pub mod IndexLemmas
+pub mod ListedLengths
+pub mod ListedLimits
+pub mod ListedLines
+pub mod ListedNames
+pub mod ListedNumbers
+pub mod ListedProgram
+pub mod ListedRows
+pub mod ListedSayings
+pub mod ListedSize
+pub mod ListedTable
+pub mod ListedWalk
+pub mod ListedWords
 pub mod ListingLemmas
 pub mod Reading
 pub mod Values

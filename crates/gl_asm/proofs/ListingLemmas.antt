@@ -16,6 +16,7 @@ use Rattle.gl_bytecode.specs.declared.instr.Catch.{Catch}
 use Rattle.gl_bytecode.specs.declared.instr.Instr.{Instr}
 use Rattle.gl_bytecode.specs.Programs.{Bytecode, Function, function_at}
 use Rattle.gl_asm.specs.Code.{IsShort, code_of, catches_of, text_of}
+use Rattle.gl_asm.specs.Listable.{AreTyped}
 use Rattle.gl_asm.specs.Listing.{body, each_from, header}
 
 pub each_from-push : {A : Type 0} (text : ℕ → A → List ℕ) (i : ℕ) (xs : List A) (x : A)
@@ -116,13 +117,18 @@ function_there Fs main f below =
       | inr past ↦ absurd (omega (arith, past.0))
     ]
 
+-- what is not there has no operands
+pub none_typed : (o : Option Function) → o ≡ None → AreTyped (code_of o)
+none_typed None is = λ at i there. cc
+none_typed (Some F) is = cc
+
 -- ## Limits
 
-neither : (a b : Bool) → (a || b) ≡ false → (a ≡ false) × (b ≡ false)
+pub neither : (a b : Bool) → (a || b) ≡ false → (a ≡ false) × (b ≡ false)
 neither true b is = cc
 neither false b is = (refl, is)
 
-none_at : {A : Type 0} (p : A → Bool) (xs : List A) (i : ℕ) (x : A) → list_any p xs ≡ false → slice_get xs i ≡ Some x → p x ≡ false
+pub none_at : {A : Type 0} (p : A → Bool) (xs : List A) (i : ℕ) (x : A) → list_any p xs ≡ false → slice_get xs i ≡ Some x → p x ≡ false
 none_at p [] i x none there = cc
 none_at p (y ∷ ys) zero x none there = let e : y ≡ x = cc in subst (λ z. p z ≡ false) e (neither (p y) (list_any p ys) none).0
 none_at p (y ∷ ys) (suc i) x none there = none_at p ys i x (neither (p y) (list_any p ys) none).1 there
@@ -135,7 +141,7 @@ catches_short : (o : Option Function) → ((F : Function) → o ≡ Some F → l
 catches_short None all = omega arith
 catches_short (Some F) all = all F refl
 
-not_more : (a b : ℕ) → nat_lt a b ≡ false → b ≤ a
+pub not_more : (a b : ℕ) → nat_lt a b ≡ false → b ≤ a
 not_more a b is = grind (arith, nat_tests)
 
 pub is_short : (P : Bytecode) → IsFaultless P → IsValid P → IsShort P

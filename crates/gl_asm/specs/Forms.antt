@@ -3,6 +3,7 @@ use Rattle.std.specs.Prelude.{ℕ, ◌+◌, List, [], ◌∷◌, Bool, true, fal
 use Rattle.gl_asm.specs.declared.forms.Counts.{Counts}
 use Rattle.gl_asm.specs.declared.forms.Form.{Form}
 use Rattle.gl_asm.specs.declared.forms.Form.TheVariants.{Blank, Class, Function, Label, Catch, Inputs, Instruction}
+use Rattle.gl_asm.specs.declared.limits.TheConstants.{MOST_COUNT}
 use Rattle.gl_asm.specs.Names.{label_of}
 use Rattle.gl_asm.specs.Words.{template_of}
 use Rattle.gl_bytecode.specs.Faults.{ThrowsInRange}
@@ -22,9 +23,9 @@ form_of [] = Some Blank
 form_of (word ∷ []) = if is_some (label_of word) then Some Label else word_form word true
 form_of (word ∷ other ∷ more) = word_form word false
 
--- a count goes up to the end of its type, which no program within the limits reaches
+-- a count goes up to `MOST_COUNT`, which no program within the limits reaches
 abbrev pub more : ℕ → ℕ
-more n = min (n + 1) 65535
+more n = min (n + 1) MOST_COUNT
 
 -- no line
 abbrev pub none_yet : Counts

@@ -2,7 +2,9 @@ pub mod Additions
 pub mod Code
 pub mod Definitions
 pub mod Forms
+pub mod Listable
 pub mod Listing
+pub mod NameIndex
 pub mod Names
 pub mod Sayings
 pub mod Texts

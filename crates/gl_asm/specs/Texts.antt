@@ -1,5 +1,5 @@
 -- The meaning of a whole text: what its lines add, or its first fault.
-use Rattle.std.specs.Prelude.{◌≡◌, ℕ, ℤ, ◌+◌, ◌-◌, nat_lt, ◌==◌, ◌&&◌, ◌⊎◌, min, List, [], ◌∷◌, ◌++◌, length, fold, Bool, false, Option, Some, None, option_map, Result, Ok, Err, if◌then◌else◌, codes}
+use Rattle.std.specs.Prelude.{◌≡◌, ℕ, ℤ, ◌+◌, ◌-◌, nat_lt, ◌==◌, ◌&&◌, ◌⊎◌, List, [], ◌∷◌, ◌++◌, length, fold, Bool, false, Option, Some, None, option_map, Result, Ok, Err, if◌then◌else◌, codes}
 use Rattle.std.specs.List.{flat_map}
 use Rattle.std.specs.Str.Lines.{lines}
 use Rattle.gl_text.specs.Text.{words}
@@ -136,7 +136,7 @@ pub record HasProgramFault (text : List ℕ) (line kind : ℕ) : Type 0 where
   pub read : text_read text ≡ Ok (draft, inputs)
   pub first : IsProgramsFirstFault draft fault
   pub line_is : line ≡ fault_line (lines text) fault
-  pub kind_is : kind ≡ min (PROGRAM_FAULT_BASE + fault.kind) 255
+  pub kind_is : kind ≡ PROGRAM_FAULT_BASE + fault.kind
 
 -- the first fault of a text: one of a line, and only where there is none, one of the program
 abbrev pub IsFirstFault : List ℕ → ℕ → ℕ → Type 0

@@ -6,7 +6,7 @@ ghost use Rattle.gl_bytecode.specs.Faults.{ThrowsInRange};
 ghost use Rattle.gl_asm.specs.Sayings.{IsFunction};
 ghost use Rattle.gl_asm.specs.Additions.{IsPlaced, with_nothing, with_value, with_index, with_both, with_code, with_meaning, is_before, label_of_line, catch_of, class_of, count_of, function_of, instruction_of, meaning_of, new_name, none_of, one_of, room_for, three_of, two_of, value_of, with_operands};
 
-use crate::definitions::{Definition, Scope, first_definition};
+use crate::definitions::{DefinedNames, Scope};
 use crate::forms::Counts;
 use crate::limits::{LEAST_VALUE, MOST_INDEX, MOST_VALUE};
 use crate::names::is_name;
@@ -83,22 +83,22 @@ pub fn value_of(word: &[u8]) -> Result<i64, u8>
 }
 
 // Does an earlier line define the name?
-fn is_taken(table: &[Definition], scope: Scope, line: u32, name: &[u8]) -> bool
+fn is_taken<'a>(table: &DefinedNames<'a>, scope: Scope, line: u32, name: &'a [u8]) -> bool
     ensures { result ≡ is_before line (first_definition table.now scope name.now) }
 {
-    match first_definition(table, scope, name) {
+    match table.first(scope, name) {
         Some((first, _)) => first < line,
         None => false,
     }
 }
 
 // The checks of a name that a line defines.
-fn new_name(
-    table: &[Definition],
+fn new_name<'a>(
+    table: &DefinedNames<'a>,
     scope: Scope,
     line: u32,
     room: bool,
-    name: &[u8],
+    name: &'a [u8],
 ) -> Result<(), u8>
     ensures { result ≡ new_name table.now scope line room name.now }
 {
@@ -115,10 +115,10 @@ fn new_name(
 }
 
 // What a name stands for.
-fn meaning_of(table: &[Definition], scope: Scope, name: &[u8]) -> Result<u16, u8>
+fn meaning_of<'a>(table: &DefinedNames<'a>, scope: Scope, name: &'a [u8]) -> Result<u16, u8>
     ensures { result ≡ meaning_of table.now scope name.now }
 {
-    match first_definition(table, scope, name) {
+    match table.first(scope, name) {
         Some((_, number)) => Ok(number),
         None => Err(NAME_UNKNOWN),
     }
@@ -126,11 +126,11 @@ fn meaning_of(table: &[Definition], scope: Scope, name: &[u8]) -> Result<u16, u8
 
 /// What a class line adds, by the words behind its first.
 #[tactic(auto, unfolding(crate::specs::Additions::class_of))]
-pub fn class_of(
-    table: &[Definition],
+pub fn class_of<'a>(
+    table: &DefinedNames<'a>,
     counts: Counts,
     line: u32,
-    others: Words<'_>,
+    others: Words<'a>,
 ) -> Result<Addition, u8>
     ensures value { result ≡ class_of table.now counts line others.entry }
     ensures placed { IfOk result (λ a. (functions room : ℕ) → IsPlaced functions room a) }
@@ -144,11 +144,11 @@ pub fn class_of(
 
 /// What a function's header adds, by the words behind its first.
 #[tactic(auto, unfolding(crate::specs::Additions::function_of))]
-pub fn function_of(
-    table: &[Definition],
+pub fn function_of<'a>(
+    table: &DefinedNames<'a>,
     counts: Counts,
     line: u32,
-    others: Words<'_>,
+    others: Words<'a>,
 ) -> Result<Addition, u8>
     ensures value { result ≡ function_of table.now counts line others.entry }
     ensures starts { IfOk result IsFunction }
@@ -169,11 +169,11 @@ pub fn function_of(
 
 /// What a label adds: nothing, if it is in order.
 #[tactic(auto, unfolding(crate::specs::Additions::label_of_line))]
-pub fn label_of_line(
-    table: &[Definition],
+pub fn label_of_line<'a>(
+    table: &DefinedNames<'a>,
     counts: Counts,
     line: u32,
-    name: Option<&[u8]>,
+    name: Option<&'a [u8]>,
 ) -> Result<Addition, u8>
     ensures value { result ≡ label_of_line table.now counts line (option_map (λ w. w.now) name.entry) }
     ensures placed { IfOk result (λ a. (functions room : ℕ) → IsPlaced functions room a) }
@@ -192,7 +192,11 @@ pub fn room_for(room: bool) -> Result<(), u8>
 
 /// What a catch adds, by the words behind its first.
 #[tactic(auto, unfolding(crate::specs::Additions::catch_of))]
-pub fn catch_of(table: &[Definition], counts: Counts, others: Words<'_>) -> Result<Addition, u8>
+pub fn catch_of<'a>(
+    table: &DefinedNames<'a>,
+    counts: Counts,
+    others: Words<'a>,
+) -> Result<Addition, u8>
     ensures value { result ≡ catch_of table.now counts others.entry }
     ensures placed { IfOk result (λ a. (functions room : ℕ) → 0 < functions → IsPlaced functions room a) }
 {
@@ -251,11 +255,11 @@ fn with_code(others: Words<'_>) -> Result<Instr, u8>
     Ok(Instr::Throw(code as u8))
 }
 
-fn with_meaning(
-    table: &[Definition],
+fn with_meaning<'a>(
+    table: &DefinedNames<'a>,
     scope: Scope,
     instr: Instr,
-    others: Words<'_>,
+    others: Words<'a>,
 ) -> Result<Instr, u8>
     ensures value { result ≡ with_meaning table.now scope instr others.entry }
     ensures thrown { ThrowsInRange instr → IfOk result ThrowsInRange }
@@ -266,11 +270,11 @@ fn with_meaning(
 
 // An instruction with its operands.
 #[tactic(auto, unfolding(crate::specs::Additions::with_operands))]
-fn with_operands(
-    table: &[Definition],
+fn with_operands<'a>(
+    table: &DefinedNames<'a>,
     counts: Counts,
     instr: Instr,
-    others: Words<'_>,
+    others: Words<'a>,
 ) -> Result<Instr, u8>
     ensures value { result ≡ with_operands table.now counts instr (operand_of instr) others.entry }
     ensures thrown { ThrowsInRange instr → IfOk result ThrowsInRange }
@@ -289,11 +293,11 @@ fn with_operands(
 
 /// What an instruction's line adds, by the words behind its first.
 #[tactic(auto, unfolding(crate::specs::Additions::instruction_of))]
-pub fn instruction_of(
-    table: &[Definition],
+pub fn instruction_of<'a>(
+    table: &DefinedNames<'a>,
     counts: Counts,
     instr: Instr,
-    others: Words<'_>,
+    others: Words<'a>,
 ) -> Result<Addition, u8>
     ensures value { result ≡ instruction_of table.now counts instr others.entry }
     ensures placed { ThrowsInRange instr → IfOk result (λ a. (functions room : ℕ) → 0 < functions → IsPlaced functions room a) }

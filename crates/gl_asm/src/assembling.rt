@@ -8,7 +8,7 @@ ghost use Rattle.gl_asm.specs.Sayings.{HasFunction, refused_at};
 ghost use Rattle.gl_asm.specs.Texts.{IsText, TellsFirst, TellsLine, added, inputs_in, lines_read, start, text_read};
 
 use crate::additions::Addition;
-use crate::definitions::{Definition, Scope, definitions, first_definition};
+use crate::definitions::{DefinedNames, Scope, definitions};
 use crate::forms::{Counts, form_of};
 use crate::limits::LONGEST;
 use crate::places::fault_line;
@@ -35,17 +35,17 @@ struct Read {
 }
 
 // The function of main.
-fn main_of(table: &[Definition]) -> Option<u16>
+fn main_of(table: &DefinedNames<'_>) -> Option<u16>
     ensures { result ≡ option_map (λ d. d.number) (first_definition table.now Functions (codes "main")) }
 {
-    match first_definition(table, Scope::Functions, b"main") {
+    match table.first(Scope::Functions, b"main") {
         Some((_, number)) => Some(number),
         None => None,
     }
 }
 
 // Parts in which nothing but main is told.
-fn started(alloc: Global, table: &[Definition]) -> Parts
+fn started(alloc: Global, table: &DefinedNames<'_>) -> Parts
     ensures { result ≡ start table.now }
 {
     let mut parts = Parts::new(alloc);
@@ -104,7 +104,11 @@ fn refused_at(line: u32, refusal: Refusal) -> TextError
 }
 
 // What the lines of a text add, or the first fault of a line.
-fn read_lines(alloc: Global, table: &[Definition], text: &[u8]) -> Result<Read, TextError>
+fn read_lines<'a>(
+    alloc: Global,
+    table: &DefinedNames<'a>,
+    text: &'a [u8],
+) -> Result<Read, TextError>
     requires short { length text.now < u32.MAX }
     requires names { table.now ≡ definitions (lines text.now) }
     ensures ok { IfOk result (λ read. lines_read (lines text.now) ≡ Ok (read.parts, read.inputs)) }
@@ -156,7 +160,7 @@ pub fn assemble(alloc: Global, bytes: &[u8]) -> Result<Assembled, TextError>
         Err(ProgError::Memory(error)) => Err(TextError::Memory(error)),
         Err(ProgError::Fault(fault)) => Err(TextError::Fault(TextFault {
             line: fault_line(bytes, fault),
-            kind: PROGRAM_FAULT_BASE.saturating_add(fault.kind),
+            kind: PROGRAM_FAULT_BASE + fault.kind,
         })),
     }
 }

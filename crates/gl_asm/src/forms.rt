@@ -1,7 +1,8 @@
 // The forms of lines, and how many lines of each form there are.
 ghost use Rattle.std.specs.Prelude.{◌≡◌, IfSome};
-ghost use Rattle.gl_asm.specs.Forms.{ThrowsForm, counted, form_of, none_yet, word_form};
+ghost use Rattle.gl_asm.specs.Forms.{ThrowsForm, counted, form_of, more, none_yet, word_form};
 
+use crate::limits::MOST_COUNT;
 use crate::names::{label_of, same};
 use crate::table::template_of;
 use gl_bytecode::Instr;
@@ -58,6 +59,13 @@ pub fn form_of(mut words: Words<'_>) -> Option<Form>
     }
 }
 
+/// A count with one more, up to `MOST_COUNT`.
+pub fn more(count: u16) -> u16
+    ensures { result ≡ more count }
+{
+    if count < MOST_COUNT { count + 1 } else { count }
+}
+
 /// How many lines of each form stand before a line.
 #[derive(Clone, Copy, Debug, PartialEq, Eq)]
 pub struct Counts {
@@ -94,15 +102,15 @@ impl Counts {
         let mut counts = self;
         match form {
             None | Some(Form::Blank) | Some(Form::Label) => {}
-            Some(Form::Class) => counts.classes = self.classes.saturating_add(1),
+            Some(Form::Class) => counts.classes = more(self.classes),
             Some(Form::Function) => {
-                counts.functions = self.functions.saturating_add(1);
+                counts.functions = more(self.functions);
                 counts.places = 0;
                 counts.catches = 0;
             }
-            Some(Form::Catch) => counts.catches = self.catches.saturating_add(1),
+            Some(Form::Catch) => counts.catches = more(self.catches),
             Some(Form::Inputs) => counts.given = true,
-            Some(Form::Instruction(_)) => counts.places = self.places.saturating_add(1),
+            Some(Form::Instruction(_)) => counts.places = more(self.places),
         }
         counts
     }

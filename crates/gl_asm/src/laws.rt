@@ -1,6 +1,9 @@
 // Laws of the definitions.
-ghost use Rattle.std.specs.Prelude.{◌≡◌, ℕ, ℤ, List};
+ghost use Rattle.std.specs.Prelude.{◌≡◌, ℕ, ℤ, List, []};
+ghost use Rattle.gl_bytecode.specs.Faults.{AllThrowInRange, IsFaultless};
 ghost use Rattle.gl_bytecode.specs.Programs.{Bytecode, draft_of};
+ghost use Rattle.gl_asm.specs.Listable.{AreBuilt, OperandsAreTyped};
+ghost use Rattle.gl_asm.specs.Listing.{listing};
 ghost use Rattle.gl_asm.specs.Texts.{IsFirstFault, IsText};
 
 /// A text has one meaning: a program and its inputs, or its first fault.
@@ -11,3 +14,11 @@ pub fn one_meaning()
 {
     gl_bytecode::one_meaning();
 }
+
+/// The canonical listing of a program is a text of the same program and of no inputs, and of nothing else.
+///
+/// That is so of each `Program` whose instructions programs may all have yet.
+pub fn listing_is_text()
+    ensures text { (P : Bytecode) → IsFaultless P → AllThrowInRange P.functions → OperandsAreTyped P → AreBuilt P → IsText (listing P) P [] }
+    ensures only { (P : Bytecode) → IsFaultless P → AllThrowInRange P.functions → OperandsAreTyped P → AreBuilt P → (Q : Bytecode) (inputs : List ℤ) → IsText (listing P) Q inputs → (Q ≡ P) × (inputs ≡ []) }
+{}

@@ -15,7 +15,7 @@ mod sayings;
 mod table;
 
 pub use assembling::{Assembled, assemble};
-pub use laws::one_meaning;
+pub use laws::{listing_is_text, one_meaning};
 pub use listing::list;
 
 #[cfg(test)]

@@ -1,9 +1,11 @@
 // The canonical listing of a program.
-ghost use Rattle.std.specs.Prelude.{◌≡◌, ◌++◌, ◌<◌, ◌≤◌, ℕ, IfOk, OnOk, string_bytes, length};
+ghost use Rattle.std.specs.Prelude.{◌≡◌, ◌++◌, ◌<◌, ◌≤◌, ℕ, IfOk, OnOk, string_bytes, length, []};
 ghost use Rattle.std.specs.List.{flat_map, list_any};
 ghost use Rattle.gl_bytecode.specs.Programs.{function_at, Bytecode, Function};
 ghost use Rattle.gl_asm.specs.Code.{IsShort, catches_of, code_of, text_of};
 ghost use Rattle.gl_asm.specs.Words.{operand_of};
+ghost use Rattle.gl_asm.specs.Listable.{AreBuilt, AreTyped, IsTyped, OperandsAreTyped};
+ghost use Rattle.gl_asm.specs.Texts.{IsText};
 ghost use Rattle.gl_asm.specs.Listing.{each_from, function_name, operand_text, instr_line, is_label, catch_names, is_named, label_line, code_line, catch_line, header, body, class_line, function_text, listing};
 
 use crate::table::{Operand, operand_of, word_of};
@@ -24,7 +26,8 @@ fn push_function_name(out: &mut String, main: u16, f: u16) -> Result<(), AllocEr
 
 // Adds what stands behind an instruction's word.
 fn push_operand(out: &mut String, main: u16, operand: Operand) -> Result<(), AllocError>
-    ensures { OnOk result (string_bytes out.new ≡ string_bytes out.old ++ operand_text main operand) }
+    ensures text { OnOk result (string_bytes out.new ≡ string_bytes out.old ++ operand_text main operand) }
+    ensures typed { IsTyped operand }
 {
     match operand {
         Operand::Nothing => Ok(()),
@@ -43,7 +46,8 @@ fn push_operand(out: &mut String, main: u16, operand: Operand) -> Result<(), All
 
 // Adds the line of an instruction.
 fn push_instr(out: &mut String, main: u16, instr: Instr) -> Result<(), AllocError>
-    ensures { OnOk result (string_bytes out.new ≡ string_bytes out.old ++ instr_line main instr) }
+    ensures text { OnOk result (string_bytes out.new ≡ string_bytes out.old ++ instr_line main instr) }
+    ensures typed { OnOk result (IsTyped (operand_of instr)) }
 {
     let word = word_of(instr);
     write!(out, "  {word}")?;
@@ -109,7 +113,8 @@ fn push_place(
     at: usize,
     instr: Instr,
 ) -> Result<(), AllocError>
-    ensures { OnOk result (string_bytes out.new ≡ string_bytes out.old ++ code_line main code.now catches.now at instr) }
+    ensures text { OnOk result (string_bytes out.new ≡ string_bytes out.old ++ code_line main code.now catches.now at instr) }
+    ensures typed { OnOk result (IsTyped (operand_of instr)) }
 {
     push_label(out, code, catches, at)?;
     push_instr(out, main, instr)
@@ -122,7 +127,8 @@ fn push_code(
     code: &[Instr],
     catches: &[Catch],
 ) -> Result<(), AllocError>
-    ensures { OnOk result (string_bytes out.new ≡ string_bytes out.old ++ each_from (code_line main code.now catches.now) 0 code.now) }
+    ensures text { OnOk result (string_bytes out.new ≡ string_bytes out.old ++ each_from (code_line main code.now catches.now) 0 code.now) }
+    ensures typed { OnOk result (AreTyped code.now) }
 {
     for (at, instr) in code.iter().enumerate() {
         push_place(out, main, code, catches, at, *instr)?;
@@ -164,7 +170,8 @@ fn push_body(
     code: &[Instr],
     catches: &[Catch],
 ) -> Result<(), AllocError>
-    ensures { OnOk result (string_bytes out.new ≡ string_bytes out.old ++ body main code.now catches.now) }
+    ensures text { OnOk result (string_bytes out.new ≡ string_bytes out.old ++ body main code.now catches.now) }
+    ensures typed { OnOk result (AreTyped code.now) }
 {
     push_code(out, main, code, catches)?;
     push_label(out, code, catches, code.len())?;
@@ -210,7 +217,8 @@ fn push_function(
     f: u16,
 ) -> Result<(), AllocError>
     requires { IsShort program.now }
-    ensures { OnOk result (string_bytes out.new ≡ string_bytes out.old ++ text_of main f (function_at program.now f)) }
+    ensures text { OnOk result (string_bytes out.new ≡ string_bytes out.old ++ text_of main f (function_at program.now f)) }
+    ensures typed { OnOk result (AreTyped (code_of (function_at program.now f))) }
 {
     let Some((args, locals)) = program.shape(f) else {
         return Ok(());
@@ -230,7 +238,8 @@ fn push_functions(
     main: u16,
 ) -> Result<(), AllocError>
     requires { IsShort program.now }
-    ensures { OnOk result (string_bytes out.new ≡ string_bytes out.old ++ each_from (function_text main) 0 program.now.functions) }
+    ensures text { OnOk result (string_bytes out.new ≡ string_bytes out.old ++ each_from (function_text main) 0 program.now.functions) }
+    ensures typed { OnOk result (OperandsAreTyped program.now) }
 {
     for f in 0..program.functions() {
         push_function(out, alloc, program, main, f)?;
@@ -259,9 +268,11 @@ fn push_classes(out: &mut String, program: &Program) -> Result<(), AllocError>
     Ok(())
 }
 
-/// The canonical listing of a program.
+/// The canonical listing of a program. Where programs may have all its instructions yet, it is a text of the same program, and of no
+/// inputs.
 pub fn list(alloc: Global, program: &Program) -> Result<Vec<u8>, AllocError>
-    ensures { IfOk result (λ bytes. bytes.items ≡ listing program.now) }
+    ensures listing { IfOk result (λ bytes. bytes.items ≡ listing program.now) }
+    ensures text { AreBuilt program.now → IfOk result (λ bytes. IsText bytes.items program.now []) }
 {
     let main = program.main();
     let mut out = String::new(alloc);

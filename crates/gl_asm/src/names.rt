@@ -1,20 +1,20 @@
 // Names, and the words that define labels.
 ghost use Rattle.std.specs.Prelude.{◌≡◌, MatchOption, false, true, bytes_eq};
 ghost use Rattle.std.specs.List.{list_all};
-ghost use Rattle.gl_asm.specs.Names.{is_letter, is_name_byte, is_name, label_of};
+ghost use Rattle.gl_asm.specs.Names.{is_name_byte, is_name, label_of};
 
 use crate::limits::NAME_TAIL;
 
-fn is_letter(byte: u8) -> bool
-    ensures { result ≡ is_letter byte }
-{
-    matches!(byte, b'A'..=b'Z' | b'a'..=b'z')
-}
+// What a name has beside letters and digits.
+const UNDERSCORE: u8 = b'_';
+
+// What ends the word of a label's line.
+const COLON: u8 = b':';
 
 fn is_name_byte(byte: u8) -> bool
     ensures { result ≡ is_name_byte byte }
 {
-    is_letter(byte) || matches!(byte, b'0'..=b'9' | b'_')
+    byte.is_ascii_alphanumeric() || byte == UNDERSCORE
 }
 
 fn are_name_bytes(bytes: &[u8]) -> bool
@@ -29,7 +29,7 @@ pub fn is_name(word: &[u8]) -> bool
 {
     match word {
         [first, others @ ..] => {
-            is_letter(*first) && others.len() <= NAME_TAIL && are_name_bytes(others)
+            first.is_ascii_alphabetic() && others.len() <= NAME_TAIL && are_name_bytes(others)
         }
         [] => false,
     }
@@ -47,7 +47,7 @@ pub fn label_of(word: &[u8]) -> Option<&[u8]>
     ensures { MatchOption result (label_of word.now ≡ None) (λ name. label_of word.now ≡ Some name.now) }
 {
     match word {
-        [name @ .., b':'] => Some(name),
+        [name @ .., last] if *last == COLON => Some(name),
         _ => None,
     }
 }

@@ -3,7 +3,7 @@ ghost use Rattle.std.specs.Prelude.{◌≡◌, ◌==◌, ◌+◌, ◌<◌, lengt
 ghost use Rattle.std.specs.Str.Lines.{lines};
 ghost use Rattle.gl_asm.specs.Texts.{catch_line_of, code_length, fault_line, header_line, is_at, is_code, line_of};
 
-use crate::forms::{Counts, Form, form_of};
+use crate::forms::{Counts, Form, form_of, more};
 use gl_bytecode::{FALLS_OFF_END, NO_MAIN, ProgFault, STACK_DEPTH, TOO_LONG};
 use gl_text::Lines;
 
@@ -74,7 +74,7 @@ fn code_length(text: &[u8], function: u16) -> u16
     while let Some(line) = lines.next_line() {
         let form = form_of(line.words());
         if is_code(function, counts, form) {
-            count = count.saturating_add(1);
+            count = more(count);
         }
         counts = counts.counted(form);
     }

@@ -10,7 +10,7 @@ ghost use Rattle.gl_asm.specs.Sayings.{IsNoInputs, ThrowsIn, IsFunction, Refused
 use crate::additions::{
     Addition, catch_of, class_of, function_of, instruction_of, label_of_line, room_for, value_of,
 };
-use crate::definitions::{Definition, defined_word};
+use crate::definitions::{DefinedNames, defined_word};
 use crate::forms::{Counts, Form, form_of};
 use crate::refusal::Refusal;
 use gl_model::{INPUTS, Inputs};
@@ -89,11 +89,11 @@ fn is_placed(counts: Counts, form: Option<Form>) -> bool
 }
 
 // What a line says that is no line of inputs.
-fn form_says(
-    table: &[Definition],
+fn form_says<'a>(
+    table: &DefinedNames<'a>,
     counts: Counts,
     form: Option<Form>,
-    line: &Line<'_>,
+    line: &Line<'a>,
 ) -> Result<Addition, u8>
     requires thrown { ThrowsIn form }
     requires other { IsNoInputs form }
@@ -117,12 +117,12 @@ fn form_says(
 
 /// What a line says, where the lines before it have these counts and so many inputs.
 #[tactic(auto, unfolding(crate::specs::Sayings::said))]
-pub fn said(
+pub fn said<'a>(
     alloc: Global,
-    table: &[Definition],
+    table: &DefinedNames<'a>,
     counts: Counts,
     have: usize,
-    line: &Line<'_>,
+    line: &Line<'a>,
 ) -> Result<Addition, Refusal>
     requires { have ≤ INPUTS }
     ensures ok { IfOk result (λ a. said table.now counts line.now.number have line.now.text ≡ Ok a) }

@@ -124,12 +124,15 @@ instr_right P F named at i is =
     let passes : nat_lt at (length F.code) ≡ true = grind (arith, nat_tests) in
     (rw (passes, is) at (named at))
 
-pub catch_right : (P : Bytecode) (F : Function) → IsNamed P F → (k : ℕ) (c : Catch) → slice_get F.catches k ≡ Some c → c.target < length F.code
-catch_right P F named k c is =
+pub catch_named : (P : Bytecode) (F : Function) → IsNamed P F → (k : ℕ) (c : Catch) → slice_get F.catches k ≡ Some c → catch_fault F c ≡ None
+catch_named P F named k c is =
     let past : nat_lt (length F.code + k) (length F.code) ≡ false = grind (arith, nat_tests) in
     let back : (length F.code + k) - length F.code ≡ k = omega arith in
-    let none : catch_fault F c ≡ None = (rw (past, back, is) at (named (length F.code + k))) in
-    let all = holds _ _ none in
+    (rw (past, back, is) at (named (length F.code + k)))
+
+pub catch_right : (P : Bytecode) (F : Function) → IsNamed P F → (k : ℕ) (c : Catch) → slice_get F.catches k ≡ Some c → c.target < length F.code
+catch_right P F named k c is =
+    let all = holds _ _ (catch_named P F named k c is) in
     let target = (both _ _ (both _ _ all).0).0 in
     less c.target (length F.code) target
 

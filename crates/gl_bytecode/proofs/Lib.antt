@@ -3,10 +3,11 @@ pub mod Answers
 pub mod Attempts
 pub mod DepthSearch
 pub mod Drafts
+pub mod FaultKinds
 pub mod Faultless
 pub mod Growth
 pub mod OneMeaning
 pub mod Rows
 pub mod Soundness
-pub mod Validation
 pub mod ValidExample
+pub mod Validation

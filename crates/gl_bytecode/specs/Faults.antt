@@ -198,6 +198,15 @@ IsFirstFault D fault =
     ⊎ ((has_main D ≡ true) × (is_too_long (program_of D) ≡ true) × (fault ≡ of_whole TOO_LONG))
     ⊎ ((has_main D ≡ true) × (is_too_long (program_of D) ≡ false) × IsFirstOfFunctions (program_of D) fault)
 
+-- the kind is one of those that a fault has
+abbrev pub IsKind : ℕ → Type 0
+IsKind kind = (BAD_JUMP ≤ kind) × (kind ≤ NO_MAIN)
+
+-- an error that is a fault has such a kind
+abbrev pub TellsKind : ProgError → Type 0
+TellsKind (Fault fault) = IsKind fault.kind
+TellsKind (Memory error) = Unit {0}
+
 -- an error that is a fault is the first one
 abbrev pub TellsFirst : Draft → ProgError → Type 0
 TellsFirst D (Fault fault) = IsFirstFault D fault

@@ -1,5 +1,5 @@
 -- What a lawful record of a program's run is.
-use Rattle.std.specs.Prelude.{◌≡◌, ◌≢◌, ℕ, ℤ, ◌==◌, true, List, [], length, map, filter}
+use Rattle.std.specs.Prelude.{◌≢◌, ℕ, ℤ, ◌==◌, true, List, [], length, map, filter}
 use Rattle.std.specs.List.{range_with_len}
 use Rattle.gl_model.specs.Lawful.{IsLawful}
 use Rattle.gl_model.specs.Machine.{Setting}

@@ -1,11 +1,11 @@
-ghost use Rattle.gl_bytecode.specs.References.{object_of};
+ghost use Rattle.gl_bytecode.specs.References.{first_variable, first_volatile, object_number, object_of};
 ghost use Rattle.gl_bytecode.specs.Catches.{covers};
 ghost use Rattle.std.specs.Prelude.{IfSome, ◌+◌, ◌≤◌, ◌/◌, ◌%◌, slice_get, find, ◌≡◌, option_map};
 ghost use Rattle.std.specs.Option.{option_and_then};
 
 use crate::function::Function;
 use crate::instr::{Catch, Instr};
-use crate::object::{Fields, Object};
+use crate::object::{CLASS_UNIT, Fields, Object, VARIABLE_UNIT, VOLATILE_UNIT};
 use gl_model::{VARIABLES, VOLATILES};
 use std::marker::Model;
 
@@ -146,7 +146,7 @@ impl Contents {
             return None;
         }
         let parts = value as u64 - 1;
-        match self.fields((parts / 256 % 256) as u16) {
+        match self.fields((parts % VARIABLE_UNIT / CLASS_UNIT) as u16) {
             Some(fields) => laid_out(parts, fields),
             None => None,
         }
@@ -155,16 +155,16 @@ impl Contents {
 
 // The object whose numbers are laid side by side, where all its fields are there.
 fn laid_out(parts: u64, fields: Fields) -> Option<Object>
-    ensures value { result ≡ object_of (parts % 256) (parts / 65536 % 65536) (parts / 4294967296) (Some fields) }
+    ensures value { result ≡ object_of (object_number parts) (first_variable parts) (first_volatile parts) (Some fields) }
     ensures within { IfSome result (λ o. (o.variables + o.fields.plain ≤ VARIABLES) × (o.volatiles + o.fields.volatile ≤ VOLATILES)) }
 {
-    let variables = parts / 65536 % 65536;
-    let volatiles = parts / 4294967296;
+    let variables = parts % VOLATILE_UNIT / VARIABLE_UNIT;
+    let volatiles = parts / VOLATILE_UNIT;
     if variables + fields.plain as u64 <= VARIABLES as u64
         && volatiles + fields.volatile as u64 <= VOLATILES as u64
     {
         Some(Object {
-            monitor: (parts % 256) as u16,
+            monitor: (parts % CLASS_UNIT) as u16,
             fields,
             variables: variables as u16,
             volatiles: volatiles as u16,

@@ -1,11 +1,18 @@
-ghost use Rattle.std.specs.Prelude.{◌≡◌};
+ghost use Rattle.std.specs.Prelude.{◌≡◌, ℕ, ◌<◌, ◌≤◌, slice_get};
+ghost use Rattle.gl_model.specs.declared.limits.TheConstants.{CLASSES, MONITORS, VARIABLES};
 ghost use Rattle.gl_bytecode.specs.declared.fault.ProgFault.{ProgFault as Fault};
 ghost use Rattle.gl_bytecode.specs.Faults.{IsFaultless, IsFirstFault};
 ghost use Rattle.gl_bytecode.specs.Programs.{Bytecode, Draft, draft_of};
+ghost use Rattle.gl_bytecode.specs.References.{object_at, object_of, reference_to};
 
 /// What `validate` is proved to answer is one answer: parts of a faultless program have no first fault, and no parts
 /// have two.
 pub fn one_meaning()
     ensures apart { (P : Bytecode) (x : Fault) → IsFaultless P → IsFirstFault (draft_of P) x → ⊥ }
     ensures faults { (D : Draft) (x y : Fault) → IsFirstFault D x → IsFirstFault D y → x ≡ y }
+{}
+
+/// A reference that is laid out from the numbers of an object refers to that object.
+pub fn references_are_read_back()
+    ensures { (P : Bytecode) (o c d v : ℕ) → o < MONITORS → c < CLASSES → d ≤ VARIABLES → object_at P (reference_to o c d v) ≡ object_of o d v (slice_get P.classes c) }
 {}

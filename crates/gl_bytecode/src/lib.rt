@@ -23,12 +23,12 @@ pub use fault::{
     STACK_DEPTH, TOO_LONG,
 };
 pub use instr::{Catch, Flow, Instr};
-pub use laws::one_meaning;
+pub use laws::{one_meaning, references_are_read_back};
 pub use limits::{
     BAD_THREAD, CALLERS, CATCHES, CODE, DEPTH, DIVIDE, HEAP_FULL, INPUT_END, LEAST_THROWN, LOCALS,
     MOST_THROWN, NO_FIELD, NOT_OWNER, NULL, OPERANDS, RACE, THREADS_FULL, TX_STATE, TX_TOO_LARGE,
 };
-pub use object::{Fields, Object};
+pub use object::{CLASS_UNIT, Fields, Object, VARIABLE_UNIT, VOLATILE_UNIT};
 pub use parts::Parts;
 pub use program::Program;
 pub use validator::validate;

@@ -1,6 +1,6 @@
 ghost use Rattle.std.specs.Prelude.{◌≡◌, ℕ, ◌≤◌, ◌<◌, length, nat_lt, sum_by, false, IfErr, IfOk, MatchBool, MatchOption, Some};
 ghost use Rattle.std.specs.List.{list_any};
-ghost use Rattle.gl_bytecode.specs.Faults.{of_whole, has_args, instr_fault, is_long_class, is_long_function, is_too_long, HasDepths, IsFaultless, IsFirstIn, IsFirstOfFunctions, IsRight, NamesWrong, TellsFirst, fault_at, falls_off};
+ghost use Rattle.gl_bytecode.specs.Faults.{of_whole, has_args, instr_fault, is_long_class, is_long_function, is_too_long, HasDepths, IsFaultless, IsFirstIn, IsFirstOfFunctions, IsRight, NamesWrong, TellsFirst, TellsKind, fault_at, falls_off};
 ghost use Rattle.gl_bytecode.specs.Programs.{Function as Routine, draft_of, function_at};
 ghost use Rattle.gl_bytecode.specs.declared.fault.ProgError.TheVariants.{Fault};
 ghost use Rattle.gl_bytecode.specs.Searches.{IsAllRight, IsFirstWrong};
@@ -21,10 +21,12 @@ use std::alloc::{AllocError, Global};
 
 /// The program that the parts make, or their first fault. The depths are found in memory of `alloc`; if that is
 /// wanting, so is the answer, and the parts are gone.
+#[tactic(auto, using(crate::proofs::FaultKinds::of_functions))]
 pub fn validate(alloc: Global, parts: Parts) -> Result<Program, ProgError>
     ensures same { IfOk result (λ p. parts ≡ draft_of p) }
     ensures faultless { IfOk result (λ p. IsFaultless p) }
     ensures fault { IfErr result (λ e. TellsFirst parts e) }
+    ensures kind { IfErr result (λ e. TellsKind e) }
 {
     let Parts {
         classes,

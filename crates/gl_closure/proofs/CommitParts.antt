@@ -13,7 +13,7 @@ same_truth false true P p q = p.1 (q.0 refl)
 same_truth false false P p q = refl
 
 module _ (h : List Stamp) (ps : List Performed) (t : ℕ) (variables writes : List ℕ) where
-  same_part : (x : ℕ) (n m : Next) → IsPartOf t variables writes x n → IsPartOf t variables writes x m → n ≡ m
+  pub same_part : (x : ℕ) (n m : Next) → IsPartOf t variables writes x n → IsPartOf t variables writes x m → n ≡ m
   same_part x n m p q =
       let write : n.write ≡ m.write = same_truth n.write m.write _ p.3 q.3 in
       λ j. record { thread = (p.0 ∙ sym q.0) j; var = (p.1 ∙ sym q.1) j; write = write j; variables = (p.2 ∙ sym q.2) j }

@@ -37,6 +37,13 @@ pub both : (a b : Bool) (P Q : Type 0) → IsTrue a ↔ P → IsTrue b ↔ Q →
 both true b P Q p q = (λ t. (p.0 refl, q.0 t), λ w. q.1 w.1)
 both false b P Q p q = (λ t. absurd (cc), λ w. absurd (let n = p.1 w.0 in cc))
 
+-- the second of two tests decides where the first holds
+pub first_holds : (a b : Bool) (P Q : Type 0) → a ≡ true → IsTrue a ↔ P → IsTrue b ↔ Q → IsTrue b ↔ (P × Q)
+first_holds a b P Q e p q = (λ t. (p.0 e, q.0 t), λ w. q.1 w.1)
+
+pub first_fails : (a : Bool) (P Q : Type 0) → a ≡ false → IsTrue a ↔ P → IsTrue false ↔ (P × Q)
+first_fails a P Q e p = (λ t. absurd (cc), λ w. absurd (let n = p.1 w.0 in cc))
+
 -- one number that two events have
 pub shared : (a b : Option ℕ) (P Q : ℕ → Type 0) (t : Bool) → ((x : ℕ) → P x ↔ (a ≡ Some x)) → ((x : ℕ) → Q x ↔ (b ≡ Some x)) → IsTrue t ↔ ((x : ℕ) × (a ≡ Some x) × (b ≡ Some x)) → IsTrue t ↔ ((x : ℕ) × P x × Q x)
 shared a b P Q t p q test = (λ is. let w = test.0 is in (w.0, (p w.0).1 w.1, (q w.0).1 w.2), λ w. test.1 (w.0, (p w.0).0 w.1, (q w.0).0 w.2))

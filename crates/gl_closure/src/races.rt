@@ -42,9 +42,11 @@ fn races_with(
 ) -> Result<bool, AllocError>
     ensures { IfOk result (λ races. IsTrue races ↔ RacesWith events.now next.now earlier.now) }
 {
+    if !conflicts(earlier, next) {
+        return Ok(false);
+    }
     let ordered = happens_before_next(alloc, events, &earlier.access, next.thread, next.variables)?;
-    let conflict = conflicts(earlier, next);
-    Ok(conflict & !ordered)
+    Ok(!ordered)
 }
 
 /// Whether the next access races with one of the performed ones: it conflicts with it, and that one does not happen before it.

@@ -1,7 +1,9 @@
 -- Walks that are kept.
-use Rattle.std.proofs.Common.{◌≡◌, ℕ, ◌+◌, ◌-◌, ◌<◌, ◌≤◌, List, [], ◌∷◌, ◌++◌, length, take, drop, get_or, refl, sym, ◌∙◌, ap, subst, inl, inr, arith, Some, None, true, false, Bool}
+use Rattle.std.proofs.Common.{◌≡◌, ℕ, ◌+◌, ◌-◌, ◌<◌, ◌≤◌, List, [], ◌∷◌, ◌++◌, length, take, drop, get_or, set, refl, sym, ◌∙◌, ap, subst, inl, inr, arith, Some, None, true, false, Bool}
 use Rattle.std.specs.Prelude.{Option, ◌↔◌, ◌⊎◌, IsTrue, slice_range, not}
-use Rattle.std.proofs.lemmas.List.{take-append-drop, length-drop, drop-drop}
+use Rattle.std.proofs.lemmas.Bool.{cases_lt}
+use Rattle.std.proofs.lemmas.List.{take-append-drop, length-drop, drop-drop, get_or-set_same, get_or-set_other}
+use native.Mathlib.Decide.{ℕ_discrete}
 use Rattle.std.proofs.Math.Seq.{drop-length}
 use Rattle.gl_model.specs.declared.event.Stamp.{Stamp}
 use Rattle.gl_model.specs.declared.event.Element.{Element}
@@ -10,8 +12,9 @@ use Rattle.gl_model.specs.declared.row.Info.{Info}
 use Rattle.gl_model.specs.Lockset.{Has}
 use Rattle.gl_model.specs.Locksets.{Elements, AfterAcquiring, After, AfterAll, IsOrderedOrExcepted}
 use Rattle.gl_laws.proofs.Walks.{walk_more}
-use Rattle.gl_draws.specs.RowFacts.{set_after, Fails}
-use Rattle.gl_core.specs.Moved.{IsMoved, IsStepped}
+use Rattle.gl_model.specs.declared.row.Question.{Question}
+use Rattle.gl_draws.specs.RowFacts.{read_of, set_after, Fails}
+use Rattle.gl_core.specs.Moved.{IsMoved, IsStepped, AreMoved}
 use Rattle.gl_core.proofs.Walked.{AfterAll-has, passes_greater, take_rest}
 
 abbrev pub SameSets : Elements → Elements → Type 0
@@ -123,3 +126,20 @@ fails_walked h old new u variables b m far test = by_case b test
 -- a fact of the Info in an Option
 pub some_fails : (o : Option Info) (i : Info) (P : Info → Type 0) (b : Bool) → o ≡ Some i → IsTrue b ↔ P i → IsTrue b ↔ ((j : Info) × (o ≡ Some j) × P j)
 some_fails o i P b is k = (λ t. (i, is, k.0 t), λ w. let same : w.0 ≡ i = cc in k.1 (subst P same w.2))
+
+-- one read more was walked on
+module _ (h : List Stamp) (start xs : List (Option Info)) (t : ℕ) (y : Option Info) (near : t < length xs) (later : (u : ℕ) → t ≤ u → read_of xs u ≡ read_of start u) where
+  pub moved_set : ((u : ℕ) → AreMoved h (read_of start u) (read_of xs u)) → AreMoved h (read_of xs t) y → (u : ℕ) → AreMoved h (read_of start u) (read_of (set xs t y) u)
+  moved_set moved m u = elim (ℕ_discrete u t) [
+    | yes same ↦ subst (λ z. AreMoved h (read_of start z) (read_of (set xs t y) z)) (sym same) (subst (AreMoved h (read_of start t)) (sym (get_or-set_same xs t y None near)) (subst (λ o. AreMoved h o y) (later t (omega arith)) m))
+    | no other ↦ subst (AreMoved h (read_of start u)) (sym (get_or-set_other xs t u y None other)) (moved u)
+  ]
+
+  pub later_set : (u : ℕ) → t + 1 ≤ u → read_of (set xs t y) u ≡ read_of start u
+  later_set u le = get_or-set_other xs t u y None (λ e. omega arith) ∙ later u (omega arith)
+
+  pub passed_set : (q : Question) (b : Bool) → b ≡ false → IsTrue b ↔ ((i : Info) × (read_of xs t ≡ Some i) × Fails h i q.thread q.commit) → ((u : ℕ) (i : Info) → u < t → read_of start u ≡ Some i → Fails h i q.thread q.commit → ⊥) → (u : ℕ) (i : Info) → u < t + 1 → read_of start u ≡ Some i → Fails h i q.thread q.commit → ⊥
+  passed_set q b no' test passed u i less is fails = elim (cases_lt u t) [
+    | inl below ↦ passed u i below is fails
+    | inr over ↦ (let same : u ≡ t = omega arith in let yes' = test.1 (i, later t (omega arith) ∙ subst (λ z. read_of start z ≡ Some i) same is, fails) in cc)
+  ]

@@ -1,4 +1,5 @@
 pub mod Walked
+pub mod Leaps
 pub mod RowTests
 pub mod Kept
 pub mod Threading
@@ -7,6 +8,11 @@ pub mod RowMoves
 pub mod Notes
 pub mod RowSets
 pub mod Unions
+pub mod LeastHeld
+pub mod Paddings
+pub mod Costs
 pub mod Ready
 pub mod Steps
 pub mod AccessSteps
+pub mod Knowledge
+pub mod KnownActs

@@ -2,7 +2,7 @@
 use Rattle.std.proofs.Common.{◌≡◌, ℕ, ◌+◌, ◌<◌, ◌≤◌, List, [], ◌++◌, length, take, drop, set, replicate, refl, sym, ◌∙◌, ap, subst, inl, inr, arith, Some, None, true, false, Bool, length-set}
 use Rattle.std.specs.Prelude.{Option, All, IfSome, slice_index_or}
 use Rattle.std.proofs.lemmas.Bool.{cases_lt}
-use Rattle.std.proofs.lemmas.List.{take_all, take-append-le, length_push, get_or_past, get_or-set_same, get_or-set_other}
+use Rattle.std.proofs.lemmas.List.{length_push, get_or_past, get_or-set_same, get_or-set_other}
 use Rattle.std.proofs.lemmas.List.Elements.{All-push}
 use native.Mathlib.Decide.{ℕ_discrete}
 use Rattle.gl_model.specs.declared.event.Act.{Act}
@@ -22,7 +22,9 @@ use Rattle.gl_draws.proofs.EntryKinds.{is_in-contains, contains-is_in}
 use Rattle.gl_core.specs.declared.threads.Threads.{Threads}
 use Rattle.gl_core.specs.Noted.{IsNoted}
 use Rattle.gl_core.specs.Rows.{untouched, row_of, IsLeast, AreRowsMoved, AreNoted, PlainDone, CommitDone, with_act, with_commit, after_act}
-use Rattle.gl_core.specs.Tracks.{Tracks, IsWithinDepth}
+use Rattle.gl_core.specs.Moved.{IsRowMoved}
+use Rattle.gl_core.proofs.Paddings.{written_back}
+use Rattle.gl_core.specs.Tracks.{Tracks, IsWithinDepth, KeepsHeld}
 use Rattle.gl_core.specs.Follows.{AreFollowed, AreReady}
 use Rattle.gl_core.proofs.RowSets.{moved_within}
 use Rattle.gl_core.proofs.Threading.{replicate_at}
@@ -72,23 +74,25 @@ plain_within h old new q x (Raised var) d = moved_within h old new d.2
 pub ready_plain : (h : List Stamp) (kept after : List Row) (seen : Threads) (q : Question) (x : ℕ) (judged : Judged) → AreReady h kept seen → length after ≡ length kept → PlainDone h (row_of kept x) q x judged (row_of after x) → ((y : ℕ) → (y ≡ x → ⊥) → row_of after y ≡ row_of kept y) → AreReady h after seen
 ready_plain h kept after seen q x judged r long d others = record {
   in_range = r.in_range;
-  variables = long ∙ r.variables;
+  variables = let few = r.variables in omega arith;
   within = λ y. elim (ℕ_discrete y x) [
     | yes e ↦ subst (λ z. IsWithin (row_of after z) (length h)) (sym e) (plain_within h (row_of kept x) (row_of after x) q x judged d)
     | no other ↦ subst (λ z. IsWithin z (length h)) (sym (others y other)) (r.within y)
   ];
   depth = r.depth;
+  held = r.held;
 }
 
 pub ready_commit : (h h' : List Stamp) (kept after : List Row) (seen : Threads) (t : ℕ) (variables : List ℕ) (asked : ℕ → Question) (judged : Judged) → AreReady h kept seen → t < THREADS → length after ≡ length kept → CommitDone h kept t variables asked judged h' after → AreReady h' after seen
 ready_commit h h' kept after seen t variables asked NoAccess r n long d = absurd d
 ready_commit h h' kept after seen t variables asked (Raised x) r n long d =
-    subst (λ k. AreReady k after seen) (sym d.1) (record { in_range = r.in_range; variables = long ∙ r.variables; within = λ y. moved_within h (row_of kept y) (row_of after y) (d.2 y); depth = r.depth })
+    subst (λ k. AreReady k after seen) (sym d.1) (record { in_range = r.in_range; variables = let few = r.variables in omega arith; within = λ y. moved_within h (row_of kept y) (row_of after y) (d.2 y); depth = r.depth; held = r.held })
 ready_commit h h' kept after seen t variables asked Performed r n long d = record {
   in_range = subst (All IsStampInRange) (sym d.1) (All-push IsStampInRange h (record { thread = t; event = Commits variables }) r.in_range (n, tt));
-  variables = long ∙ r.variables;
+  variables = let few = r.variables in omega arith;
   within = λ y. by_in y (is_in y variables) refl;
   depth = depth_more (length h) (length h') seen more' r.depth;
+  held = r.held;
 }
   where
     more' : length h ≤ length h'
@@ -134,20 +138,34 @@ act_in_range over h t Print all n r = one_in_range h t Print all n r
 act_in_range over h t Input all n r = one_in_range h t Input all n r
 act_in_range over h t (Fail k) all n r = one_in_range h t (Fail k) all n r
 
-pub ready_act : (over : Bool) (h : List Stamp) (t : ℕ) (act : Act) (kept : List Row) (seen after : Threads) → AreReady h kept seen → t < THREADS → IsActInRange act → IsWithinDepth (length h + 1) after → AreReady (after_act over h t act) kept after
-ready_act over h t act kept seen after r n range deep =
+pub ready_act : (over : Bool) (h : List Stamp) (t : ℕ) (act : Act) (kept : List Row) (seen after : Threads) → AreReady h kept seen → t < THREADS → IsActInRange act → IsWithinDepth (length h + 1) after → KeepsHeld after → AreReady (after_act over h t act) kept after
+ready_act over h t act kept seen after r n range deep held =
     let longer = act_longer over h t act in
     record {
       in_range = act_in_range over h t act r.in_range n range;
       variables = r.variables;
       within = λ y. within_more (length h) (length (after_act over h t act)) (row_of kept y) (omega arith) (r.within y);
       depth = depth_more (length h + 1) (length (after_act over h t act)) after longer deep;
+      held = held;
     }
 
+-- rows more, of which no access was made
+pub ready_grown : (h : List Stamp) (kept grown : List Row) (seen : Threads) → AreReady h kept seen → length grown ≤ VARIABLES → ((y : ℕ) → row_of grown y ≡ row_of kept y) → AreReady h grown seen
+ready_grown h kept grown seen r few same = record { in_range = r.in_range; variables = few; within = λ y. subst (λ z. IsWithin z (length h)) (sym (same y)) (r.within y); depth = r.depth; held = r.held }
+
+moved_since : (h : List Stamp) (kept grown new : List Row) → ((y : ℕ) → row_of grown y ≡ row_of kept y) → AreRowsMoved h grown new → AreRowsMoved h kept new
+moved_since h kept grown new same m y = subst (λ z. IsRowMoved h z (row_of new y)) (same y) (m y)
+
+-- what was done with more rows was done with these
+pub done_since : (h h' : List Stamp) (kept grown new : List Row) (t : ℕ) (variables : List ℕ) (asked : ℕ → Question) (judged : Judged) → ((y : ℕ) → row_of grown y ≡ row_of kept y) → CommitDone h grown t variables asked judged h' new → CommitDone h kept t variables asked judged h' new
+done_since h h' kept grown new t variables asked NoAccess same d = d
+done_since h h' kept grown new t variables asked Performed same d = (λ y c f. d.0 y c (subst (λ z. SomeFails h z (asked y)) (sym (same y)) f), d.1, (d.2.0, moved_since h kept grown d.2.0 same d.2.1, d.2.2))
+done_since h h' kept grown new t variables asked (Raised x) same d = ((d.0.0, subst (λ z. SomeFails h z (asked x)) (same x) d.0.1, λ y less c f. d.0.2 y less c (subst (λ z. SomeFails h z (asked y)) (sym (same y)) f)), d.1, moved_since h kept grown new same d.2)
+
 -- before the first line
-module _ (h : List Stamp) (kept : List Row) (seen : Threads) (first : h ≡ with_act [] 0 (Begin 0)) (rows : kept ≡ replicate VARIABLES untouched) where
+module _ (h : List Stamp) (kept : List Row) (seen : Threads) (first : h ≡ with_act [] 0 (Begin 0)) (rows : kept ≡ []) where
   row_is : (y : ℕ) → row_of kept y ≡ untouched
-  row_is y = ap (λ xs. row_of xs y) rows ∙ replicate_at VARIABLES y untouched
+  row_is y = ap (λ xs. row_of xs y) rows
 
   pub followed_first : Tracks [] seen → AreFollowed [] h kept seen
   followed_first tracks = record {
@@ -162,17 +180,14 @@ module _ (h : List Stamp) (kept : List Row) (seen : Threads) (first : h ≡ with
   nothing_in_range : All IsStampInRange []
   nothing_in_range k d n = absurd (omega arith)
 
-  pub ready_first : IsWithinDepth 0 seen → AreReady h kept seen
-  ready_first deep = subst (λ k. AreReady k kept seen) (sym first) (record {
+  pub ready_first : IsWithinDepth 0 seen → KeepsHeld seen → AreReady h kept seen
+  ready_first deep held = subst (λ k. AreReady k kept seen) (sym first) (record {
     in_range = one_in_range [] 0 (Begin 0) nothing_in_range (omega arith) (omega arith);
-    variables = ap length rows;
+    variables = omega (arith, ap length rows);
     within = λ y. subst (λ r. IsWithin r (length (with_act [] 0 (Begin 0)))) (sym (row_is y)) (untouched_within (length (with_act [] 0 (Begin 0))));
     depth = depth_more 0 (length (with_act [] 0 (Begin 0))) seen (omega arith) deep;
+    held = held;
   })
-
--- a slice that was lent, back in its place
-pub written_back : (xs ys : List Row) (n : ℕ) → length ys ≡ n → take n (ys ++ drop (length ys) xs) ≡ ys
-written_back xs ys n long = take-append-le n ys (drop (length ys) xs) (omega arith) ∙ take_all n ys (omega arith)
 
 pub ready_plain_at : (h h1 : List Stamp) (kept kept1 after : List Row) (seen : Threads) (q : Question) (x : ℕ) (judged : Judged) (n : ℕ) → h1 ≡ h → kept1 ≡ kept → AreReady h kept seen → length after ≡ length kept1 → length kept1 ≡ n → PlainDone h1 (row_of kept1 x) q x judged (row_of after x) → ((y : ℕ) → (y ≡ x → ⊥) → row_of after y ≡ row_of kept1 y)
     → AreReady h (take n (after ++ drop (length after) kept)) seen
@@ -185,6 +200,19 @@ pub ready_commit_at : (h h1 h' : List Stamp) (kept kept1 after : List Row) (seen
 ready_commit_at h h1 h' kept kept1 after seen t variables asked judged n eh ek r near long count d =
     subst (λ rows. AreReady h' rows seen) (sym (written_back kept after n (long ∙ count)))
     (ready_commit h h' kept after seen t variables asked judged r near (long ∙ ap length ek) (subst (λ k. CommitDone k kept t variables asked judged h' after) eh (subst (λ rows. CommitDone h1 rows t variables asked judged h' after) ek d)))
+
+pub plain_since : (h h1 : List Stamp) (kept grown grown1 after : List Row) (q q' : Question) (x : ℕ) (judged : Judged) (n : ℕ) → h1 ≡ h → grown1 ≡ grown → row_of grown x ≡ row_of kept x → q ≡ q' → length after ≡ n → PlainDone h1 (row_of grown1 x) q x judged (row_of after x) → PlainDone h (row_of kept x) q' x judged (row_of (take n (after ++ drop (length after) grown)) x)
+plain_since h h1 kept grown grown1 after q q' x judged n eh eg same eq long d =
+    let a : PlainDone h (row_of grown1 x) q x judged (row_of after x) = subst (λ k. PlainDone k (row_of grown1 x) q x judged (row_of after x)) eh d in
+    let b : PlainDone h (row_of kept x) q x judged (row_of after x) = subst (λ z. PlainDone h z q x judged (row_of after x)) (ap (λ rows. row_of rows x) eg ∙ same) a in
+    let e : PlainDone h (row_of kept x) q' x judged (row_of after x) = subst (λ z. PlainDone h (row_of kept x) z x judged (row_of after x)) eq b in
+    subst (λ rows. PlainDone h (row_of kept x) q' x judged (row_of rows x)) (sym (written_back grown after n long)) e
+
+pub commit_since : (h h1 h' : List Stamp) (kept grown grown1 after : List Row) (t : ℕ) (variables : List ℕ) (asked : ℕ → Question) (judged : Judged) (n : ℕ) → h1 ≡ h → grown1 ≡ grown → ((y : ℕ) → row_of grown y ≡ row_of kept y) → length after ≡ n → CommitDone h1 grown1 t variables asked judged h' after → CommitDone h kept t variables asked judged h' (take n (after ++ drop (length after) grown))
+commit_since h h1 h' kept grown grown1 after t variables asked judged n eh eg same long d =
+    let a : CommitDone h grown1 t variables asked judged h' after = subst (λ k. CommitDone k grown1 t variables asked judged h' after) eh d in
+    let b : CommitDone h kept t variables asked judged h' after = done_since h h' kept grown1 after t variables asked judged (λ y. ap (λ rows. row_of rows y) eg ∙ same y) a in
+    subst (λ rows. CommitDone h kept t variables asked judged h' rows) (sym (written_back grown after n long)) b
 
 pub done_raised : (h h1 : List Stamp) (old new : List Row) (t : ℕ) (variables : List ℕ) (asked : ℕ → Question) (x : ℕ) → h1 ≡ h → IsLeast (λ y. SomeFails h1 (row_of old y) (asked y)) variables (Some x) → AreRowsMoved h1 old new → CommitDone h old t variables asked (Raised x) h new
 done_raised h h1 old new t variables asked x e l m = (subst (λ k. IsLeast (λ y. SomeFails k (row_of old y) (asked y)) variables (Some x)) e l, refl, subst (λ k. AreRowsMoved k old new) e m)

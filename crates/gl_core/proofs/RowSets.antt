@@ -2,11 +2,10 @@
 use Rattle.std.proofs.Common.{◌≡◌, ◌≢◌, ℕ, ◌+◌, ◌<◌, ◌≤◌, List, [], ◌∷◌, length, take, get_or, set, refl, sym, ◌∙◌, ap, subst, inl, inr, arith, Some, None, true, false, Bool}
 use Rattle.std.specs.Prelude.{Option, ◌⊎◌, ◌↔◌, Contains, All, nat_le, if◌then◌else◌, slice_range}
 use Rattle.std.proofs.lemmas.List.{get_or_default, get_or-set_same, get_or-set_other, take_more, take_all, set-set}
-use Rattle.std.proofs.lemmas.List.Elements.{Contains-push_cases, Contains-push, Contains-append_left, Contains-get_or}
+use Rattle.std.proofs.lemmas.List.Elements.{Contains-push_cases, Contains-push, Contains-append_left}
 use Rattle.std.proofs.lemmas.Bool.{leb-true, leb-false}
 use native.Mathlib.Decide.{ℕ_discrete}
 use Rattle.gl_model.specs.declared.event.Stamp.{Stamp}
-use Rattle.gl_model.specs.declared.limits.TheConstants.{VARIABLES}
 use Rattle.gl_model.specs.declared.row.Info.{Info}
 use Rattle.gl_model.specs.declared.row.Row.{Row}
 use Rattle.gl_model.specs.declared.row.Question.{Question}
@@ -25,9 +24,6 @@ row_here rows x r n = get_or-set_same rows x r untouched n
 
 pub row_else : (rows : List Row) (x y : ℕ) (r : Row) → y ≢ x → row_of (set rows x r) y ≡ row_of rows y
 row_else rows x y r other = get_or-set_other rows x y r untouched other
-
-pub row_item : (rows : List Row) (x : ℕ) (r : Row) → x < length rows → r ≡ get_or rows x r → row_of rows x ≡ r
-row_item rows x r n e = get_or_default rows x untouched r n ∙ sym e
 
 -- noted twice is noted once
 note_twice : (old mid new : Row) (q : Question) (at : ℕ) → IsNoted old q at mid → IsNoted mid q at new → IsNoted old q at new
@@ -73,12 +69,9 @@ module _ (h : List Stamp) where
     reads = λ t. option_trans (read_of a.reads t) (read_of b.reads t) (read_of c.reads t) (m.reads t) (n.reads t);
   }
 
-  option_unmoved : (o : Option Info) → ((i : Info) → o ≡ Some i → i.pos ≤ length h) → AreMoved h o o
+  pub option_unmoved : (o : Option Info) → ((i : Info) → o ≡ Some i → i.pos ≤ length h) → AreMoved h o o
   option_unmoved None n = tt
   option_unmoved (Some i) n = unmoved h i (n i refl)
-
-  pub row_unmoved : (r : Row) → IsWithin r (length h) → IsRowMoved h r r
-  row_unmoved r w = record { value = refl; last_write = option_unmoved r.last_write w.last_write; threads = refl; reads = λ t. option_unmoved (read_of r.reads t) (w.reads t) }
 
   option_within : (a b : Option Info) → AreMoved h a b → (i : Info) → b ≡ Some i → i.pos ≤ length h
   option_within None None m i e = absurd (cc)
@@ -142,11 +135,8 @@ module _ (h : List Stamp) where
     fails_here q asked is = let k = some_fails_moved (row_of old x) (get_or mid x was) (asked x) here_moved in subst (λ z. SomeFails h (get_or mid x was) z ↔ SomeFails h (row_of old x) (asked x)) (sym is) k
 
 module _ (items variables : List ℕ) (i : ℕ) (same : items ≡ variables) (n : i < length items) where
-  pub var_below : All (λ x. x < VARIABLES) variables → get_or items i 0 < VARIABLES
-  var_below all = subst (λ (xs : List ℕ). get_or xs i 0 < VARIABLES) (sym same) (all i 0 (subst (λ (xs : List ℕ). i < length xs) same n))
-
-  pub var_in : Contains variables (get_or items i 0)
-  var_in = subst (λ xs. Contains xs (get_or items i 0)) same (Contains-get_or items i 0 n)
+  pub var_below : (most : ℕ) → All (λ x. x < most) variables → get_or items i 0 < most
+  var_below most all = subst (λ (xs : List ℕ). get_or xs i 0 < most) (sym same) (all i 0 (subst (λ (xs : List ℕ). i < length xs) same n))
 
   pub next_var : (y : ℕ) → Contains (take (i + 1) items) y → Contains (take i items) y ⊎ (get_or items i 0 ≡ y)
   next_var y c = Contains-push_cases (take i items) (get_or items i 0) y (subst (λ zs. Contains zs y) (take_more items i 0 n) c)

@@ -115,7 +115,7 @@ act_draws t (Fail k) s = refl
 two_acts : (h : List Stamp) (t u : ℕ) (a b : Act) → (more : List Stamp) × (with_act (with_act h t a) u b ≡ h ++ more)
 two_acts h t u a b = (record { thread = t; event = Does a } ∷ (record { thread = u; event = Does b } ∷ []), append_assoc h (record { thread = t; event = Does a } ∷ []) (record { thread = u; event = Does b } ∷ []))
 
-act_more : (over : Bool) (h : List Stamp) (t : ℕ) (act : Act) → (more : List Stamp) × (after_act over h t act ≡ h ++ more)
+pub act_more : (over : Bool) (h : List Stamp) (t : ℕ) (act : Act) → (more : List Stamp) × (after_act over h t act ≡ h ++ more)
 act_more over h t (Begin f) = (record { thread = t; event = Does (Begin f) } ∷ [], refl)
 act_more over h t End = (record { thread = t; event = Does End } ∷ [], refl)
 act_more over h t (Acq o) = (record { thread = t; event = Does (Acq o) } ∷ [], refl)

@@ -3,7 +3,7 @@ use Rattle.std.proofs.Common.{◌≡◌, ℕ, zero, suc, ◌+◌, ◌<◌, ◌�
 use Rattle.std.specs.Prelude.{◌⊎◌, Contains, nat_lt}
 use Rattle.std.specs.List.Sorted.{IsStrictlyIncreasing}
 use Rattle.std.proofs.lemmas.Bool.{cases_lt, le-ltb}
-use Rattle.std.proofs.lemmas.List.{get_or_past, take_all, take-append-le, length_push, get_or_append_left, get_or_push}
+use Rattle.std.proofs.lemmas.List.{take_all, take-append-le, length_push, get_or_append_left, get_or_push}
 use Rattle.std.proofs.lemmas.List.Elements.{Contains-push_cases, Contains-push, Contains-append_left, Contains-append_right, Contains-get_or}
 use Rattle.gl_model.specs.declared.limits.TheConstants.{HELD}
 use Rattle.gl_model.specs.Rising.{with_one}
@@ -25,7 +25,7 @@ with_one-last n (y ∷ ys) below =
     let rest = with_one-last n ys (λ k c. below k (Contains-append_right (y ∷ []) ys k c)) in
     rw (other, over) (ap (λ zs. y ∷ zs) rest)
 
-increasing_push : (n : ℕ) (xs : List ℕ) → IsStrictlyIncreasing xs → ((k : ℕ) → Contains xs k → k < n) → IsStrictlyIncreasing (xs ++ n ∷ [])
+pub increasing_push : (n : ℕ) (xs : List ℕ) → IsStrictlyIncreasing xs → ((k : ℕ) → Contains xs k → k < n) → IsStrictlyIncreasing (xs ++ n ∷ [])
 increasing_push n xs rising below k within = elim (cases_lt (k + 1) (length xs)) [
   | inl less ↦
       (let a = get_or_append_left xs (n ∷ []) 0 k (omega arith) in
@@ -103,6 +103,3 @@ least_of_all holds t n held l none = record {
   few = l.few;
   least = λ m has. elim (cases_lt m n) [ inl below ↦ l.least m below has | inr over ↦ absurd (let e = none m over in let z : is_held_by t None ≡ true = subst (λ h. is_held_by t h ≡ true) e has in cc) ];
 }
-
-pub past_none : (xs : List Hold) (n : ℕ) → length xs ≡ n → (m : ℕ) → n ≤ m → get_or xs m None ≡ None
-past_none xs n long m over = get_or_past xs m None (omega arith)

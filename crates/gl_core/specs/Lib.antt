@@ -1,7 +1,13 @@
 pub mod Noted
+pub mod Padding
+pub mod Places
 pub mod Asked
 pub mod Standing
 pub mod Moved
+pub mod Without
 pub mod Tracks
+pub mod Pairs
 pub mod Rows
+pub mod Cost
+pub mod Known
 pub mod Follows

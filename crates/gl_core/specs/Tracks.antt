@@ -1,5 +1,5 @@
 -- What the detector keeps of threads and monitors, against the steps so far.
-use Rattle.std.specs.Prelude.{◌≡◌, ℕ, ◌<◌, ◌≤◌, List, length, Contains, false, true, None, IfSome, slice_index_or, ◌⊎◌}
+use Rattle.std.specs.Prelude.{◌≡◌, ℕ, ◌<◌, ◌≤◌, List, [], length, Contains, false, true, None, IfSome, slice_index_or, slice_set, ◌⊎◌}
 use Rattle.std.specs.List.Sorted.{IsStrictlyIncreasing}
 use Rattle.gl_model.specs.declared.limits.TheConstants.{HELD}
 use Rattle.gl_model.specs.TraceSteps.{Step, Hold, is_ended, holder, is_held_by}
@@ -20,3 +20,11 @@ pub record AreLeastHeld (holds : ℕ → Hold) (t : ℕ) (held : List ℕ) : Typ
   pub owned : (m : ℕ) → Contains held m → is_held_by t (holds m) ≡ true
   pub few : length held ≤ HELD
   pub least : (m : ℕ) → is_held_by t (holds m) ≡ true → Contains held m ⊎ ((length held ≡ HELD) × ((k : ℕ) → Contains held k → k < m))
+
+-- the monitors that are kept of each thread are the least that it holds
+abbrev pub KeepsHeld : Threads → Type 0
+KeepsHeld s = (t : ℕ) → AreLeastHeld (λ m. slice_index_or s.holders m None) t (slice_index_or s.held t [])
+
+-- nobody holds the monitor m, and the monitors that are kept of thread t were the least that it held before it was left
+abbrev pub IsLeft : Threads → ℕ → ℕ → Type 0
+IsLeft s t m = (before : List Hold) × (s.holders ≡ slice_set before m None) × (m < length before) × AreLeastHeld (λ k. slice_index_or before k None) t (slice_index_or s.held t [])

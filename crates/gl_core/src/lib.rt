@@ -1,11 +1,16 @@
 //! Races by lazily walked locksets: the walk, the judgement over a row, and the detector of a whole trace.
 #![tactic(auto)]
 
+mod compact;
 mod detector;
 mod judging;
 mod keeping;
+mod known;
 mod lines;
 mod noting;
+mod pairs;
+mod positions;
+mod reads;
 mod threads;
 mod window;
 

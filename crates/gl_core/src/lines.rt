@@ -1,32 +1,62 @@
 // What a line of a trace does to the rows and the events.
-ghost use Rattle.std.specs.Prelude.{◌≡◌, ◌↔◌, ℕ, ◌+◌, ◌<◌, ◌≤◌, true, false, IsTrue, IfOk, List, ◌++◌, [], length, replicate, All, Contains, vec_len, vec_capacity};
+ghost use Rattle.std.specs.Prelude.{◌≡◌, ◌↔◌, ℕ, ◌+◌, ◌*◌, if◌then◌else◌, ◌<◌, ◌≤◌, true, false, Some, IsTrue, IfOk, OnOk, OnErr, List, ◌++◌, [], length, All, Contains, vec_len, vec_capacity};
 ghost use Rattle.gl_model.specs.declared.limits.TheConstants.{THREADS, VARIABLES, TX_VARIABLES};
+ghost use Rattle.gl_model.specs.declared.row.Row.{Row};
 ghost use Rattle.gl_model.specs.Elements.{IsStampInRange};
 ghost use Rattle.gl_model.specs.Rising.{with_one, with_all};
 ghost use Rattle.gl_model.specs.Trace.{is_in};
-ghost use Rattle.gl_draws.specs.RowFacts.{SomeFails, IsWithin};
+ghost use Rattle.gl_draws.specs.RowFacts.{Fails, SomeFails, IsWithin};
+ghost use Rattle.gl_core.specs.Cost.{ahead_of_row, ahead_of_rows, made_by, IsPaid};
 ghost use Rattle.gl_core.specs.Moved.{IsRowMoved};
 ghost use Rattle.gl_core.specs.Noted.{IsNoted};
-ghost use Rattle.gl_core.specs.Rows.{untouched, row_of, asked_plain, asked_part, AreRowsMoved, IsLeast, lower_of, AreNoted, with_act, after_act, PlainDone, CommitDone};
+ghost use Rattle.gl_core.specs.Rows.{row_of, asked_plain, asked_part, AreRowsMoved, IsLeast, lower_of, AreNoted, with_act, after_act, PlainDone, CommitDone};
 
-use crate::keeping::row_fails;
-use crate::noting::note;
-use gl_model::{Act, Event, Held, Judged, Question, Row, Stamp, THREADS, VARIABLES, VarSet};
+use crate::compact::KeptRow;
+use crate::reads::Spares;
+use gl_model::{Act, Event, Held, Info, Judged, Question, Stamp, VarSet};
 use std::alloc::{AllocError, Global};
 
-// A row for each variable, of which no access was made.
-pub(crate) fn untouched_rows(alloc: Global) -> Result<Vec<Row>, AllocError>
-    ensures { IfOk result (λ rows. rows.items ≡ replicate VARIABLES untouched) }
+// One row more, of which no access was made.
+fn push_row(rows: &mut Vec<KeptRow>) -> Result<(), AllocError>
+    ensures same { (y : ℕ) → row_of rows.new.items y ≡ row_of rows.old.items y }
+    ensures ahead { (n : ℕ) → ahead_of_rows rows.new.items n ≡ ahead_of_rows rows.old.items n }
+    ensures ok { OnOk result (length rows.new.items ≡ length rows.old.items + 1) }
+    ensures err { OnErr result (rows.new.items ≡ rows.old.items) }
 {
-    let mut rows = Vec::with_capacity(alloc, VARIABLES as usize)?;
-    for _ in 0..VARIABLES {
-        rows.push_reserved(Row {
-            value: 0,
-            last_write: None,
-            reads: [None; THREADS as usize],
-        });
+    let row = KeptRow::new(*rows.allocator())?;
+    rows.reserve(1)?;
+    rows.push_reserved(row);
+    Ok(())
+}
+
+// A row for the variable, and for each below it.
+pub(crate) fn make_rows(rows: &mut Vec<KeptRow>, var: u16) -> Result<(), AllocError>
+    requires var { var < VARIABLES }
+    requires few { length rows.old.items ≤ VARIABLES }
+    ensures same { (y : ℕ) → row_of rows.new.items y ≡ row_of rows.old.items y }
+    ensures ahead { (n : ℕ) → ahead_of_rows rows.new.items n ≡ ahead_of_rows rows.old.items n }
+    ensures few { length rows.new.items ≤ VARIABLES }
+    ensures longer { length rows.old.items ≤ length rows.new.items }
+    ensures there { OnOk result (var < length rows.new.items) }
+{
+    while rows.len() <= var as usize {
+        push_row(rows)?;
     }
-    Ok(rows)
+    Ok(())
+}
+
+// A row for each of the variables.
+pub(crate) fn make_all_rows(rows: &mut Vec<KeptRow>, variables: &VarSet) -> Result<(), AllocError>
+    requires few { length rows.old.items ≤ VARIABLES }
+    ensures same { (y : ℕ) → row_of rows.new.items y ≡ row_of rows.old.items y }
+    ensures ahead { (n : ℕ) → ahead_of_rows rows.new.items n ≡ ahead_of_rows rows.old.items n }
+    ensures few { length rows.new.items ≤ VARIABLES }
+    ensures there { OnOk result (All (λ x. x < length rows.new.items) variables.now) }
+{
+    for var in variables.ids() {
+        make_rows(rows, *var)?;
+    }
+    Ok(())
 }
 
 // The events before the first line: thread 0 begins.
@@ -132,19 +162,52 @@ fn part(thread: u8, variables: &VarSet, writes: &VarSet, held: Held, var: u16) -
     }
 }
 
-// Judges a plain access of the row, and notes it where it is performed.
-pub(crate) fn access_row(row: &mut Row, q: &Question, events: &[Stamp]) -> bool
+// Whether some Info of the row that conflicts with the question fails its test; the last write's passes where that is told.
+fn conflicts(
+    row: &mut KeptRow,
+    q: &Question,
+    events: &[Stamp],
+    ordered: bool,
+    walked: &mut u64,
+) -> bool
     requires thread { q.now.thread < THREADS }
     requires stamps { All IsStampInRange events.now }
     requires within { IsWithin row.old (length events.now) }
+    requires ordered { ordered ≡ true → (i : Info) → row.old.last_write ≡ Some i → Fails events.now i q.now.thread q.now.commit → ⊥ }
+    ensures moved { IsRowMoved events.now row.old row.new }
+    ensures fails { IsTrue result ↔ SomeFails events.now row.old q.now }
+    ensures cost { IsPaid events.now 0 walked.old walked.new (ahead_of_row row.old) (ahead_of_row row.new) }
+{
+    if ordered {
+        row.reads_fail(q, events, walked)
+    } else {
+        row.fails(q, events, walked)
+    }
+}
+
+// Judges a plain access of the row, and notes it where it is performed.
+pub(crate) fn access_row(
+    row: &mut KeptRow,
+    q: &Question,
+    events: &[Stamp],
+    ordered: bool,
+    spares: &mut Spares,
+    walked: &mut u64,
+) -> bool
+    requires thread { q.now.thread < THREADS }
+    requires spare { 0 < spares.old }
+    requires stamps { All IsStampInRange events.now }
+    requires within { IsWithin row.old (length events.now) }
+    requires ordered { ordered ≡ true → (i : Info) → row.old.last_write ≡ Some i → Fails events.now i q.now.thread q.now.commit → ⊥ }
     ensures fails { IsTrue result ↔ SomeFails events.now row.old q.now }
     ensures raised { result ≡ true → IsRowMoved events.now row.old row.new }
     ensures noted { result ≡ false → (mid : Row) × IsRowMoved events.now row.old mid × IsNoted mid q.now (length events.now) row.new }
+    ensures cost { IsPaid events.now (if result then 0 else 1) walked.old walked.new (ahead_of_row row.old) (ahead_of_row row.new) }
 {
-    if row_fails(row, q, events) {
+    if conflicts(row, q, events, ordered, walked) {
         return true;
     }
-    note(row, q, events.len() as u64);
+    row.note(q, events.len() as u64, spares);
     false
 }
 
@@ -160,24 +223,26 @@ fn lower(least: Option<u16>, var: u16) -> Option<u16>
 
 // The least variable on which a commit of the thread is racy.
 pub(crate) fn least_race(
-    rows: &mut [Row],
+    rows: &mut [KeptRow],
     thread: u8,
     held: Held,
     variables: &VarSet,
     writes: &VarSet,
     events: &[Stamp],
+    walked: &mut u64,
 ) -> Option<u16>
     requires thread { thread < THREADS }
     requires stamps { All IsStampInRange events.now }
-    requires rows { length rows.old ≡ VARIABLES }
+    requires rows { All (λ x. x < length rows.old) variables.now }
     requires within { (y : ℕ) → IsWithin (row_of rows.old y) (length events.now) }
     ensures moved { AreRowsMoved events.now rows.old rows.new }
     ensures least { IsLeast (λ y. SomeFails events.now (row_of rows.old y) (asked_part thread variables.now writes.now held y)) variables.now result }
+    ensures cost { IsPaid events.now 0 walked.old walked.new (ahead_of_rows rows.old) (ahead_of_rows rows.new) }
 {
     let mut least = None;
     for var in variables.ids() {
         let q = part(thread, variables, writes, held, *var);
-        if row_fails(&mut rows[*var as usize], &q, events) {
+        if rows[*var as usize].fails(&q, events, walked) {
             least = lower(least, *var);
         }
     }
@@ -186,63 +251,89 @@ pub(crate) fn least_race(
 
 // Notes a commit of the thread in the row of each of its variables.
 pub(crate) fn note_each(
-    rows: &mut [Row],
+    rows: &mut [KeptRow],
     thread: u8,
     held: Held,
     variables: &VarSet,
     writes: &VarSet,
     pos: u64,
+    spares: &mut Spares,
 )
     requires thread { thread < THREADS }
-    requires rows { length rows.old ≡ VARIABLES }
-    ensures { AreNoted variables.now (asked_part thread variables.now writes.now held) pos rows.old rows.new }
+    requires spares { length variables.now ≤ spares.old }
+    requires rows { All (λ x. x < length rows.old) variables.now }
+    ensures noted { AreNoted variables.now (asked_part thread variables.now writes.now held) pos rows.old rows.new }
+    ensures cost { (n : ℕ) → ahead_of_rows rows.new n ≤ ahead_of_rows rows.old n + length variables.now * n }
 {
     for var in variables.ids() {
         let q = part(thread, variables, writes, held, *var);
-        note(&mut rows[*var as usize], &q, pos);
+        rows[*var as usize].note(&q, pos, spares);
     }
 }
 
-// Judges a plain access of a variable.
-pub(crate) fn judge_plain(rows: &mut [Row], var: u16, q: &Question, events: &[Stamp]) -> Judged
+// Judges a plain access of a variable, whose last write comes before it where that is told.
+pub(crate) fn judge_plain(
+    rows: &mut [KeptRow],
+    var: u16,
+    q: &Question,
+    events: &[Stamp],
+    ordered: bool,
+    spares: &mut Spares,
+    walked: &mut u64,
+) -> Judged
     requires thread { q.now.thread < THREADS }
+    requires spare { 0 < spares.old }
     requires stamps { All IsStampInRange events.now }
-    requires rows { length rows.old ≡ VARIABLES }
-    requires var { var < VARIABLES }
+    requires var { var < length rows.old }
     requires within { (y : ℕ) → IsWithin (row_of rows.old y) (length events.now) }
+    requires ordered { ordered ≡ true → (i : Info) → (row_of rows.old var).last_write ≡ Some i → Fails events.now i q.now.thread q.now.commit → ⊥ }
     ensures done { PlainDone events.now (row_of rows.old var) q.now var result (row_of rows.new var) }
     ensures others { (y : ℕ) → (y ≡ var → ⊥) → row_of rows.new y ≡ row_of rows.old y }
+    ensures cost { IsPaid events.now (made_by result 1) walked.old walked.new (ahead_of_rows rows.old) (ahead_of_rows rows.new) }
 {
-    if access_row(&mut rows[var as usize], q, events) {
+    if access_row(&mut rows[var as usize], q, events, ordered, spares, walked) {
         Judged::Raised { var }
     } else {
         Judged::Performed
     }
 }
 
-// Judges a commit of the thread, for whose event there is room.
+// Judges a commit of the thread, for whose event and reads there is room.
 pub(crate) fn judge_commit(
-    rows: &mut [Row],
+    rows: &mut [KeptRow],
     events: &mut Vec<Stamp>,
     thread: u8,
     held: Held,
     variables: &VarSet,
     writes: &VarSet,
+    spares: &mut Spares,
+    walked: &mut u64,
 ) -> Judged
     requires thread { thread < THREADS }
+    requires spares { length variables.now ≤ spares.old }
     requires room { vec_len events.old < vec_capacity events.old }
     requires stamps { All IsStampInRange events.old.items }
-    requires rows { length rows.old ≡ VARIABLES }
+    requires rows { All (λ x. x < length rows.old) variables.now }
     requires within { (y : ℕ) → IsWithin (row_of rows.old y) (length events.old.items) }
-    ensures { CommitDone events.old.items rows.old thread variables.now (asked_part thread variables.now writes.now held) result events.new.items rows.new }
+    ensures done { CommitDone events.old.items rows.old thread variables.now (asked_part thread variables.now writes.now held) result events.new.items rows.new }
+    ensures longer { length events.old.items ≤ length events.new.items }
+    ensures cost { IsPaid events.old.items (made_by result (length variables.now)) walked.old walked.new (ahead_of_rows rows.old) (ahead_of_rows rows.new) }
 {
-    if let Some(var) = least_race(rows, thread, held, variables, writes, events) {
+    if let Some(var) = least_race(rows, thread, held, variables, writes, events, walked) {
         return Judged::Raised { var };
     }
     events.push_reserved(Stamp {
         thread,
         event: Event::Commit(*variables),
     });
-    note_each(rows, thread, held, variables, writes, events.len() as u64);
+    note_each(
+        rows,
+        thread,
+        held,
+        variables,
+        writes,
+        events.len() as u64,
+        spares,
+    );
     Judged::Performed
 }

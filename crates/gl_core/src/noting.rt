@@ -5,7 +5,7 @@ ghost use Rattle.gl_core.specs.Noted.{IsNewInfo, IsNoted};
 use gl_model::{Info, Lockset, Question, Row};
 
 /// The Info of an access that is performed at a position.
-fn new_info(q: &Question, pos: u64) -> Info
+pub(crate) fn new_info(q: &Question, pos: u64) -> Info
     requires { q.now.thread < THREADS }
     ensures { IsNewInfo q.now pos result }
 {

@@ -73,8 +73,8 @@ fn is_line(thread: u8, item: &Item) -> bool
     }
 }
 
-// What is said of each line that a trace can have.
-fn all_said(rt: &HostRuntime, lines: &[(u8, Item)]) -> Result<String, Fail> {
+// What is said of each line that a trace can have, and how many events were walked.
+fn all_said(rt: &HostRuntime, lines: &[(u8, Item)]) -> Result<(String, u64), Fail> {
     let cuts = Cuts::none();
     let mut detector = Detector::new(rt.alloc())?;
     let mut found = String::new(rt.alloc());
@@ -83,7 +83,7 @@ fn all_said(rt: &HostRuntime, lines: &[(u8, Item)]) -> Result<String, Fail> {
             found.push(said(detector.step(*thread, item, &cuts)?))?;
         }
     }
-    Ok(found)
+    Ok((found, detector.walked()))
 }
 
 #[test]
@@ -147,19 +147,35 @@ fn worked_rows(rt: HostRuntime) -> Result<(), Fail> {
         (0, commit(&[], &[2])),
         (1, commit(&[3], &[5])),
     ];
-    let rows: [(&[(u8, Item)], &str); 9] = [
-        (&two, "nor"),
-        (&three, "ono"),
-        (&four, "nnonnnnonno"),
-        (&five, "nono"),
-        (&six, "nonnr"),
-        (&seven, "nnoonnr"),
-        (&eight, "nnornnno"),
-        (&nine, "nooo"),
-        (&nine_apart, "noor"),
+    // raised again and again, with two events more between
+    let again = [
+        (0, act(FORK)),
+        (0, wr(4)),
+        (1, act(Act::Acq(0))),
+        (1, wr(4)),
+        (1, act(Act::Rel(0))),
+        (1, wr(4)),
+        (1, wr(4)),
+        (1, act(Act::Acq(0))),
+        (1, wr(4)),
     ];
-    for (lines, wanted) in rows {
-        assert_eq!(rt; all_said(&rt, lines)?.as_str(), wanted);
+    // where the events of the two threads alone order a plain access behind the last write, nothing is walked
+    let rows: [(&[(u8, Item)], &str, u64); 10] = [
+        (&two, "nor", 0),
+        (&three, "ono", 0),
+        (&four, "nnonnnnonno", 0),
+        (&five, "nono", 0),
+        (&six, "nonnr", 2),
+        (&seven, "nnoonnr", 4),
+        (&eight, "nnornnno", 0),
+        (&nine, "nooo", 1),
+        (&nine_apart, "noor", 1),
+        (&again, "nonrnrrnr", 3),
+    ];
+    for (lines, wanted, events) in rows {
+        let (found, walked) = all_said(&rt, lines)?;
+        assert_eq!(rt; found.as_str(), wanted);
+        assert_eq!(rt; walked, events);
     }
     Ok(())
 }

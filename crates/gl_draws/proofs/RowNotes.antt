@@ -34,7 +34,7 @@ use Rattle.gl_draws.proofs.TraceMachine.{with_at-here, with_at-else}
 use Rattle.gl_draws.proofs.TraceSound.{traced_push, sound_traced}
 
 -- the list of events only grows
-act_more : (t : ℕ) (act : Act) (s : Traced) → (more : List Stamp) × ((after_act t act s).history ≡ s.history ++ more) × ((after_act t act s).draws ≡ s.draws)
+pub act_more : (t : ℕ) (act : Act) (s : Traced) → (more : List Stamp) × ((after_act t act s).history ≡ s.history ++ more) × ((after_act t act s).draws ≡ s.draws)
 act_more t (Begin f) s = (record { thread = t; event = Does (Begin f) } ∷ [], refl, refl)
 act_more t End s = (record { thread = t; event = Does End } ∷ [], refl, refl)
 act_more t (Acq o) s = (record { thread = t; event = Does (Acq o) } ∷ [], refl, refl)

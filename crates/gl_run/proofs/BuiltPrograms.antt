@@ -1,6 +1,6 @@
 -- What a program text means has no instruction that speaks of another thread or of a transaction: those are not built.
-use Rattle.std.proofs.Common.{◌≡◌, ℕ, ℤ, pos, zero, suc, ◌+◌, List, [], ◌∷◌, ◌++◌, length, Bool, true, false, Option, Some, None, Result, Ok, Err, refl, sym, ap, subst, ◌∙◌, inl, inr, fold, slice_get}
-use Rattle.std.specs.Prelude.{IfOk, nat_lt, not, is_some, ◌-◌, if◌then◌else◌, option_and_then}
+use Rattle.std.proofs.Common.{◌≡◌, ℕ, ℤ, pos, zero, suc, ◌+◌, List, [], ◌∷◌, ◌++◌, length, Bool, true, false, Option, Some, None, Result, Ok, Err, refl, subst, ◌∙◌, fold, slice_get}
+use Rattle.std.specs.Prelude.{IfOk, nat_lt, not, is_some, ◌-◌, if◌then◌else◌}
 use Rattle.std.specs.List.{AllByRecursion}
 use Rattle.std.specs.Str.Lines.{lines}
 use Rattle.std.proofs.lemmas.Option.{option_and_then_some}
@@ -21,12 +21,13 @@ use Rattle.gl_asm.specs.declared.table.Operand.TheVariants as operands
 use Rattle.gl_asm.specs.Additions.{◌>>=◌, Word, class_of, function_of, label_of_line, catch_of, inputs_of, instruction_of, with_operands, rest_of, none_of, one_of, two_of, three_of, value_of, values_of, count_of, meaning_of, new_name, room_for}
 use Rattle.gl_asm.specs.Definitions.{defined_word, definitions}
 use Rattle.gl_asm.specs.Forms.{form_of, none_yet, counted}
+use Rattle.gl_asm.specs.Listable.{AreBuilt}
 use Rattle.gl_asm.specs.Sayings.{said, words_say, form_says, is_placed}
 use Rattle.gl_asm.specs.Texts.{LineFault, IsText, added, at_line, built, inputs_in, lines_read, read_from, start, text_read}
 use Rattle.gl_asm.specs.Words.{filled, is_built, operand_of}
 use Rattle.gl_bytecode.specs.declared.instr.Instr.{Instr}
 use Rattle.gl_bytecode.specs.declared.instr.Instr.TheVariants.{Push, Pop, Dup, Swap, Load, Store, Inc, Add, Sub, Mul, Div, Rem, Neg, Eq, Lt, Le, Not, And, Or, Xor, Jump, Jz, Jnz, Call, Ret, Halt, Throw, Nop, New, Get, Put, Vget, Vput, Enter, Exit, Fork, Join, SelfId, Txbegin, Commit, Print, Input}
-use Rattle.gl_bytecode.specs.Programs.{Bytecode, Draft, Function, draft_of, function_at, instr_at, with_last, with_instr, with_catch}
+use Rattle.gl_bytecode.specs.Programs.{Bytecode, Draft, Function, draft_of, function_at, with_last}
 use Rattle.gl_single.specs.OneThread.{IsOfOneThread, RunsAlone}
 
 -- an addition of an instruction is of one that is built
@@ -169,16 +170,16 @@ line_built : (line : ℕ) (r : Result Addition ℕ) → IfOk r IsBuilt → IfOk 
 line_built line (Ok a) is = is
 line_built line (Err kind) is = tt
 
-AreBuilt : List Addition → Type 0
-AreBuilt [] = Unit {0}
-AreBuilt (a ∷ more) = IsBuilt a × AreBuilt more
+AddBuilt : List Addition → Type 0
+AddBuilt [] = Unit {0}
+AddBuilt (a ∷ more) = IsBuilt a × AddBuilt more
 
-lines_built : (table : List Definition) (c : Counts) (line have : ℕ) (ls : List (List ℕ)) → IfOk (read_from table c line have ls) AreBuilt
-unfolding AreBuilt
+lines_built : (table : List Definition) (c : Counts) (line have : ℕ) (ls : List (List ℕ)) → IfOk (read_from table c line have ls) AddBuilt
+unfolding AddBuilt
 lines_built table c line have [] = tt
 lines_built table c line have (text ∷ rest) =
-    then_ok_with IsBuilt AreBuilt (at_line line (said table c line have text)) (λ a. read_from table (counted c (form_of (words text))) (line + 1) (have + length (inputs_in a)) rest >>= (λ others. Ok (a ∷ others))) (line_built line (said table c line have text) (said_built table c line have text)) (λ a is.
-    then_ok_with AreBuilt AreBuilt (read_from table (counted c (form_of (words text))) (line + 1) (have + length (inputs_in a)) rest) (λ others. Ok (a ∷ others)) (lines_built table (counted c (form_of (words text))) (line + 1) (have + length (inputs_in a)) rest) (λ others are. (is, are)))
+    then_ok_with IsBuilt AddBuilt (at_line line (said table c line have text)) (λ a. read_from table (counted c (form_of (words text))) (line + 1) (have + length (inputs_in a)) rest >>= (λ others. Ok (a ∷ others))) (line_built line (said table c line have text) (said_built table c line have text)) (λ a is.
+    then_ok_with AddBuilt AddBuilt (read_from table (counted c (form_of (words text))) (line + 1) (have + length (inputs_in a)) rest) (λ others. Ok (a ∷ others)) (lines_built table (counted c (form_of (words text))) (line + 1) (have + length (inputs_in a)) rest) (λ others are. (is, are)))
 
 HasBuilt : Function → Type 0
 HasBuilt F = AllByRecursion (λ i. is_built i ≡ true) F.code
@@ -209,12 +210,12 @@ added_built D (AddsInstruction i) all is = all_last HasBuilt (λ F. record F { c
 added_built D (AddsCatch c) all is = all_last HasBuilt (λ F. record F { catches = F.catches ++ c ∷ [] }) D.functions all (λ F built. built)
 added_built D (AddsInputs values) all is = all
 
-fold_built : (D : Draft) (more : List Addition) → IsBuiltDraft D → AreBuilt more → IsBuiltDraft (fold added D more)
-unfolding AreBuilt
+fold_built : (D : Draft) (more : List Addition) → IsBuiltDraft D → AddBuilt more → IsBuiltDraft (fold added D more)
+unfolding AddBuilt
 fold_built D [] all are = all
 fold_built D (a ∷ more) all are = fold_built (added D a) more (added_built D a all are.0) are.1
 
-built_draft : (D : Draft) (inputs : List ℤ) (r : Result (List Addition) LineFault) → IsBuiltDraft D → IfOk r AreBuilt → IfOk (built D inputs r) (λ x. IsBuiltDraft x.0)
+built_draft : (D : Draft) (inputs : List ℤ) (r : Result (List Addition) LineFault) → IsBuiltDraft D → IfOk r AddBuilt → IfOk (built D inputs r) (λ x. IsBuiltDraft x.0)
 built_draft D inputs (Ok additions) all are = fold_built D additions all are
 built_draft D inputs (Err fault) all are = tt
 
@@ -268,8 +269,11 @@ of_one_thread Commit is = absurd (cc is)
 of_one_thread Print is = tt
 of_one_thread Input is = tt
 
-pub runs_alone : (text : List ℕ) (P : Bytecode) (inputs : List ℤ) → IsText text P inputs → RunsAlone P
+pub are_built : (text : List ℕ) (P : Bytecode) (inputs : List ℤ) → IsText text P inputs → AreBuilt P
 unfolding IsBuiltDraft HasBuilt
-runs_alone text P inputs is f at i there =
+are_built text P inputs is f at i there =
     let draft : IsBuiltDraft (draft_of P) = subst (λ r. IfOk r (λ x. IsBuiltDraft x.0)) is.read (text_built text) in
-    option_and_then_some (λ F. slice_get F.code at) (function_at P f) i there (λ F known code. of_one_thread i (all_at (λ j. is_built j ≡ true) F.code at i (all_at HasBuilt P.functions f F draft known) code))
+    option_and_then_some (λ F. slice_get F.code at) (function_at P f) i there (λ F known code. all_at (λ j. is_built j ≡ true) F.code at i (all_at HasBuilt P.functions f F draft known) code)
+
+pub runs_alone : (text : List ℕ) (P : Bytecode) (inputs : List ℤ) → IsText text P inputs → RunsAlone P
+runs_alone text P inputs is f at i there = of_one_thread i (are_built text P inputs is f at i there)

@@ -1,18 +1,19 @@
 -- What `list` answers.
-use Rattle.std.specs.Prelude.{◌≡◌, ◌⊎◌, ℕ, ℤ, List, Option, None}
+use Rattle.std.specs.Prelude.{◌≡◌, ◌⊎◌, ℕ, ℤ, List, [], Option, None}
 use Rattle.gl_asm.specs.Listing.{listing}
 use Rattle.gl_asm.specs.Texts.{IsText, IsFirstFault}
 use Rattle.gl_bytecode.specs.Programs.{Bytecode}
 use Rattle.gl_run.specs.Output.{refusal}
 use Rattle.gl_run.specs.declared.kept.Kept.{Kept}
 
--- the status and the bytes for a text that is a program: its canonical listing, without inputs
+-- the status and the bytes for a text that is a program: its canonical listing, which is a text of the same program without inputs
 pub record AcceptsProgram (input : List ℕ) (status : ℕ) (bytes : List ℕ) (kept : Option Kept) : Type 0 where
   pub program : Bytecode
   pub inputs : List ℤ
   pub meaning : IsText input program inputs
   pub status_is : status ≡ 0
   pub bytes_are : bytes ≡ listing program
+  pub again : IsText bytes program []
   pub kept_is : kept ≡ None
 
 -- the status and the bytes for a text that is none

@@ -1,5 +1,5 @@
 -- What `run` answers.
-use Rattle.std.specs.Prelude.{◌≡◌, ◌⊎◌, ℕ, ℤ, List, Bool, true, false, Option, Some, None, if◌then◌else◌}
+use Rattle.std.specs.Prelude.{◌≡◌, ◌⊎◌, ℕ, ℤ, List, Bool, true, false, Option, Some, if◌then◌else◌}
 use Rattle.std.specs.List.{list_any}
 use Rattle.gl_asm.specs.Texts.{IsText}
 use Rattle.gl_bytecode.specs.Lawful.{Lawful}
@@ -8,20 +8,10 @@ use Rattle.gl_model.specs.Entries.{Entry, Sync, Commit, Plain, Abort, Trim, Over
 use Rattle.gl_model.specs.Lists.{lists_of}
 use Rattle.gl_model.specs.Report.{all_entries, report_of}
 use Rattle.gl_model.specs.declared.record.Ending.TheVariants.{Halt, Uncaught, Spent}
-use Rattle.gl_model.specs.declared.tx.Why.TheVariants.{Changed, Raised}
+use Rattle.gl_single.specs.Lines.{is_raised}
 use Rattle.gl_run.specs.Listed.{RefusesProgram}
 use Rattle.gl_run.specs.declared.kept.Kept.{Kept}
 use Rattle.gl_run.specs.declared.kept.Kept.TheVariants.{Trace}
-
--- an access or an attempt that was refused for a race
-abbrev pub is_raised : Entry → Bool
-is_raised (Sync at act value) = false
-is_raised (Commit at tx) = false
-is_raised (Plain var nth cached write value raised) = raised
-is_raised (Abort tx (Raised var)) = true
-is_raised (Abort tx (Changed var read found)) = false
-is_raised (Trim low) = false
-is_raised (Over ending) = false
 
 -- the end of a thread that did not halt
 abbrev pub is_unhalted : Entry → Bool

@@ -3,32 +3,18 @@ ghost use Rattle.std.specs.Prelude.{◌≡◌, IfOk, map};
 ghost use Rattle.std.specs.List.{list_any};
 ghost use Rattle.gl_model.specs.Entries.{seen};
 ghost use Rattle.gl_single.specs.OneThread.{RunsAlone};
-ghost use Rattle.gl_single.specs.Order.{IsOneList};
+ghost use Rattle.gl_single.specs.Lines.{is_raised};
 ghost use Rattle.gl_run.specs.Replies.{IsVerdict};
-ghost use Rattle.gl_run.specs.Runs.{AnswersRun, RunsText, entries_status, is_raised, is_unhalted, run_status};
+ghost use Rattle.gl_run.specs.Runs.{AnswersRun, RunsText, entries_status, is_unhalted, run_status};
 
 use crate::kept::Kept;
 use crate::page::{Page, refused};
 use gl_asm::assemble;
 use gl_bytecode::Program;
-use gl_model::{Ending, Entry, Inputs, Record, Why};
-use gl_single::{report, run_alone};
+use gl_model::{Ending, Entry, Inputs, Record};
+use gl_single::{entries_of, is_raised, report, run_alone};
 use gl_text::TextError;
 use std::alloc::{AllocError, Global};
-
-// Whether the entry is an access or an attempt that was refused for a race.
-fn is_raised(entry: &Entry) -> bool
-    ensures { result ≡ is_raised (seen entry.now) }
-{
-    match entry {
-        Entry::Plain { raised, .. } => *raised,
-        Entry::Abort {
-            why: Why::Raised { .. },
-            ..
-        } => true,
-        _ => false,
-    }
-}
 
 // Whether the entry is the end of a thread that did not halt.
 fn is_unhalted(entry: &Entry) -> bool
@@ -40,22 +26,22 @@ fn is_unhalted(entry: &Entry) -> bool
     }
 }
 
-fn has_raised(entries: &[Entry]) -> bool
-    ensures { result ≡ list_any (λ e. is_raised (seen e)) entries.now }
+fn has_raised(entries: &[(u8, &Entry)]) -> bool
+    ensures { result ≡ list_any (λ p. is_raised (seen p.1.now)) entries.now }
 {
-    entries.iter().any(|entry| is_raised(entry))
+    entries.iter().any(|(_, entry)| is_raised(entry))
 }
 
-fn has_unhalted(entries: &[Entry]) -> bool
-    ensures { result ≡ list_any (λ e. is_unhalted (seen e)) entries.now }
+fn has_unhalted(entries: &[(u8, &Entry)]) -> bool
+    ensures { result ≡ list_any (λ p. is_unhalted (seen p.1.now)) entries.now }
 {
-    entries.iter().any(|entry| is_unhalted(entry))
+    entries.iter().any(|(_, entry)| is_unhalted(entry))
 }
 
-// The status of a thread's entries.
+// The status of a run that left these entries.
 #[tactic(auto, using(crate::proofs::Entries::any_map))]
-fn entries_status(entries: &[Entry]) -> u8
-    ensures value { result ≡ entries_status (map seen entries.now) }
+fn entries_status(entries: &[(u8, &Entry)]) -> u8
+    ensures value { result ≡ entries_status (map (λ p. seen p.1.now) entries.now) }
     ensures few { IsVerdict result }
 {
     if has_raised(entries) {
@@ -64,17 +50,13 @@ fn entries_status(entries: &[Entry]) -> u8
     if has_unhalted(entries) { 7 } else { 0 }
 }
 
-// The status of a run of one thread.
-#[tactic(auto, using(crate::proofs::Entries::entries_of_one))]
-fn run_status(made: &Record) -> u8
-    requires { IsOneList made.now }
-    ensures value { result ≡ run_status made.now }
-    ensures few { IsVerdict result }
+// The status of a run that left this record.
+fn run_status(alloc: Global, made: &Record) -> Result<u8, AllocError>
+    ensures value { IfOk result (λ status. status ≡ run_status made.now) }
+    ensures few { IfOk result IsVerdict }
 {
-    match made.thread(0) {
-        Some(entries) => entries_status(entries),
-        None => unreachable!(),
-    }
+    let entries = entries_of(alloc, made)?;
+    Ok(entries_status(&entries))
 }
 
 // What a program is answered.
@@ -85,8 +67,9 @@ fn ran(alloc: Global, program: &Program, inputs: &Inputs, steps: u32) -> Result<
 {
     let made = run_alone(alloc, program, inputs, steps)?;
     let text = report(alloc, &made)?.into_bytes();
+    let status = run_status(alloc, &made)?;
     Ok(Page {
-        status: run_status(&made),
+        status,
         text,
         kept: Some(Kept::Trace(made)),
     })

@@ -1,7 +1,9 @@
 pub mod Alone
 pub mod Answering
+pub mod ByThread
 pub mod Counting
 pub mod Few
+pub mod Firsts
 pub mod FormLaw
 pub mod LegalLaw
 pub mod MachineLaw

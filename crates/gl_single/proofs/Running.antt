@@ -31,7 +31,7 @@ use Rattle.gl_single.specs.Answers.{answered}
 use Rattle.gl_single.specs.Moments.{Moment, Leads, LeadsBy, moment_of, monitor_state, output_after}
 use Rattle.gl_single.specs.OneThread.{IsAnswerable, IsOfOneThread, RunsAlone}
 use Rattle.gl_single.specs.Running.{InRun, alone, only, work_left}
-use Rattle.gl_single.specs.World.{World, IsWhole, IsWithin, at_rest}
+use Rattle.gl_single.specs.World.{World, IsWhole, at_rest}
 use Rattle.gl_single.proofs.Answering.{MayAsk, answer_leads}
 use Rattle.gl_single.proofs.Moves.{leads_more}
 use Rattle.gl_single.proofs.Telling.{tells, taken, left_taken, levels_left, starts, stays, no_looks, no_writes}
@@ -199,18 +199,6 @@ run_starts P inputs c w ask fits can =
     let main = fits.sound.main in
     let none = main.2 in
     starts P inputs w main.0 main.1 (omega arith) ask can
-
--- no counter is near its limit
-pub run_within : (P : Bytecode) (inputs : List ℤ) (c : Config) (w : World) (made : List (ℕ × List Entry)) → InRun P inputs c w made → c.limit < 4294967296 → IsWithin 4611686018427387904 w
-run_within P inputs c w made run less =
-    let bound = run.bounded in
-    let most = run.orderly.within in
-    record {
-      position = (let le = run.within.position in omega arith);
-      numbers = λ x. (let le = run.within.numbers x in omega arith);
-      levels = λ o. (let le = run.within.levels o in omega arith);
-      taken = (let le = run.within.taken in omega arith);
-    }
 
 begins_none : (P : Bytecode) (ask : Ask) → IsAnswerable P ask → BeginsNone ask
 begins_none P TxBegin can = absurd can

@@ -1,5 +1,5 @@
 -- How the one memory answers an ask of the one thread, and the entry that tells it.
-use Rattle.std.specs.Prelude.{Bool, ℕ, ℤ, pos, ◌+◌, ◌-◌, ◌*◌, ◌^◌, ◌==◌, nat_lt, nat_le, ◌&&◌, true, false, if◌then◌else◌, List, Option, Some, None, slice_get, slice_set, slice_index, slice_index_or}
+use Rattle.std.specs.Prelude.{Bool, ℕ, ℤ, pos, ◌+◌, ◌-◌, ◌==◌, nat_lt, nat_le, ◌&&◌, true, false, if◌then◌else◌, List, Option, Some, None, slice_get, slice_set, slice_index, slice_index_or}
 use Rattle.gl_model.specs.declared.event.Act.{Act}
 use Rattle.gl_model.specs.declared.event.Act.TheVariants.{Begin as Began, End as Ended, Acq, Rel, VRead as VolatileRead, VWrite as VolatileWrite, Alloc as Allocated, Print as Printed, Input as Taken, Fail}
 use Rattle.gl_model.specs.declared.limits.TheConstants.{MONITORS, VARIABLES, VOLATILES}
@@ -11,6 +11,7 @@ use Rattle.gl_bytecode.specs.declared.ask.Reply.TheVariants.{Go as Gone, Value, 
 use Rattle.gl_bytecode.specs.declared.limits.TheConstants.{HEAP_FULL, INPUT_END, NOT_OWNER}
 use Rattle.gl_bytecode.specs.declared.object.Fields.{Fields}
 use Rattle.gl_bytecode.specs.Programs.{Bytecode}
+use Rattle.gl_bytecode.specs.References.{reference_to}
 use Rattle.gl_single.specs.World.{World}
 
 -- what the thread is answered, the entry that is kept of it, and the memory afterwards
@@ -44,7 +45,7 @@ has_room w fields =
 
 -- the reference of the next object, of class c
 abbrev pub next_reference : World → ℕ → ℤ
-next_reference w c = pos (1 + w.next_object + 2 ^ 8 * c + 2 ^ 16 * w.next_variable + 2 ^ 32 * w.next_volatile)
+next_reference w c = reference_to w.next_object c w.next_variable w.next_volatile
 
 abbrev pub with_object : World → Fields → World
 with_object w fields = record w {

@@ -1,7 +1,9 @@
 pub mod Answers
+pub mod ByThread
+pub mod Firsts
+pub mod Lines
 pub mod Moments
 pub mod OneThread
-pub mod Order
 pub mod Running
 pub mod World
 pub mod WorldView

@@ -1,13 +1,21 @@
-//! The run of a program of one thread over one plain memory: its record is lawful.
+//! The run of a program of one thread over one plain memory, whose record is lawful; and the report of a record, of any number of
+//! threads.
 #![tactic(auto)]
 
+mod entries;
 mod lines;
 mod looking;
+mod page;
+#[cfg(test)]
+mod page_tests;
+mod prints;
 mod run;
 #[cfg(test)]
 mod tests;
 mod world;
 
-pub use lines::report;
+pub use entries::entries_of;
+pub use lines::is_raised;
 pub use looking::runs_alone;
+pub use page::report;
 pub use run::run_alone;

@@ -7,7 +7,6 @@ ghost use Rattle.gl_bytecode.specs.Machine.{ask_of};
 ghost use Rattle.gl_bytecode.specs.declared.ask.Ask.TheVariants.{Go, Over};
 ghost use Rattle.gl_model.specs.declared.record.Ending.{Ending};
 ghost use Rattle.gl_single.specs.OneThread.{HasFew, RunsAlone};
-ghost use Rattle.gl_single.specs.Order.{IsOneList};
 ghost use Rattle.gl_single.specs.Running.{InRun, work_left};
 
 use crate::world::{Answer, World};
@@ -25,8 +24,7 @@ pub fn run_alone(
     steps: u32,
 ) -> Result<Record, AllocError>
     requires alone { RunsAlone program.now }
-    ensures lawful { IfOk result (λ made. Lawful program.now inputs.now steps (lists_of made)) }
-    ensures one { IfOk result IsOneList }
+    ensures { IfOk result (λ made. Lawful program.now inputs.now steps (lists_of made)) }
 {
     let _main = program.main();
     let mut machine = Machine::new(alloc, program, 0, steps)?;

@@ -5,7 +5,9 @@ ghost use Rattle.gl_single.specs.Answers.{accessed, answered, has_room, left_mon
 ghost use Rattle.gl_single.specs.OneThread.{IsAnswerable};
 ghost use Rattle.gl_single.specs.World.{IsWhole, IsWithin, at_rest};
 
-use gl_bytecode::{Fields, HEAP_FULL, INPUT_END, NOT_OWNER, Program};
+use gl_bytecode::{
+    CLASS_UNIT, Fields, HEAP_FULL, INPUT_END, NOT_OWNER, Program, VARIABLE_UNIT, VOLATILE_UNIT,
+};
 use gl_model::{Act, Entry, Inputs, MONITORS, VARIABLES, VOLATILES};
 use gl_vm::{Ask, Reply};
 use std::alloc::{AllocError, Global};
@@ -208,9 +210,9 @@ impl World {
     {
         let laid_out = 1
             + self.next_object as u64
-            + 256 * class as u64
-            + 65536 * self.next_variable as u64
-            + 4294967296 * self.next_volatile as u64;
+            + CLASS_UNIT * class as u64
+            + VARIABLE_UNIT * self.next_variable as u64
+            + VOLATILE_UNIT * self.next_volatile as u64;
         laid_out as i64
     }
 

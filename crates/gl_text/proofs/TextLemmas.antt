@@ -1,13 +1,13 @@
 -- The first line and the first word of a text.
-use Rattle.std.proofs.Common.{◌≡◌, ◌+◌, ◌<◌, ◌≤◌, ℕ, List, [], ◌∷◌, Bool, true, not, suc, inl, inr, filter, Some, None, unwrap_or, nat_lt, eqb, add-one, length, length-take, drop, take, refl, ap, sym, ◌∙◌, arith}
-use Rattle.std.specs.List.{slice_split, onto_first, position, position_or_len, before_first, after_first}
+use Rattle.std.proofs.Common.{◌≡◌, ◌+◌, ◌<◌, ◌≤◌, ℕ, List, [], ◌∷◌, Bool, true, false, true≢false, ◌||◌, not, suc, inl, inr, filter, Some, None, unwrap_or, nat_lt, nat_le, ◌==◌, ◌&&◌, eqb, add-one, length, length-take, drop, take, refl, ap, sym, ◌∙◌, arith}
+use Rattle.std.specs.List.{slice_split, onto_first, position, position_or_len, before_first, after_first, list_any}
 use Rattle.std.specs.Str.Lines.{lines, lines_of_parts, strip_carriage_return}
 use Rattle.std.proofs.lemmas.Bool.{cases_lt, cases_Bool, lt-ltb, le-ltb, ltb-true, ne_eqb, cond-false}
 use Rattle.std.proofs.lemmas.List.Sums.{prefix_len-le-length}
 use Rattle.std.proofs.lemmas.Option.{cond_some}
 use Rattle.std.proofs.lemmas.List.{take_all, drop_all}
 use Rattle.std.proofs.lemmas.List.Splits.{slice_split-cons_yes, slice_split-cons_no, slice_split_first, length-slice_split}
-use Rattle.gl_text.specs.Text.{is_line_feed, is_blank, is_some_word, parts}
+use Rattle.gl_text.specs.Text.{is_line_feed, is_blank, is_some_word, parts, is_unprintable, is_bad_byte, is_bad}
 
 -- what `position(p).unwrap_or(len)` gives
 pub place_or_len : (p : ℕ → Bool) (bs : List ℕ) → unwrap_or (position p bs) (length bs) ≡ position_or_len p bs
@@ -148,3 +148,22 @@ word_begins bs text n found e =
 pub no_word : (bs : List ℕ) → position (λ b. not (is_blank b)) bs ≡ None → parts bs ≡ []
 no_word bs none =
     sym (parts_skip bs) ∙ ap parts (drop_all (position_or_len (λ b. not (is_blank b)) bs) bs (place_none (λ b. not (is_blank b)) bs none))
+
+either_good : (a b : Bool) → not b ≡ false → not (a || b) ≡ false
+either_good true b e = refl
+either_good false b e = e
+
+fewer_pass : (p q : ℕ → Bool) → ((x : ℕ) → p x ≡ false → q x ≡ false) → (xs : List ℕ) → list_any p xs ≡ false → list_any q xs ≡ false
+fewer_pass p q h [] e = refl
+fewer_pass p q h (x ∷ xs) e =
+    elim (cases_Bool (p x)) [
+      | inl bad ↦ let some : list_any p (x ∷ xs) ≡ true = rw bad refl in absurd (true≢false (sym some ∙ e))
+      | inr good ↦
+          let left : list_any p (x ∷ xs) ≡ list_any p xs = rw good refl in
+          let same : list_any q (x ∷ xs) ≡ list_any q xs = rw (h x good) refl in
+          same ∙ fewer_pass p q h xs (sym left ∙ e)
+    ]
+
+-- a line of printable bytes alone has no bad one
+pub printable_good : (bs : List ℕ) → list_any is_unprintable bs ≡ false → is_bad bs ≡ false
+printable_good bs e = fewer_pass is_unprintable is_bad_byte (λ x f. either_good (x == 9) (nat_le 32 x && nat_le x 126) f) bs e

@@ -1,9 +1,9 @@
 // Lines of a text.
 ghost use Rattle.std.specs.Prelude.{◌≡◌, ◌+◌, ◌<◌, ◌≤◌, length, MatchOption, IsNone, [], ◌∷◌, slice_get, Some, None};
-ghost use Rattle.std.specs.List.{position};
+ghost use Rattle.std.specs.List.{position, list_any};
 ghost use Rattle.std.specs.Str.Lines.{lines, strip_carriage_return};
 ghost use Rattle.std.specs.Iterator.{YieldsFirstBy, item_count};
-ghost use Rattle.gl_text.specs.Text.{is_line_feed, is_bad, words};
+ghost use Rattle.gl_text.specs.Text.{is_line_feed, is_unprintable, is_bad, words};
 ghost use Rattle.gl_text.specs.Spans.{spans};
 
 use crate::parts::{Spans, Words, spans_of, words_of};
@@ -163,9 +163,23 @@ impl<'a> Line<'a> {
     }
 }
 
+// Whether a line has a byte that is no printable one, as a tab.
+fn has_unprintable(line: &[u8]) -> bool
+    ensures { result ≡ list_any is_unprintable line.now }
+{
+    line.iter().any(|b| !matches!(b, 32..=126))
+}
+
+// The same as `is_bad`, with more to ask of each byte.
+fn has_bad(line: &[u8]) -> bool
+    ensures { result ≡ is_bad line.now }
+{
+    line.iter().any(|b| !matches!(b, b'\t' | 32..=126))
+}
+
 /// Whether a line has a byte that no line may have.
 pub fn is_bad(line: &[u8]) -> bool
     ensures { result ≡ is_bad line.now }
 {
-    line.iter().any(|b| !matches!(b, b'\t' | 32..=126))
+    has_unprintable(line) && has_bad(line)
 }

@@ -1,5 +1,5 @@
 -- Each ask names what is there.
-use Rattle.std.proofs.Common.{◌≡◌, ℕ, zero, suc, ℤ, pos, negsuc, ◌+◌, ◌/◌, ◌%◌, ◌<◌, ◌≤◌, Bool, true, false, ◌&&◌, not, ◌==◌, nat_lt, nat_le, if◌then◌else◌, List, [], ◌∷◌, Option, Some, None, refl, sym, subst, arith, rules, length}
+use Rattle.std.proofs.Common.{◌≡◌, ℕ, zero, suc, ℤ, pos, negsuc, ◌+◌, ◌<◌, ◌≤◌, Bool, true, false, ◌&&◌, not, ◌==◌, nat_lt, nat_le, if◌then◌else◌, List, [], ◌∷◌, Option, Some, None, refl, sym, subst, arith, rules, length}
 use Rattle.std.specs.Prelude.{slice_get}
 use Rattle.gl_model.specs.declared.limits.TheConstants.{THREADS, VARIABLES, VOLATILES}
 use Rattle.gl_model.specs.declared.record.Ending.{Ending}
@@ -24,7 +24,7 @@ use Rattle.gl_bytecode.specs.Fits.{Fits, Holds, LivesWith, NamesMonitor, WaitsFo
 use Rattle.gl_bytecode.specs.Instructions.{args_of}
 use Rattle.gl_bytecode.specs.Machine.{Attempt, Config, Frame, entered, in_order, handler, leaving, held_monitor, ending_with, handled_or, thrown, failing, failed, failed_in, is_refused, again, answers, answered, dropped, returned, called, done, ran, started, settled, levels_after, begun, next, next_at, takes, takes_at, refusal_in, ask_of}
 use Rattle.gl_bytecode.specs.Programs.{Bytecode, Function, function_at, instr_at}
-use Rattle.gl_bytecode.specs.References.{object_at, object_of}
+use Rattle.gl_bytecode.specs.References.{class_number, first_variable, first_volatile, object_at, object_number, object_of}
 use Rattle.gl_bytecode.specs.Rows.{row, is_zero, on_object, on_data, on_volatile, joining, top, second}
 use Rattle.gl_bytecode.specs.Validity.{NamesWhatIs}
 use Rattle.gl_bytecode.proofs.Soundness.{goes_at, instr_there}
@@ -61,7 +61,7 @@ all_there_of o d v (Some fields) x is = by_test (nat_le (d + fields.plain) VARIA
 
 all_there : (P : Bytecode) (value : ℤ) (x : Object) → object_at P value ≡ Some x → AllThere x
 all_there P (pos zero) x is = cc
-all_there P (pos (suc n)) x is = all_there_of (n % 256) (n / 65536 % 65536) (n / 4294967296) (slice_get P.classes (n / 256 % 256)) x is
+all_there P (pos (suc n)) x is = all_there_of (object_number n) (first_variable n) (first_volatile n) (slice_get P.classes (class_number n)) x is
 all_there P (negsuc n) x is = cc
 
 on_some : (P : Bytecode) (o : Option Object) (f : Object → Outcome) → ((x : Object) → o ≡ Some x → OutcomeAsks P (f x)) → OutcomeAsks P (on_object o f)

@@ -7,6 +7,8 @@ mod laws;
 mod machine;
 mod operands;
 mod rows;
+#[cfg(test)]
+mod tests;
 
 pub use gl_bytecode::{Ask, Reply};
 pub use laws::entries_are_bounded;

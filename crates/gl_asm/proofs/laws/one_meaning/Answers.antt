@@ -1,4 +1,4 @@
-use Rattle.std.proofs.Common.{◌≡◌, ◌+◌, min, ℕ, ℤ, List, Ok, Err, ◌∙◌, ap, sym, subst, inl, inr}
+use Rattle.std.proofs.Common.{◌≡◌, ◌+◌, ℕ, ℤ, List, Ok, Err, ◌∙◌, ap, sym, subst, inl, inr}
 use Rattle.std.specs.Prelude.{Result}
 use Rattle.std.specs.Str.Lines.{lines}
 use Rattle.gl_text.specs.declared.kinds.TheConstants.{PROGRAM_FAULT_BASE}
@@ -31,7 +31,7 @@ returns-clause-apart c = λ text program inputs line kind is fault.
 program_faults : (text : List ℕ) (a b j k : ℕ) (one : HasProgramFault text a j) (two : HasProgramFault text b k) → one.fault ≡ two.fault → (a ≡ b) × (j ≡ k)
 program_faults text a b j k one two same = (
   one.line_is ∙ ap (fault_line (lines text)) same ∙ sym two.line_is,
-  one.kind_is ∙ ap (λ (f : ProgFault). min (PROGRAM_FAULT_BASE + f.kind) 255) same ∙ sym two.kind_is,
+  one.kind_is ∙ ap (λ (f : ProgFault). PROGRAM_FAULT_BASE + f.kind) same ∙ sym two.kind_is,
 )
 
 pub returns-clause-faults : goal.returns-clause-faults

@@ -4,8 +4,8 @@ use Rattle.gl_asm.specs.Listing.{body, header}
 use Rattle.gl_asm.proofs.ListingLemmas.{function_is}
 use Rattle.gl_asm.proofs.listing.push_function.Goals as goal
 
-pub returns : goal.returns
-returns c =
+pub returns-clause-text : goal.returns-clause-text
+returns-clause-text c =
     let main = c.args.main in
     let f = c.args.f in
     let shape : ℕ × ℕ = (c.in-Some.args, c.in-Some.locals) in

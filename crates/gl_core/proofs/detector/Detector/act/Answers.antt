@@ -2,9 +2,13 @@ use Rattle.std.proofs.Common.{◌≡◌, ◌∙◌, ap, subst, sym, length}
 use Rattle.gl_core.specs.Follows.{AreReady}
 use Rattle.gl_core.specs.Rows.{after_act}
 use Rattle.gl_core.proofs.Ready.{ready_act}
+use Rattle.gl_core.proofs.KnownActs.{known_act}
 use Rattle.gl_core.proofs.detector.Detector.act.Goals as goal
 
 pub returns-clause-ready : goal.returns-clause-ready
 returns-clause-ready c =
     let e : c.push_act.new.events.items ≡ after_act c.is_over-over.result c.args.self.now.events.items c.args.thread c.args.act = c.push_act.ensures ∙ ap (λ h. after_act c.is_over-over.result h c.args.thread c.args.act) c.reserve.ensures.items in
-    subst (λ h. AreReady h c.args.self.now.rows.items c.take.new.self) (sym e) (ready_act c.is_over-over.result c.args.self.now.events.items c.args.thread c.args.act c.args.self.now.rows.items c.args.self.now.threads c.take.new.self c.requires.ready c.requires.thread c.requires.act (c.take.ensures.within (length c.args.self.now.events.items) c.requires.ready.depth))
+    record {
+      kept = subst (λ h. AreReady h c.args.self.now.rows.items c.take-2.new.self) (sym e) (ready_act c.is_over-over.result c.args.self.now.events.items c.args.thread c.args.act c.args.self.now.rows.items c.args.self.now.threads c.take-2.new.self c.requires.ready.kept c.requires.thread c.requires.act (c.take-2.ensures.within (length c.args.self.now.events.items) c.requires.ready.kept.depth) c.take-2.ensures.held);
+      known = known_act c.is_over-over.result c.args.self.now.events.items c.push_act.new.events.items c.args.thread c.args.act c.args.self.now.rows.items c.args.self.now.known.threads.items e c.requires.ready.kept.within c.requires.ready.known;
+    }

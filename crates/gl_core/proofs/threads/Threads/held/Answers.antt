@@ -1,14 +1,10 @@
-use Rattle.std.proofs.Common.{ℕ, ◌+◌, List, None, sym, ◌∙◌, subst}
+use Rattle.std.proofs.Common.{◌<◌, [], None, length, rules, subst}
 use Rattle.std.specs.Prelude.{slice_index_or}
-use Rattle.gl_core.proofs.Threading.{AreLeastBelow, next, not_next}
-use Rattle.gl_core.proofs.threads.Threads.held.Goals.{then-holds, else-holds}
+use Rattle.std.proofs.lemmas.List.{get_or_default}
+use Rattle.gl_core.specs.Tracks.{AreLeastHeld}
 use Rattle.gl_core.proofs.threads.Threads.held.Goals as goal
 
-pub loop-monitor-preserved : goal.loop-monitor-preserved
-loop-monitor-preserved c =
-    let holds = λ (m : ℕ). slice_index_or c.args.self.now.holders m None in
-    let P = λ (h : List ℕ). AreLeastBelow holds c.args.thread (c.loop-monitor.monitor + 1) h in
-    elim c.if-holds.branch [
-      | then-holds w ↦ subst P (sym (w.held-is ∙ w.add.ensures)) (next holds c.args.thread c.loop-monitor.monitor c.loop-monitor.held c.loop-monitor.invariant (sym c.holds.ensures ∙ w.if-holds.true))
-      | else-holds w ↦ subst P (sym w.held-is) (not_next holds c.args.thread c.loop-monitor.monitor c.loop-monitor.held c.loop-monitor.invariant (sym c.holds.ensures ∙ w.if-holds.false))
-    ]
+pub returns : goal.returns
+returns c =
+    let n : c.args.thread < length c.args.self.now.held = search rules in
+    subst (AreLeastHeld (λ m. slice_index_or c.args.self.now.holders m None) c.args.thread) (get_or_default c.args.self.now.held c.args.thread [] c.index-self-thread.result n) (c.requires.held c.args.thread)

@@ -1,0 +1,71 @@
+-- Over a clean trace the detector and the plain judge say the same, since what is rightly said is settled.
+use Rattle.std.proofs.Common.{◌≡◌, ℕ, ◌+◌, ◌<◌, List, [], ◌∷◌, ◌++◌, length, take, drop, get_or, refl, ap, subst, sym, ◌∙◌, arith, Some, None}
+use Rattle.std.specs.Prelude.{All, slice_get, option_map}
+use Rattle.std.proofs.lemmas.List.{take_more, take-append-le, take-append-drop}
+use Rattle.std.proofs.lemmas.List.Elements.{All-get_or}
+use Rattle.std.proofs.lemmas.Option.{slice_get-map, slice_get_within, get_or_from_slice_get}
+use Rattle.gl_model.specs.declared.row.Judged.{Judged}
+use Rattle.gl_model.specs.Trace.{Line, AreVerdicts}
+use Rattle.gl_model.specs.TraceSteps.{Step, IsStep, AreClean, step_fault}
+use Rattle.gl_draws.specs.TraceStates.{steps_of, AreSound}
+use Rattle.gl_draws.proofs.TraceSound.{steps_push}
+use Rattle.gl_draws.proofs.VerdictLaw.{settled_law}
+use Rattle.gl_core.specs.Follows.{Follows, IsStepped}
+use Rattle.gl_core.specs.declared.detector.Detector.{Detector}
+use Rattle.gl_slow.specs.Follows.{Follows as FollowsPlainly, IsStepped as IsPlainlyStepped}
+use Rattle.gl_slow.specs.declared.judge.SlowJudge.{SlowJudge}
+use Rattle.gl_slow.proofs.Places.{get_kept}
+
+-- both were given these steps, with right verdicts
+pub record AreGiven (steps : List Step) (d : Detector) (j : SlowJudge) : Type 0 where
+  pub lines : List Line
+  pub said : steps_of lines ≡ steps
+  pub right : AreVerdicts lines
+  pub fast : Follows lines d
+  pub plain : FollowsPlainly lines j
+
+pub none_given : (d : Detector) (j : SlowJudge) → Follows [] d → FollowsPlainly [] j → AreGiven [] d j
+none_given d j fast plain = record { lines = []; said = refl; right = λ k l e. absurd (cc); fast = fast; plain = plain }
+
+-- lines whose steps are a front of a clean trace are sound
+front_sound : (lines : List Line) (trace more : List Step) → steps_of lines ++ more ≡ trace → All IsStep trace → AreClean trace → AreSound lines
+front_sound lines trace more whole all clean = record {
+  in_range = λ k l e.
+      let said : slice_get (steps_of lines) k ≡ Some (l.thread, l.item) = slice_get-map (λ (m : Line). (m.thread, m.item)) lines k ∙ ap (option_map (λ (m : Line). (m.thread, m.item))) e in
+      in_trace k (l.thread, l.item) said;
+  clean = λ k s e.
+      let near = slice_get_within (steps_of lines) k s e in
+      let front : take k trace ≡ take k (steps_of lines) = ap (take k) (sym whole) ∙ take-append-le k (steps_of lines) more (omega arith) in
+      subst (λ ss. step_fault ss s.0 s.1 ≡ None) front (clean k s (there k s e));
+}
+  where
+    there : (k : ℕ) (s : Step) → slice_get (steps_of lines) k ≡ Some s → slice_get trace k ≡ Some s
+    there k s e = subst (λ ss. slice_get ss k ≡ Some s) whole (get_kept (steps_of lines) more k s e)
+
+    in_trace : (k : ℕ) (s : Step) → slice_get (steps_of lines) k ≡ Some s → IsStep s
+    in_trace k s e =
+        let at = there k s e in
+        subst IsStep (get_or_from_slice_get trace k s s at) (All-get_or IsStep trace k s (slice_get_within trace k s at) all)
+
+module _ (trace : List Step) (all : All IsStep trace) (clean : AreClean trace) (k : ℕ) (r : Step) (less : k < length trace) (is : r ≡ get_or trace k r) (d d' : Detector) (j j' : SlowJudge) (given : AreGiven (take k trace) d j) (a b : Judged)
+    (fast : IsStepped r.0 r.1 a d d') (plain : IsPlainlyStepped r.0 r.1 b j j') where
+  abbrev line : Judged → Line
+  line judged = record { thread = r.0; item = r.1; judged = judged }
+
+  said_more : (judged : Judged) → steps_of (given.lines ++ line judged ∷ []) ≡ take (k + 1) trace
+  said_more judged = steps_push given.lines (line judged) ∙ ap (λ ss. ss ++ r ∷ []) given.said ∙ ap (λ s. take k trace ++ s ∷ []) is ∙ sym (take_more trace k r less)
+
+  sound : (judged : Judged) → AreSound (given.lines ++ line judged ∷ [])
+  sound judged = front_sound (given.lines ++ line judged ∷ []) trace (drop (k + 1) trace) (ap (λ ss. ss ++ drop (k + 1) trace) (said_more judged) ∙ take-append-drop (k + 1) trace) all clean
+
+  pub same_said : a ≡ b
+  same_said = settled_law given.lines r.0 r.1 a b (sound a) (fast given.lines (sound a) given.right given.fast).0 (plain given.lines (sound b) given.right given.plain).0
+
+  pub given_more : AreGiven (take (k + 1) trace) d' j'
+  given_more = record {
+    lines = given.lines ++ line a ∷ [];
+    said = said_more a;
+    right = (fast given.lines (sound a) given.right given.fast).0;
+    fast = (fast given.lines (sound a) given.right given.fast).1;
+    plain = subst (λ c. FollowsPlainly (given.lines ++ line c ∷ []) j') (sym same_said) (plain given.lines (sound b) given.right given.plain).1;
+  }

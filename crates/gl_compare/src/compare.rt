@@ -1,0 +1,64 @@
+// The detector and the plain judge, side by side.
+ghost use Rattle.std.specs.Prelude.{All, IfOk, IsTrue};
+ghost use Rattle.gl_model.specs.TraceSteps.{IsStep, AreClean};
+
+use gl_core::Detector;
+use gl_model::{Item, Judged};
+use gl_shortcut::Cuts;
+use gl_slow::SlowJudge;
+use std::alloc::{AllocError, Global};
+
+/// A line of a trace: its thread, and what it says.
+pub type Line = (u8, Item);
+
+/// What was compared.
+#[derive(Clone, Copy)]
+pub struct Tally {
+    pub traces: u64,
+    pub lines: u64,
+    /// The lines that were raised.
+    pub raised: u64,
+}
+
+/// What was compared, and the first trace of which the two say different things.
+#[derive(Drop)]
+pub struct Outcome {
+    pub tally: Tally,
+    pub differing: Option<Vec<Line>>,
+}
+
+impl Tally {
+    pub fn new() -> Tally {
+        Tally {
+            traces: 0,
+            lines: 0,
+            raised: 0,
+        }
+    }
+
+    fn count(&mut self, judged: Judged) {
+        self.lines = self.lines.saturating_add(1);
+        if matches!(judged, Judged::Raised { .. }) {
+            self.raised = self.raised.saturating_add(1);
+        }
+    }
+}
+
+/// Whether both say the same of each line of a trace, up to the first of which they do not.
+pub fn agree(alloc: Global, trace: &[Line], tally: &mut Tally) -> Result<bool, AllocError>
+    requires { All IsStep trace.now }
+    ensures { AreClean trace.now → IfOk result IsTrue }
+{
+    let cuts = Cuts::none();
+    let mut detector = Detector::new(alloc)?;
+    let mut judge = SlowJudge::new(alloc)?;
+    tally.traces = tally.traces.saturating_add(1);
+    for (thread, item) in trace {
+        let judged = detector.step(*thread, item, &cuts)?;
+        if judge.step(alloc, *thread, item)? != judged {
+            return Ok(false);
+        }
+        tally.count(judged);
+    }
+    Ok(true)
+}

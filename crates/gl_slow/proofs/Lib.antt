@@ -1,0 +1,5 @@
+pub mod Unions
+pub mod Places
+pub mod Bridge
+pub mod Growth
+pub mod Steps
