@@ -2,7 +2,7 @@
 use Rattle.std.proofs.Common.{◌≡◌, ℕ, ◌+◌, ◌-◌, ◌<◌, ◌≤◌, List, [], ◌∷◌, ◌++◌, length, take, drop, get_or, set, refl, sym, ◌∙◌, ap, subst, inl, inr, arith, Some, None, true, false, Bool}
 use Rattle.std.specs.Prelude.{Option, ◌↔◌, ◌⊎◌, IsTrue, slice_range, not}
 use Rattle.std.proofs.lemmas.Bool.{cases_lt}
-use Rattle.std.proofs.lemmas.List.{take-append-drop, length-drop, drop-drop, get_or-set_same, get_or-set_other}
+use Rattle.std.proofs.lemmas.List.{take-append-drop, length-drop, drop-drop, take_more, get_or-drop, get_or-set_same, get_or-set_other}
 use native.Mathlib.Decide.{ℕ_discrete}
 use Rattle.std.proofs.Math.Seq.{drop-length}
 use Rattle.gl_model.specs.declared.event.Stamp.{Stamp}
@@ -11,11 +11,10 @@ use Rattle.gl_model.specs.declared.event.Element.TheVariants.{Thread}
 use Rattle.gl_model.specs.declared.row.Info.{Info}
 use Rattle.gl_model.specs.Lockset.{Has}
 use Rattle.gl_model.specs.Locksets.{Elements, AfterAcquiring, After, AfterAll, IsOrderedOrExcepted}
-use Rattle.gl_laws.proofs.Walks.{walk_more}
 use Rattle.gl_model.specs.declared.row.Question.{Question}
 use Rattle.gl_draws.specs.RowFacts.{read_of, set_after, Fails}
 use Rattle.gl_core.specs.Moved.{IsMoved, IsStepped, AreMoved}
-use Rattle.gl_core.proofs.Walked.{AfterAll-has, passes_greater, take_rest}
+use Rattle.gl_core.proofs.Walked.{AfterAll-has, passes_greater}
 
 abbrev pub SameSets : Elements → Elements → Type 0
 SameSets S T = (y : Element) → S y ↔ T y
@@ -36,55 +35,40 @@ pub all_append : (S : Elements) (xs ys : List Stamp) → AfterAll S (xs ++ ys) �
 all_append S [] ys = refl
 all_append S (x ∷ xs) ys = all_append (After S x) xs ys
 
--- a walk by k of the events behind the Info
-pub record IsWalked (rest : List Stamp) (old new : Info) (k : ℕ) : Type 0 where
-  pub thread : new.thread ≡ old.thread
-  pub write : new.write ≡ old.write
-  pub commit : new.commit ≡ old.commit
-  pub held : new.held ≡ old.held
-  pub pos : new.pos ≡ old.pos + k
-  pub set : (y : Element) → Has new.set y ↔ AfterAll (Has old.set) (take k rest) y
-
-pub stayed : (rest : List Stamp) (old : Info) → IsWalked rest old old 0
-stayed rest old = record { thread = refl; write = refl; commit = refl; held = refl; pos = omega arith; set = λ y. (λ c. c, λ c. c) }
-
-pub walked_more : (rest : List Stamp) (old mid new : Info) (k : ℕ) (s : Stamp) → IsWalked rest old mid k → k < length rest → s ≡ get_or rest k s → IsStepped s mid new → IsWalked rest old new (k + 1)
-walked_more rest old mid new k s w n is step =
-    let at = w.pos in
-    let next = step.pos in
-    record {
-      thread = step.thread ∙ w.thread;
-      write = step.write ∙ w.write;
-      commit = step.commit ∙ w.commit;
-      held = step.held ∙ w.held;
-      pos = omega arith;
-      set = walk_more (Has old.set) (Has mid.set) (Has new.set) rest k s n is w.set step.set;
-    }
-
-pub rest_length : (h rest : List Stamp) (p : ℕ) → rest ≡ take (length h - p) (drop p h) → p ≤ length h → length rest + p ≡ length h
-rest_length h rest p e n = omega (arith, ap length (e ∙ take_rest h p), length-drop p h)
-
-pub moved_by : (h rest : List Stamp) (old new : Info) (k : ℕ) → rest ≡ take (length h - old.pos) (drop old.pos h) → old.pos ≤ length h → k ≤ length rest → IsWalked rest old new k → IsMoved h old new
-moved_by h rest old new k e n less w =
-    let whole = rest_length h rest old.pos e n in
-    let at = w.pos in
-    let steps : k ≡ new.pos - old.pos = omega arith in
-    record {
-      thread = w.thread;
-      write = w.write;
-      commit = w.commit;
-      held = w.held;
-      forward = omega arith;
-      within = omega arith;
-      set = λ y. subst (λ xs. Has new.set y ↔ AfterAll (Has old.set) xs y) (ap (take k) (e ∙ take_rest h old.pos) ∙ ap (λ j. take j (drop old.pos h)) steps) (w.set y);
-    }
-
 -- nothing walked
 pub unmoved : (h : List Stamp) (i : Info) → i.pos ≤ length h → IsMoved h i i
 unmoved h i n =
     let none : i.pos - i.pos ≡ 0 = omega arith in
     let nothing : slice_range h i.pos i.pos ≡ [] = ap (λ j. take j (drop i.pos h)) none in
     record { thread = refl; write = refl; commit = refl; held = refl; forward = omega arith; within = n; set = λ y. subst (λ xs. Has i.set y ↔ AfterAll (Has i.set) xs y) (sym nothing) (λ c. c, λ c. c) }
+
+-- one event more
+pub range_more : (h : List Stamp) (a p : ℕ) (s : Stamp) → a ≤ p → p < length h → s ≡ get_or h p s → slice_range h a (p + 1) ≡ slice_range h a p ++ s ∷ []
+range_more h a p s le n is =
+    let far : p + 1 - a ≡ (p - a) + 1 = omega arith in
+    let back : a + (p - a) ≡ p = omega arith in
+    let here : get_or (drop a h) (p - a) s ≡ s = get_or-drop a h (p - a) s ∙ ap (λ k. get_or h k s) back ∙ sym is in
+    let long : p - a < length (drop a h) = omega (arith, length-drop a h) in
+    ap (λ k. take k (drop a h)) far ∙ take_more (drop a h) (p - a) s long ∙ ap (λ e. take (p - a) (drop a h) ++ e ∷ []) here
+
+-- the event at its position is walked too
+pub moved_more : (h : List Stamp) (old mid new : Info) (s : Stamp) → IsMoved h old mid → mid.pos < length h → s ≡ get_or h mid.pos s → IsStepped s mid new → IsMoved h old new
+moved_more h old mid new s m n is step =
+    let next = step.pos in
+    let forward = m.forward in
+    let S = AfterAll (Has old.set) (slice_range h old.pos mid.pos) in
+    let all : AfterAll (Has old.set) (slice_range h old.pos new.pos) ≡ After S s = ap (λ k. AfterAll (Has old.set) (slice_range h old.pos k)) next ∙ ap (AfterAll (Has old.set)) (range_more h old.pos mid.pos s forward n is) ∙ all_append (Has old.set) (slice_range h old.pos mid.pos) (s ∷ []) in
+    record {
+      thread = step.thread ∙ m.thread;
+      write = step.write ∙ m.write;
+      commit = step.commit ∙ m.commit;
+      held = step.held ∙ m.held;
+      forward = omega arith;
+      within = omega arith;
+      set = λ y.
+          let same = after_same (Has mid.set) S s m.set y in
+          subst (λ (T : Elements). Has new.set y ↔ T y) (sym all) (λ c. same.0 ((step.set y).0 c), λ c. (step.set y).1 (same.1 c));
+    }
 
 -- the events from one position on are those up to another, and those from there on
 pub range_then_rest : (h : List Stamp) (a b : ℕ) → a ≤ b → drop a h ≡ slice_range h a b ++ drop b h

@@ -1,7 +1,7 @@
 -- A walk that leaves events out finds no more than a walk over all.
 use Rattle.std.proofs.Common.{◌≡◌, ℕ, ◌+◌, ◌-◌, ◌<◌, ◌≤◌, List, [], ◌∷◌, ◌++◌, length, take, drop, get_or, sym, ◌∙◌, ap, subst, inl, inr, arith}
 use Rattle.std.specs.Prelude.{Option, slice_range}
-use Rattle.std.proofs.lemmas.List.{drop-drop, length-drop, take_more, get_or-drop}
+use Rattle.std.proofs.lemmas.List.{drop-drop}
 use Rattle.std.proofs.Math.Seq.{take-add}
 use Rattle.gl_model.specs.declared.event.Stamp.{Stamp}
 use Rattle.gl_model.specs.declared.event.Element.{Element}
@@ -13,7 +13,7 @@ use Rattle.gl_draws.specs.RowFacts.{set_after}
 use Rattle.gl_core.specs.Moved.{IsStepped}
 use Rattle.gl_core.specs.Pairs.{IsBelow}
 use Rattle.gl_core.proofs.Walked.{AfterAll-has, passes_greater, take_rest}
-use Rattle.gl_core.proofs.Kept.{all_append}
+use Rattle.gl_core.proofs.Kept.{all_append, range_more}
 
 abbrev pub IsPart : Elements → Elements → Type 0
 IsPart S T = (y : Element) → S y → T y
@@ -36,15 +36,6 @@ ranges h a b c one other =
 -- what was there before some events is there after them
 later : (S : Elements) (h : List Stamp) (a b c : ℕ) → a ≤ b → b ≤ c → (y : Element) → AfterAll S (slice_range h a b) y → AfterAll S (slice_range h a c) y
 later S h a b c one other y has = rw (ranges h a b c one other, all_append S (slice_range h a b) (slice_range h b c)) (AfterAll-has (AfterAll S (slice_range h a b)) (slice_range h b c) y has)
-
--- one event more
-range_more : (h : List Stamp) (a p : ℕ) (s : Stamp) → a ≤ p → p < length h → s ≡ get_or h p s → slice_range h a (p + 1) ≡ slice_range h a p ++ s ∷ []
-range_more h a p s le n is =
-    let far : p + 1 - a ≡ (p - a) + 1 = omega arith in
-    let back : a + (p - a) ≡ p = omega arith in
-    let here : get_or (drop a h) (p - a) s ≡ s = get_or-drop a h (p - a) s ∙ ap (λ k. get_or h k s) back ∙ sym is in
-    let long : p - a < length (drop a h) = omega (arith, length-drop a h) in
-    ap (λ k. take k (drop a h)) far ∙ take_more (drop a h) (p - a) s long ∙ ap (λ e. take (p - a) (drop a h) ++ e ∷ []) here
 
 -- nothing walked
 pub below_itself : (h : List Stamp) (i : Info) → i.pos ≤ length h → IsBelow h i i

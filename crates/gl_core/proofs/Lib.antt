@@ -10,6 +10,7 @@ pub mod RowSets
 pub mod Unions
 pub mod LeastHeld
 pub mod Paddings
+pub mod ShortStamps
 pub mod Costs
 pub mod Ready
 pub mod Steps

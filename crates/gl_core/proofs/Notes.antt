@@ -21,7 +21,8 @@ use Rattle.gl_draws.specs.Verdicts.{IsPlaced}
 use Rattle.gl_draws.proofs.EventTies.{new_event}
 use Rattle.gl_draws.proofs.OwnInfo.{own_info}
 use Rattle.gl_draws.proofs.TraceEvents.{allows_push}
-use Rattle.gl_core.specs.Noted.{IsNewInfo, IsNoted}
+use Rattle.gl_core.specs.Noted.{IsNewInfo, IsNoted, part_of}
+use Rattle.gl_core.specs.Rows.{asked_part}
 use Rattle.gl_core.proofs.Owners.{state_at, least_owned}
 use Rattle.gl_core.proofs.Threading.{replicate_at}
 
@@ -137,3 +138,8 @@ module _ (setting : Setting) (h : List Stamp) (now : State) (allowed : Allows se
         within = omega arith;
         set = λ y. subst (λ r. Has i.set y ↔ AfterAll (InitialLockset d.thread (variables_in d.what)) r y) (sym nothing) (starts y);
       }
+
+-- what is kept of a commit in the row of one of its variables, by what is kept of it in a row that it reads
+pub part_new : (t : ℕ) (variables writes held : List ℕ) (at x : ℕ) (first : Info) → IsNewInfo (asked_part t variables [] held 0) at first
+    → IsNewInfo (asked_part t variables writes held x) at (part_of first writes x)
+part_new t variables writes held at x first new = record { thread = new.thread; write = refl; commit = new.commit; held = new.held; pos = new.pos; set = new.set }

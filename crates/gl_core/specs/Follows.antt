@@ -35,16 +35,16 @@ pub record AreReady (h : List Stamp) (kept : List Row) (seen : Threads) : Type 0
 
 -- the detector was given these lines
 abbrev pub Follows : List Line → Detector → Type 0
-Follows lines d = AreFollowed lines d.events.items d.rows.items d.threads
+Follows lines d = AreFollowed lines d.events.stamps d.rows.items d.threads
 
 -- the same of a detector, and what it knows of last writes is so
 pub record IsReady (d : Detector) : Type 0 where
-  pub kept : AreReady d.events.items d.rows.items d.threads
-  pub known : AreKnown d.events.items d.rows.items d.known.threads.items
+  pub kept : AreReady d.events.stamps d.rows.items d.threads
+  pub known : AreKnown d.events.stamps d.rows.items d.known.threads.items
 
 -- nothing that the detector keeps of events, variables and threads has changed
 pub record IsAsBefore (old new : Detector) : Type 0 where
-  pub events : new.events.items ≡ old.events.items
+  pub events : new.events.stamps ≡ old.events.stamps
   pub rows : (y : ℕ) → row_of new.rows.items y ≡ row_of old.rows.items y
   pub threads : new.threads ≡ old.threads
   pub walked : new.walked ≡ old.walked
@@ -59,7 +59,7 @@ IsStepped t item judged old new =
 
 -- the events walked so far, with those that are ahead of the Infos kept, are at most all events for each Info made, however many come
 abbrev pub IsWithinCost : List Line → Detector → Type 0
-IsWithinCost lines d = (n : ℕ) → length d.events.items ≤ n → d.walked + ahead_of_rows d.rows.items n ≤ infos_made lines * n
+IsWithinCost lines d = (n : ℕ) → length d.events.stamps ≤ n → d.walked + ahead_of_rows d.rows.items n ≤ infos_made lines * n
 
 -- this next line keeps within the cost, wherever it is no commit of more variables than a transaction may have
 abbrev pub KeepsCost : ℕ → Item → Judged → Detector → Detector → Type 0

@@ -8,6 +8,8 @@ pub mod Without
 pub mod Tracks
 pub mod Pairs
 pub mod Rows
+pub mod EventsView
+pub mod ShortStamps
 pub mod Cost
 pub mod Known
 pub mod Follows

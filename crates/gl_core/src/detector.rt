@@ -1,19 +1,20 @@
 ghost use Rattle.std.specs.Prelude.{◌≡◌};
 
 use crate::compact::KeptRow;
+use crate::events::Events;
 use crate::known::{Known, judge_access};
 use crate::lines::{all_of, first_events, judge_commit, make_all_rows, make_rows, plain, push_act};
 use crate::positions::Positions;
 use crate::reads::Spares;
 use crate::threads::Threads;
-use gl_model::{Act, Item, Judged, Stamp, VarSet};
+use gl_model::{Act, Item, Judged, VARIABLES, VarSet};
 use gl_shortcut::Cuts;
 use std::alloc::{AllocError, Global};
 
 /// Judges the lines of a trace, one after another.
 #[derive(Drop)]
 pub struct Detector {
-    events: Vec<Stamp>,
+    events: Events,
     rows: Vec<KeptRow>,
     threads: Threads,
     known: Known,
@@ -42,11 +43,12 @@ impl Detector {
         ensures cost { IfOk result (IsWithinCost []) }
     {
         let events = first_events(alloc)?;
+        let rows = Vec::with_capacity(alloc, VARIABLES as usize)?;
         let mut positions = Positions::new(alloc)?;
         positions.take(&events, 0);
         Ok(Detector {
             events,
-            rows: Vec::new(alloc),
+            rows,
             threads: Threads::new(),
             known: Known::new(alloc),
             positions,
@@ -79,7 +81,7 @@ impl Detector {
     /// the detector was given these lines.
     pub fn walked(&self) -> u64
         ensures count { result ≡ self.now.walked }
-        ensures cost { (lines : List Line) → IsWithinCost lines self.now → result ≤ infos_made lines * length self.now.events.items }
+        ensures cost { (lines : List Line) → IsWithinCost lines self.now → result ≤ infos_made lines * length self.now.events.stamps }
     {
         self.walked
     }
@@ -91,8 +93,8 @@ impl Detector {
         ensures ready { IsReady self.new }
         ensures rows { self.new.rows.items ≡ self.old.rows.items }
         ensures walked { self.new.walked ≡ self.old.walked }
-        ensures longer { length self.old.events.items ≤ length self.new.events.items }
-        ensures events { OnOk result ((steps : List Step) → Tracks steps self.old.threads → self.new.events.items ≡ after_act (joins_ended steps act) self.old.events.items thread act) }
+        ensures longer { length self.old.events.stamps ≤ length self.new.events.stamps }
+        ensures events { OnOk result ((steps : List Step) → Tracks steps self.old.threads → self.new.events.stamps ≡ after_act (joins_ended steps act) self.old.events.stamps thread act) }
         ensures threads { OnOk result ((steps : List Step) → Tracks steps self.old.threads → Tracks (steps ++ (thread, Acts act) ∷ []) self.new.threads) }
         ensures err { OnErr result (IsAsBefore self.old self.new) }
     {
@@ -131,11 +133,11 @@ impl Detector {
         requires thread { thread < THREADS }
         requires var { var < VARIABLES }
         ensures ready { IsReady self.new }
-        ensures events { self.new.events.items ≡ self.old.events.items }
+        ensures events { self.new.events.stamps ≡ self.old.events.stamps }
         ensures threads { self.new.threads ≡ self.old.threads }
         ensures others { (y : ℕ) → (y ≡ var → ⊥) → row_of self.new.rows.items y ≡ row_of self.old.rows.items y }
-        ensures cost { IfOk result (λ judged. IsPaid self.old.events.items (made_by judged 1) self.old.walked self.new.walked (ahead_of_rows self.old.rows.items) (ahead_of_rows self.new.rows.items)) }
-        ensures done { IfOk result (λ judged. (held : List ℕ) × AreLeastHeld (λ m. slice_index_or self.old.threads.holders m None) thread held × PlainDone self.old.events.items (row_of self.old.rows.items var) (asked_plain thread write held) var judged (row_of self.new.rows.items var)) }
+        ensures cost { IfOk result (λ judged. IsPaid self.old.events.stamps (made_by judged 1) self.old.walked self.new.walked (ahead_of_rows self.old.rows.items) (ahead_of_rows self.new.rows.items)) }
+        ensures done { IfOk result (λ judged. (held : List ℕ) × AreLeastHeld (λ m. slice_index_or self.old.threads.holders m None) thread held × PlainDone self.old.events.stamps (row_of self.old.rows.items var) (asked_plain thread write held) var judged (row_of self.new.rows.items var)) }
         ensures err { OnErr result (IsAsBefore self.old self.new) }
     {
         make_rows(&mut self.rows, var)?;
@@ -159,9 +161,9 @@ impl Detector {
         requires thread { thread < THREADS }
         ensures ready { IsReady self.new }
         ensures threads { self.new.threads ≡ self.old.threads }
-        ensures longer { length self.old.events.items ≤ length self.new.events.items }
-        ensures cost { IfOk result (λ judged. length (with_all writes.now reads.now) ≤ TX_VARIABLES → IsPaid self.old.events.items (made_by judged (length (with_all writes.now reads.now))) self.old.walked self.new.walked (ahead_of_rows self.old.rows.items) (ahead_of_rows self.new.rows.items)) }
-        ensures done { IfOk result (λ judged. (held : List ℕ) × (variables : List ℕ) × AreLeastHeld (λ m. slice_index_or self.old.threads.holders m None) thread held × (length (with_all writes.now reads.now) ≤ TX_VARIABLES → variables ≡ with_all writes.now reads.now) × CommitDone self.old.events.items self.old.rows.items thread variables (asked_part thread variables writes.now held) judged self.new.events.items self.new.rows.items) }
+        ensures longer { length self.old.events.stamps ≤ length self.new.events.stamps }
+        ensures cost { IfOk result (λ judged. length (with_all writes.now reads.now) ≤ TX_VARIABLES → IsPaid self.old.events.stamps (made_by judged (length (with_all writes.now reads.now))) self.old.walked self.new.walked (ahead_of_rows self.old.rows.items) (ahead_of_rows self.new.rows.items)) }
+        ensures done { IfOk result (λ judged. (held : List ℕ) × (variables : List ℕ) × AreLeastHeld (λ m. slice_index_or self.old.threads.holders m None) thread held × (length (with_all writes.now reads.now) ≤ TX_VARIABLES → variables ≡ with_all writes.now reads.now) × CommitDone self.old.events.stamps self.old.rows.items thread variables (asked_part thread variables writes.now held) judged self.new.events.stamps self.new.rows.items) }
         ensures err { OnErr result (IsAsBefore self.old self.new) }
     {
         self.events.reserve(1)?;
@@ -173,6 +175,7 @@ impl Detector {
         let judged = judge_commit(
             &mut self.rows,
             &mut self.events,
+            &self.positions,
             thread,
             held,
             &variables,

@@ -6,9 +6,12 @@ ghost use Rattle.gl_model.specs.Elements.{IsStampInRange};
 ghost use Rattle.gl_model.specs.Lockset.{Has};
 ghost use Rattle.gl_draws.specs.RowFacts.{Fails};
 ghost use Rattle.gl_core.specs.Cost.{ahead, IsPaid};
-ghost use Rattle.gl_core.specs.Moved.{IsMoved, IsStepped, AreMoved};
+ghost use Rattle.gl_core.specs.Moved.{IsMoved, IsStepped};
 
+use crate::events::Events;
 use crate::judging::passes;
+use crate::pairs::few_pass;
+use crate::positions::Positions;
 use gl_model::{Element, Info, Question, Stamp};
 
 // Walks the Info over one event.
@@ -22,16 +25,15 @@ pub(crate) fn step_on(info: &mut Info, stamp: &Stamp)
 }
 
 // Walks the Info on, to the end of the events or until the thread is in its set.
-fn walk_on(info: &mut Info, thread: u8, events: &[Stamp])
+fn walk_on(info: &mut Info, thread: u8, events: &Events)
     requires thread { thread < THREADS }
-    requires stamps { All IsStampInRange events.now }
-    requires within { info.old.pos ≤ length events.now }
-    ensures moved { IsMoved events.now info.old info.new }
-    ensures far { (info.new.pos ≡ length events.now) ⊎ Has info.new.set (Thread thread) }
+    requires stamps { All IsStampInRange events.now.stamps }
+    requires within { info.old.pos ≤ length events.now.stamps }
+    ensures moved { IsMoved events.now.stamps info.old info.new }
+    ensures far { (info.new.pos ≡ length events.now.stamps) ⊎ Has info.new.set (Thread thread) }
 {
-    let rest = &events[info.pos as usize..];
-    for stamp in rest {
-        step_on(info, stamp);
+    for at in info.pos as usize..events.len() {
+        events.step(at, info);
         if info.set.has(Element::Thread(thread)) {
             return;
         }
@@ -39,12 +41,12 @@ fn walk_on(info: &mut Info, thread: u8, events: &[Stamp])
 }
 
 // Walks the Info on, and counts the events walked.
-fn walk_counted(info: &mut Info, thread: u8, events: &[Stamp], walked: &mut u64)
+fn walk_counted(info: &mut Info, thread: u8, events: &Events, walked: &mut u64)
     requires thread { thread < THREADS }
-    requires stamps { All IsStampInRange events.now }
-    requires within { info.old.pos ≤ length events.now }
-    ensures moved { IsMoved events.now info.old info.new }
-    ensures far { (info.new.pos ≡ length events.now) ⊎ Has info.new.set (Thread thread) }
+    requires stamps { All IsStampInRange events.now.stamps }
+    requires within { info.old.pos ≤ length events.now.stamps }
+    ensures moved { IsMoved events.now.stamps info.old info.new }
+    ensures far { (info.new.pos ≡ length events.now.stamps) ⊎ Has info.new.set (Thread thread) }
     ensures counted { walked.new ≡ min (walked.old + (info.new.pos - info.old.pos)) (2 ^ 64 - 1) }
 {
     let from = info.pos;
@@ -53,13 +55,13 @@ fn walk_counted(info: &mut Info, thread: u8, events: &[Stamp], walked: &mut u64)
 }
 
 // Whether the Info's access fails the test of the question's over all events.
-pub(crate) fn fails_on(info: &mut Info, q: &Question, events: &[Stamp], walked: &mut u64) -> bool
+pub(crate) fn fails_on(info: &mut Info, q: &Question, events: &Events, walked: &mut u64) -> bool
     requires thread { q.now.thread < THREADS }
-    requires stamps { All IsStampInRange events.now }
-    requires within { info.old.pos ≤ length events.now }
-    ensures moved { IsMoved events.now info.old info.new }
-    ensures fails { IsTrue result ↔ Fails events.now info.old q.now.thread q.now.commit }
-    ensures cost { IsPaid events.now 0 walked.old walked.new (ahead (Some info.old)) (ahead (Some info.new)) }
+    requires stamps { All IsStampInRange events.now.stamps }
+    requires within { info.old.pos ≤ length events.now.stamps }
+    ensures moved { IsMoved events.now.stamps info.old info.new }
+    ensures fails { IsTrue result ↔ Fails events.now.stamps info.old q.now.thread q.now.commit }
+    ensures cost { IsPaid events.now.stamps 0 walked.old walked.new (ahead (Some info.old)) (ahead (Some info.new)) }
 {
     if passes(&info.set, q) {
         return false;
@@ -68,21 +70,27 @@ pub(crate) fn fails_on(info: &mut Info, q: &Question, events: &[Stamp], walked: 
     !passes(&info.set, q)
 }
 
-pub(crate) fn kept_fails_on(
-    kept: &mut Option<Info>,
+// Over so many events a walk is as short as a look at a few.
+const NEAR: u64 = 8;
+
+// The same, where before a long walk a few events are looked at.
+pub(crate) fn fails_behind_look(
+    info: &mut Info,
     q: &Question,
-    events: &[Stamp],
+    events: &Events,
+    positions: &Positions,
     walked: &mut u64,
 ) -> bool
     requires thread { q.now.thread < THREADS }
-    requires stamps { All IsStampInRange events.now }
-    requires within { (i : Info) → kept.old ≡ Some i → i.pos ≤ length events.now }
-    ensures moved { AreMoved events.now kept.old kept.new }
-    ensures fails { IsTrue result ↔ ((i : Info) × (kept.old ≡ Some i) × Fails events.now i q.now.thread q.now.commit) }
-    ensures cost { IsPaid events.now 0 walked.old walked.new (ahead kept.old) (ahead kept.new) }
+    requires stamps { All IsStampInRange events.now.stamps }
+    requires within { info.old.pos ≤ length events.now.stamps }
+    ensures moved { IsMoved events.now.stamps info.old info.new }
+    ensures fails { IsTrue result ↔ Fails events.now.stamps info.old q.now.thread q.now.commit }
+    ensures cost { IsPaid events.now.stamps 0 walked.old walked.new (ahead (Some info.old)) (ahead (Some info.new)) }
 {
-    match kept {
-        None => false,
-        Some(info) => fails_on(info, q, events, walked),
+    let ahead = events.len() as u64 - info.pos;
+    if ahead > NEAR && few_pass(info, q, events, positions) {
+        return false;
     }
+    fails_on(info, q, events, walked)
 }

@@ -9,10 +9,11 @@ ghost use Rattle.gl_core.specs.Known.{AreKnown};
 ghost use Rattle.gl_core.specs.Rows.{row_of, PlainDone};
 
 use crate::compact::KeptRow;
+use crate::events::Events;
 use crate::lines::judge_plain;
 use crate::positions::Positions;
 use crate::reads::Spares;
-use gl_model::{Info, Judged, Question, Stamp, THREADS, VarSet};
+use gl_model::{Info, Judged, Question, THREADS, VarSet};
 use std::alloc::{AllocError, Global};
 
 // For each variable, as far as there are rows, what is known of each thread.
@@ -110,17 +111,17 @@ fn is_ordered(
     rows: &[KeptRow],
     var: u16,
     q: &Question,
-    events: &[Stamp],
+    events: &Events,
     positions: &Positions,
 ) -> bool
     requires thread { q.now.thread < THREADS }
     requires plain { q.now.commit ≡ None }
-    requires stamps { All IsStampInRange events.now }
+    requires stamps { All IsStampInRange events.now.stamps }
     requires var { var < length rows.now }
-    requires within { (y : ℕ) → IsWithin (row_of rows.now y) (length events.now) }
-    requires known { AreKnown events.now rows.now known.old.threads.items }
-    ensures known { AreKnown events.now rows.now known.new.threads.items }
-    ensures ordered { IsTrue result → (i : Info) → (row_of rows.now var).last_write ≡ Some i → set_after events.now i (Thread q.now.thread) }
+    requires within { (y : ℕ) → IsWithin (row_of rows.now y) (length events.now.stamps) }
+    requires known { AreKnown events.now.stamps rows.now known.old.threads.items }
+    ensures known { AreKnown events.now.stamps rows.now known.new.threads.items }
+    ensures ordered { IsTrue result → (i : Info) → (row_of rows.now var).last_write ≡ Some i → set_after events.now.stamps i (Thread q.now.thread) }
 {
     if known.has(var, q.thread) {
         return true;
@@ -139,24 +140,24 @@ pub(crate) fn judge_access(
     positions: &Positions,
     var: u16,
     q: &Question,
-    events: &[Stamp],
+    events: &Events,
     spares: &mut Spares,
     walked: &mut u64,
 ) -> Judged
     requires thread { q.now.thread < THREADS }
     requires spare { 0 < spares.old }
     requires plain { q.now.commit ≡ None }
-    requires stamps { All IsStampInRange events.now }
+    requires stamps { All IsStampInRange events.now.stamps }
     requires var { var < length rows.old }
-    requires within { (y : ℕ) → IsWithin (row_of rows.old y) (length events.now) }
-    requires known { AreKnown events.now rows.old known.old.threads.items }
-    ensures done { PlainDone events.now (row_of rows.old var) q.now var result (row_of rows.new var) }
+    requires within { (y : ℕ) → IsWithin (row_of rows.old y) (length events.now.stamps) }
+    requires known { AreKnown events.now.stamps rows.old known.old.threads.items }
+    ensures done { PlainDone events.now.stamps (row_of rows.old var) q.now var result (row_of rows.new var) }
     ensures others { (y : ℕ) → (y ≡ var → ⊥) → row_of rows.new y ≡ row_of rows.old y }
-    ensures known { AreKnown events.now rows.new known.new.threads.items }
-    ensures cost { IsPaid events.now (made_by result 1) walked.old walked.new (ahead_of_rows rows.old) (ahead_of_rows rows.new) }
+    ensures known { AreKnown events.now.stamps rows.new known.new.threads.items }
+    ensures cost { IsPaid events.now.stamps (made_by result 1) walked.old walked.new (ahead_of_rows rows.old) (ahead_of_rows rows.new) }
 {
     let ordered = is_ordered(known, rows, var, q, events, positions);
-    let judged = judge_plain(rows, var, q, events, ordered, spares, walked);
+    let judged = judge_plain(rows, var, q, events, positions, ordered, spares, walked);
     known.forget_written(var, q.write);
     judged
 }

@@ -3,6 +3,7 @@
 
 mod compact;
 mod detector;
+mod events;
 mod judging;
 mod keeping;
 mod known;

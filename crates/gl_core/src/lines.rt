@@ -1,5 +1,5 @@
 // What a line of a trace does to the rows and the events.
-ghost use Rattle.std.specs.Prelude.{◌≡◌, ◌↔◌, ℕ, ◌+◌, ◌*◌, if◌then◌else◌, ◌<◌, ◌≤◌, true, false, Some, IsTrue, IfOk, OnOk, OnErr, List, ◌++◌, [], length, All, Contains, vec_len, vec_capacity};
+ghost use Rattle.std.specs.Prelude.{◌≡◌, ◌↔◌, ℕ, ◌+◌, ◌*◌, if◌then◌else◌, ◌<◌, ◌≤◌, true, false, Some, IsTrue, IfOk, OnOk, OnErr, List, ◌++◌, [], length, All, Contains};
 ghost use Rattle.gl_model.specs.declared.limits.TheConstants.{THREADS, VARIABLES, TX_VARIABLES};
 ghost use Rattle.gl_model.specs.declared.row.Row.{Row};
 ghost use Rattle.gl_model.specs.Elements.{IsStampInRange};
@@ -8,10 +8,13 @@ ghost use Rattle.gl_model.specs.Trace.{is_in};
 ghost use Rattle.gl_draws.specs.RowFacts.{Fails, SomeFails, IsWithin};
 ghost use Rattle.gl_core.specs.Cost.{ahead_of_row, ahead_of_rows, made_by, IsPaid};
 ghost use Rattle.gl_core.specs.Moved.{IsRowMoved};
-ghost use Rattle.gl_core.specs.Noted.{IsNoted};
+ghost use Rattle.gl_core.specs.Noted.{IsNoted, part_of};
 ghost use Rattle.gl_core.specs.Rows.{row_of, asked_plain, asked_part, AreRowsMoved, IsLeast, lower_of, AreNoted, with_act, after_act, PlainDone, CommitDone};
 
 use crate::compact::KeptRow;
+use crate::events::Events;
+use crate::noting::new_info;
+use crate::positions::Positions;
 use crate::reads::Spares;
 use gl_model::{Act, Event, Held, Info, Judged, Question, Stamp, VarSet};
 use std::alloc::{AllocError, Global};
@@ -59,12 +62,17 @@ pub(crate) fn make_all_rows(rows: &mut Vec<KeptRow>, variables: &VarSet) -> Resu
     Ok(())
 }
 
+// Room for so many events is taken at first. A page of it is only touched when an event comes to stand there, so that a list which grows
+// is not copied, and no page is touched twice.
+const EVENTS_ROOM: usize = 16_384;
+
 // The events before the first line: thread 0 begins.
-pub(crate) fn first_events(alloc: Global) -> Result<Vec<Stamp>, AllocError>
-    ensures { IfOk result (λ events. events.items ≡ with_act [] 0 (Act.Begin 0)) }
+pub(crate) fn first_events(alloc: Global) -> Result<Events, AllocError>
+    ensures { IfOk result (λ events. events.stamps ≡ with_act [] 0 (Act.Begin 0)) }
 {
-    let mut events = Vec::with_capacity(alloc, 1)?;
-    events.push_reserved(Stamp {
+    let mut events = Events::new(alloc);
+    events.reserve(EVENTS_ROOM)?;
+    events.push(Stamp {
         thread: 0,
         event: Event::Act(Act::Begin(0)),
     });
@@ -72,13 +80,12 @@ pub(crate) fn first_events(alloc: Global) -> Result<Vec<Stamp>, AllocError>
 }
 
 // One event more, of the thread.
-fn push_one(events: &mut Vec<Stamp>, thread: u8, act: Act)
-    requires { vec_len events.old + 1 ≤ vec_capacity events.old }
-    ensures items { events.new.items ≡ with_act events.old.items thread act }
-    ensures len { vec_len events.new ≡ vec_len events.old + 1 }
-    ensures capacity { vec_capacity events.new ≡ vec_capacity events.old }
+fn push_one(events: &mut Events, thread: u8, act: Act)
+    requires { 0 < events.old.room }
+    ensures stamps { events.new.stamps ≡ with_act events.old.stamps thread act }
+    ensures room { events.old.room ≤ events.new.room + 1 }
 {
-    events.push_reserved(Stamp {
+    events.push(Stamp {
         thread,
         event: Event::Act(act),
     });
@@ -104,9 +111,9 @@ pub(crate) fn all_of(reads: &VarSet, writes: &VarSet) -> VarSet
 }
 
 // The events of an act: who is joined ends first, where it has not ended, and who is forked begins.
-pub(crate) fn push_act(events: &mut Vec<Stamp>, thread: u8, act: Act, over: bool)
-    requires { vec_len events.old + 2 ≤ vec_capacity events.old }
-    ensures { events.new.items ≡ after_act over events.old.items thread act }
+pub(crate) fn push_act(events: &mut Events, thread: u8, act: Act, over: bool)
+    requires { 2 ≤ events.old.room }
+    ensures { events.new.stamps ≡ after_act over events.old.stamps thread act }
 {
     match act {
         Act::Fork { child, func } => {
@@ -162,26 +169,39 @@ fn part(thread: u8, variables: &VarSet, writes: &VarSet, held: Held, var: u16) -
     }
 }
 
+// A commit on these variables, as one that reads.
+fn whole(thread: u8, variables: &VarSet, held: Held) -> Question
+    ensures { result ≡ asked_part thread variables.now [] held 0 }
+{
+    Question {
+        thread,
+        write: false,
+        commit: Some(*variables),
+        held,
+    }
+}
+
 // Whether some Info of the row that conflicts with the question fails its test; the last write's passes where that is told.
 fn conflicts(
     row: &mut KeptRow,
     q: &Question,
-    events: &[Stamp],
+    events: &Events,
+    positions: &Positions,
     ordered: bool,
     walked: &mut u64,
 ) -> bool
     requires thread { q.now.thread < THREADS }
-    requires stamps { All IsStampInRange events.now }
-    requires within { IsWithin row.old (length events.now) }
-    requires ordered { ordered ≡ true → (i : Info) → row.old.last_write ≡ Some i → Fails events.now i q.now.thread q.now.commit → ⊥ }
-    ensures moved { IsRowMoved events.now row.old row.new }
-    ensures fails { IsTrue result ↔ SomeFails events.now row.old q.now }
-    ensures cost { IsPaid events.now 0 walked.old walked.new (ahead_of_row row.old) (ahead_of_row row.new) }
+    requires stamps { All IsStampInRange events.now.stamps }
+    requires within { IsWithin row.old (length events.now.stamps) }
+    requires ordered { ordered ≡ true → (i : Info) → row.old.last_write ≡ Some i → Fails events.now.stamps i q.now.thread q.now.commit → ⊥ }
+    ensures moved { IsRowMoved events.now.stamps row.old row.new }
+    ensures fails { IsTrue result ↔ SomeFails events.now.stamps row.old q.now }
+    ensures cost { IsPaid events.now.stamps 0 walked.old walked.new (ahead_of_row row.old) (ahead_of_row row.new) }
 {
     if ordered {
-        row.reads_fail(q, events, walked)
+        row.reads_fail(q, events, positions, walked)
     } else {
-        row.fails(q, events, walked)
+        row.fails(q, events, positions, walked)
     }
 }
 
@@ -189,22 +209,23 @@ fn conflicts(
 pub(crate) fn access_row(
     row: &mut KeptRow,
     q: &Question,
-    events: &[Stamp],
+    events: &Events,
+    positions: &Positions,
     ordered: bool,
     spares: &mut Spares,
     walked: &mut u64,
 ) -> bool
     requires thread { q.now.thread < THREADS }
     requires spare { 0 < spares.old }
-    requires stamps { All IsStampInRange events.now }
-    requires within { IsWithin row.old (length events.now) }
-    requires ordered { ordered ≡ true → (i : Info) → row.old.last_write ≡ Some i → Fails events.now i q.now.thread q.now.commit → ⊥ }
-    ensures fails { IsTrue result ↔ SomeFails events.now row.old q.now }
-    ensures raised { result ≡ true → IsRowMoved events.now row.old row.new }
-    ensures noted { result ≡ false → (mid : Row) × IsRowMoved events.now row.old mid × IsNoted mid q.now (length events.now) row.new }
-    ensures cost { IsPaid events.now (if result then 0 else 1) walked.old walked.new (ahead_of_row row.old) (ahead_of_row row.new) }
+    requires stamps { All IsStampInRange events.now.stamps }
+    requires within { IsWithin row.old (length events.now.stamps) }
+    requires ordered { ordered ≡ true → (i : Info) → row.old.last_write ≡ Some i → Fails events.now.stamps i q.now.thread q.now.commit → ⊥ }
+    ensures fails { IsTrue result ↔ SomeFails events.now.stamps row.old q.now }
+    ensures raised { result ≡ true → IsRowMoved events.now.stamps row.old row.new }
+    ensures noted { result ≡ false → (mid : Row) × IsRowMoved events.now.stamps row.old mid × IsNoted mid q.now (length events.now.stamps) row.new }
+    ensures cost { IsPaid events.now.stamps (if result then 0 else 1) walked.old walked.new (ahead_of_row row.old) (ahead_of_row row.new) }
 {
-    if conflicts(row, q, events, ordered, walked) {
+    if conflicts(row, q, events, positions, ordered, walked) {
         return true;
     }
     row.note(q, events.len() as u64, spares);
@@ -228,25 +249,35 @@ pub(crate) fn least_race(
     held: Held,
     variables: &VarSet,
     writes: &VarSet,
-    events: &[Stamp],
+    events: &Events,
+    positions: &Positions,
     walked: &mut u64,
 ) -> Option<u16>
     requires thread { thread < THREADS }
-    requires stamps { All IsStampInRange events.now }
+    requires stamps { All IsStampInRange events.now.stamps }
     requires rows { All (λ x. x < length rows.old) variables.now }
-    requires within { (y : ℕ) → IsWithin (row_of rows.old y) (length events.now) }
-    ensures moved { AreRowsMoved events.now rows.old rows.new }
-    ensures least { IsLeast (λ y. SomeFails events.now (row_of rows.old y) (asked_part thread variables.now writes.now held y)) variables.now result }
-    ensures cost { IsPaid events.now 0 walked.old walked.new (ahead_of_rows rows.old) (ahead_of_rows rows.new) }
+    requires within { (y : ℕ) → IsWithin (row_of rows.old y) (length events.now.stamps) }
+    ensures moved { AreRowsMoved events.now.stamps rows.old rows.new }
+    ensures least { IsLeast (λ y. SomeFails events.now.stamps (row_of rows.old y) (asked_part thread variables.now writes.now held y)) variables.now result }
+    ensures cost { IsPaid events.now.stamps 0 walked.old walked.new (ahead_of_rows rows.old) (ahead_of_rows rows.new) }
 {
     let mut least = None;
     for var in variables.ids() {
         let q = part(thread, variables, writes, held, *var);
-        if rows[*var as usize].fails(&q, events, walked) {
+        if rows[*var as usize].fails(&q, events, positions, walked) {
             least = lower(least, *var);
         }
     }
     least
+}
+
+// What is kept of a commit in the row of one of its variables, by what is kept of it in a row that it reads.
+fn part_info(start: &Info, writes: &VarSet, var: u16) -> Info
+    ensures { result ≡ part_of start.now writes.now var }
+{
+    let mut info = *start;
+    info.write = writes_to(writes, var);
+    info
 }
 
 // Notes a commit of the thread in the row of each of its variables.
@@ -265,9 +296,10 @@ pub(crate) fn note_each(
     ensures noted { AreNoted variables.now (asked_part thread variables.now writes.now held) pos rows.old rows.new }
     ensures cost { (n : ℕ) → ahead_of_rows rows.new n ≤ ahead_of_rows rows.old n + length variables.now * n }
 {
+    let start = new_info(&whole(thread, variables, held), pos);
     for var in variables.ids() {
-        let q = part(thread, variables, writes, held, *var);
-        rows[*var as usize].note(&q, pos, spares);
+        let info = part_info(&start, writes, *var);
+        rows[*var as usize].keep(&info, spares);
     }
 }
 
@@ -276,22 +308,31 @@ pub(crate) fn judge_plain(
     rows: &mut [KeptRow],
     var: u16,
     q: &Question,
-    events: &[Stamp],
+    events: &Events,
+    positions: &Positions,
     ordered: bool,
     spares: &mut Spares,
     walked: &mut u64,
 ) -> Judged
     requires thread { q.now.thread < THREADS }
     requires spare { 0 < spares.old }
-    requires stamps { All IsStampInRange events.now }
+    requires stamps { All IsStampInRange events.now.stamps }
     requires var { var < length rows.old }
-    requires within { (y : ℕ) → IsWithin (row_of rows.old y) (length events.now) }
-    requires ordered { ordered ≡ true → (i : Info) → (row_of rows.old var).last_write ≡ Some i → Fails events.now i q.now.thread q.now.commit → ⊥ }
-    ensures done { PlainDone events.now (row_of rows.old var) q.now var result (row_of rows.new var) }
+    requires within { (y : ℕ) → IsWithin (row_of rows.old y) (length events.now.stamps) }
+    requires ordered { ordered ≡ true → (i : Info) → (row_of rows.old var).last_write ≡ Some i → Fails events.now.stamps i q.now.thread q.now.commit → ⊥ }
+    ensures done { PlainDone events.now.stamps (row_of rows.old var) q.now var result (row_of rows.new var) }
     ensures others { (y : ℕ) → (y ≡ var → ⊥) → row_of rows.new y ≡ row_of rows.old y }
-    ensures cost { IsPaid events.now (made_by result 1) walked.old walked.new (ahead_of_rows rows.old) (ahead_of_rows rows.new) }
+    ensures cost { IsPaid events.now.stamps (made_by result 1) walked.old walked.new (ahead_of_rows rows.old) (ahead_of_rows rows.new) }
 {
-    if access_row(&mut rows[var as usize], q, events, ordered, spares, walked) {
+    if access_row(
+        &mut rows[var as usize],
+        q,
+        events,
+        positions,
+        ordered,
+        spares,
+        walked,
+    ) {
         Judged::Raised { var }
     } else {
         Judged::Performed
@@ -301,7 +342,8 @@ pub(crate) fn judge_plain(
 // Judges a commit of the thread, for whose event and reads there is room.
 pub(crate) fn judge_commit(
     rows: &mut [KeptRow],
-    events: &mut Vec<Stamp>,
+    events: &mut Events,
+    positions: &Positions,
     thread: u8,
     held: Held,
     variables: &VarSet,
@@ -311,18 +353,20 @@ pub(crate) fn judge_commit(
 ) -> Judged
     requires thread { thread < THREADS }
     requires spares { length variables.now ≤ spares.old }
-    requires room { vec_len events.old < vec_capacity events.old }
-    requires stamps { All IsStampInRange events.old.items }
+    requires room { 0 < events.old.room }
+    requires stamps { All IsStampInRange events.old.stamps }
     requires rows { All (λ x. x < length rows.old) variables.now }
-    requires within { (y : ℕ) → IsWithin (row_of rows.old y) (length events.old.items) }
-    ensures done { CommitDone events.old.items rows.old thread variables.now (asked_part thread variables.now writes.now held) result events.new.items rows.new }
-    ensures longer { length events.old.items ≤ length events.new.items }
-    ensures cost { IsPaid events.old.items (made_by result (length variables.now)) walked.old walked.new (ahead_of_rows rows.old) (ahead_of_rows rows.new) }
+    requires within { (y : ℕ) → IsWithin (row_of rows.old y) (length events.old.stamps) }
+    ensures done { CommitDone events.old.stamps rows.old thread variables.now (asked_part thread variables.now writes.now held) result events.new.stamps rows.new }
+    ensures longer { length events.old.stamps ≤ length events.new.stamps }
+    ensures cost { IsPaid events.old.stamps (made_by result (length variables.now)) walked.old walked.new (ahead_of_rows rows.old) (ahead_of_rows rows.new) }
 {
-    if let Some(var) = least_race(rows, thread, held, variables, writes, events, walked) {
+    if let Some(var) = least_race(
+        rows, thread, held, variables, writes, events, positions, walked,
+    ) {
         return Judged::Raised { var };
     }
-    events.push_reserved(Stamp {
+    events.push(Stamp {
         thread,
         event: Event::Commit(*variables),
     });

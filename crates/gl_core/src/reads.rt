@@ -1,23 +1,27 @@
-// The reads of a row, each in a place of its own.
-ghost use Rattle.std.specs.Prelude.{◌≡◌, ◌↔◌, ℕ, ◌+◌, ◌<◌, ◌≤◌, IsTrue, OnOk, Some, None, All, length};
+// The accesses that a row keeps, each in a place of its own, and places for those to come.
+ghost use Rattle.std.specs.Prelude.{◌≡◌, ◌↔◌, ℕ, ◌+◌, ◌<◌, ◌≤◌, [], IsTrue, OnOk, Some, None, All, length, vec_capacity};
 ghost use Rattle.gl_model.specs.declared.limits.TheConstants.{THREADS};
 ghost use Rattle.gl_model.specs.Elements.{IsStampInRange};
-ghost use Rattle.gl_draws.specs.RowFacts.{Fails, read_of};
+ghost use Rattle.gl_model.specs.Locksets.{IsOrderedOrExcepted};
+ghost use Rattle.gl_draws.specs.RowFacts.{Fails, read_of, set_after};
 ghost use Rattle.gl_core.specs.Cost.{ahead, ahead_of_reads, IsPaid};
 ghost use Rattle.gl_core.specs.Moved.{AreMoved};
 
-use crate::keeping::fails_on;
-use gl_model::{Held, Info, Lockset, Question, Stamp};
+use crate::events::Events;
+use crate::keeping::{fails_behind_look, fails_on};
+use crate::pairs::pair_passes;
+use crate::positions::Positions;
+use gl_model::{Held, Info, Lockset, Question};
 use std::alloc::{AllocError, Global};
 use std::marker::Model;
 
-// A thread's last read of a variable since its last write, where there is one.
+// An access that is kept, where there is one.
 #[derive(Drop)]
-pub(crate) struct Read {
+pub(crate) struct Kept {
     info: Option<Box<Info>>,
 }
 
-impl Model for Read {
+impl Model for Kept {
     ghost use Rattle.std.specs.Prelude.{Option};
     ghost use Rattle.gl_model.specs.declared.row.Info.{Info};
     ghost use Rattle.gl_core.specs.Places.{in_place};
@@ -27,21 +31,21 @@ impl Model for Read {
     ghost view = { λ r. in_place r.info };
 }
 
-impl Read {
-    pub fn none() -> Read
+impl Kept {
+    pub fn none() -> Kept
         ensures { result ≡ None }
     {
-        Read { info: None }
+        Kept { info: None }
     }
 
     // Whether there is one and its access fails the test of the question's over all events.
-    pub fn fails_on(&mut self, q: &Question, events: &[Stamp], walked: &mut u64) -> bool
+    pub fn fails_on(&mut self, q: &Question, events: &Events, walked: &mut u64) -> bool
         requires thread { q.now.thread < THREADS }
-        requires stamps { All IsStampInRange events.now }
-        requires within { (i : Info) → self.old ≡ Some i → i.pos ≤ length events.now }
-        ensures moved { AreMoved events.now self.old self.new }
-        ensures fails { IsTrue result ↔ ((i : Info) × (self.old ≡ Some i) × Fails events.now i q.now.thread q.now.commit) }
-        ensures cost { IsPaid events.now 0 walked.old walked.new (ahead self.old) (ahead self.new) }
+        requires stamps { All IsStampInRange events.now.stamps }
+        requires within { (i : Info) → self.old ≡ Some i → i.pos ≤ length events.now.stamps }
+        ensures moved { AreMoved events.now.stamps self.old self.new }
+        ensures fails { IsTrue result ↔ ((i : Info) × (self.old ≡ Some i) × Fails events.now.stamps i q.now.thread q.now.commit) }
+        ensures cost { IsPaid events.now.stamps 0 walked.old walked.new (ahead self.old) (ahead self.new) }
     {
         match &mut self.info {
             None => false,
@@ -49,23 +53,57 @@ impl Read {
         }
     }
 
-    // The read is this one now, in its old place or else in a spare one.
-    pub fn put(&mut self, info: Info, spares: &mut Spares)
+    // The same, where before a long walk a few events are looked at.
+    pub fn fails_behind_look(
+        &mut self,
+        q: &Question,
+        events: &Events,
+        positions: &Positions,
+        walked: &mut u64,
+    ) -> bool
+        requires thread { q.now.thread < THREADS }
+        requires stamps { All IsStampInRange events.now.stamps }
+        requires within { (i : Info) → self.old ≡ Some i → i.pos ≤ length events.now.stamps }
+        ensures moved { AreMoved events.now.stamps self.old self.new }
+        ensures fails { IsTrue result ↔ ((i : Info) × (self.old ≡ Some i) × Fails events.now.stamps i q.now.thread q.now.commit) }
+        ensures cost { IsPaid events.now.stamps 0 walked.old walked.new (ahead self.old) (ahead self.new) }
+    {
+        match &mut self.info {
+            None => false,
+            Some(info) => fails_behind_look(info, q, events, positions, walked),
+        }
+    }
+
+    // Whether there is one and it passes the question's test over the events so far of two threads alone, or without any.
+    pub fn pair_passes(&self, q: &Question, events: &Events, positions: &Positions) -> bool
+        requires thread { q.now.thread < THREADS }
+        requires stamps { All IsStampInRange events.now.stamps }
+        requires within { (i : Info) → self.now ≡ Some i → i.pos ≤ length events.now.stamps }
+        ensures { IsTrue result → (i : Info) × (self.now ≡ Some i) × IsOrderedOrExcepted (set_after events.now.stamps i) q.now.thread q.now.commit }
+    {
+        match &self.info {
+            None => false,
+            Some(info) => pair_passes(info, q, events, positions),
+        }
+    }
+
+    // The access is this one now, in its old place or else in a spare one.
+    pub fn put(&mut self, info: &Info, spares: &mut Spares)
         requires { 0 < spares.old }
-        ensures put { self.new ≡ Some info }
+        ensures put { self.new ≡ Some info.now }
         ensures spares { spares.old ≤ spares.new + 1 }
     {
         match &mut self.info {
-            Some(place) => **place = info,
+            Some(place) => **place = *info,
             None => self.info = spares.filled(info),
         }
     }
 
-    // There is no read any more, and its place is spare.
-    fn give_back(&mut self, spares: &mut Spares)
+    // Its place, if it has one, is spare.
+    fn give_back(self, spares: &mut Spares)
         ensures { spares.old ≤ spares.new }
     {
-        if let Some(place) = self.info.take() {
+        if let Some(place) = self.info {
             spares.keep(place);
         }
     }
@@ -74,7 +112,7 @@ impl Read {
 // Room for so many places that come back.
 const STOCK: usize = 64;
 
-// Places for reads to come: how many.
+// Places for accesses to come: how many.
 #[derive(Drop)]
 pub(crate) struct Spares {
     places: Vec<Box<Info>>,
@@ -129,14 +167,14 @@ impl Spares {
     }
 
     // The Info in one of the places.
-    fn filled(&mut self, info: Info) -> Option<Box<Info>>
+    fn filled(&mut self, info: &Info) -> Option<Box<Info>>
         requires { 0 < self.old }
-        ensures filled { in_place result ≡ Some info }
+        ensures filled { in_place result ≡ Some info.now }
         ensures fewer { self.new + 1 ≡ self.old }
     {
         match self.places.pop() {
             Some(mut place) => {
-                *place = info;
+                *place = *info;
                 Some(place)
             }
             None => unreachable!(),
@@ -156,30 +194,33 @@ fn blank() -> Info {
     }
 }
 
-// The places of the reads are spare, which are to be dropped.
-pub(crate) fn give_all_back(reads: &mut [Read], spares: &mut Spares)
-    ensures { spares.old ≤ spares.new }
+// There are no reads any more, and their places are spare.
+pub(crate) fn give_all_back(reads: &mut Vec<Kept>, spares: &mut Spares)
+    ensures none { reads.new.items ≡ [] }
+    ensures room { vec_capacity reads.new ≡ vec_capacity reads.old }
+    ensures spares { spares.old ≤ spares.new }
 {
-    for t in 0..reads.len() {
-        reads[t].give_back(spares);
+    while let Some(read) = reads.pop() {
+        read.give_back(spares);
     }
 }
 
 pub(crate) fn some_fails_on(
-    reads: &mut [Read],
+    reads: &mut [Kept],
     q: &Question,
-    events: &[Stamp],
+    events: &Events,
+    positions: &Positions,
     walked: &mut u64,
 ) -> bool
     requires thread { q.now.thread < THREADS }
-    requires stamps { All IsStampInRange events.now }
-    requires within { (t : ℕ) (i : Info) → read_of reads.old t ≡ Some i → i.pos ≤ length events.now }
-    ensures moved { (t : ℕ) → AreMoved events.now (read_of reads.old t) (read_of reads.new t) }
-    ensures fails { IsTrue result ↔ ((t : ℕ) × (i : Info) × (read_of reads.old t ≡ Some i) × Fails events.now i q.now.thread q.now.commit) }
-    ensures cost { IsPaid events.now 0 walked.old walked.new (ahead_of_reads reads.old) (ahead_of_reads reads.new) }
+    requires stamps { All IsStampInRange events.now.stamps }
+    requires within { (t : ℕ) (i : Info) → read_of reads.old t ≡ Some i → i.pos ≤ length events.now.stamps }
+    ensures moved { (t : ℕ) → AreMoved events.now.stamps (read_of reads.old t) (read_of reads.new t) }
+    ensures fails { IsTrue result ↔ ((t : ℕ) × (i : Info) × (read_of reads.old t ≡ Some i) × Fails events.now.stamps i q.now.thread q.now.commit) }
+    ensures cost { IsPaid events.now.stamps 0 walked.old walked.new (ahead_of_reads reads.old) (ahead_of_reads reads.new) }
 {
     for t in 0..reads.len() {
-        if reads[t].fails_on(q, events, walked) {
+        if reads[t].fails_behind_look(q, events, positions, walked) {
             return true;
         }
     }

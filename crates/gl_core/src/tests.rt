@@ -159,8 +159,40 @@ fn worked_rows(rt: HostRuntime) -> Result<(), Fail> {
         (1, act(Act::Acq(0))),
         (1, wr(4)),
     ];
+    // a read with ten events behind it, among which those that order it are the first of its thread and the last of the other
+    let far = [
+        (0, act(FORK)),
+        (1, rd(3)),
+        (1, act(Act::VWrite(0))),
+        (0, act(Act::Acq(0))),
+        (0, act(Act::Rel(0))),
+        (0, act(Act::Acq(0))),
+        (0, act(Act::Rel(0))),
+        (0, act(Act::Acq(0))),
+        (0, act(Act::Rel(0))),
+        (0, act(Act::Acq(0))),
+        (0, act(Act::Rel(0))),
+        (0, act(Act::VRead(0))),
+        (0, wr(3)),
+    ];
+    // the same with the event that orders it before the last few: it is the second that is walked
+    let far_behind = [
+        (0, act(FORK)),
+        (1, rd(3)),
+        (1, act(Act::VWrite(0))),
+        (0, act(Act::VRead(0))),
+        (0, act(Act::Acq(0))),
+        (0, act(Act::Rel(0))),
+        (0, act(Act::Acq(0))),
+        (0, act(Act::Rel(0))),
+        (0, act(Act::Acq(0))),
+        (0, act(Act::Rel(0))),
+        (0, act(Act::Acq(0))),
+        (0, act(Act::Rel(0))),
+        (0, wr(3)),
+    ];
     // where the events of the two threads alone order a plain access behind the last write, nothing is walked
-    let rows: [(&[(u8, Item)], &str, u64); 10] = [
+    let rows: [(&[(u8, Item)], &str, u64); 12] = [
         (&two, "nor", 0),
         (&three, "ono", 0),
         (&four, "nnonnnnonno", 0),
@@ -171,6 +203,8 @@ fn worked_rows(rt: HostRuntime) -> Result<(), Fail> {
         (&nine, "nooo", 1),
         (&nine_apart, "noor", 1),
         (&again, "nonrnrrnr", 3),
+        (&far, "nonnnnnnnnnno", 0),
+        (&far_behind, "nonnnnnnnnnno", 2),
     ];
     for (lines, wanted, events) in rows {
         let (found, walked) = all_said(&rt, lines)?;

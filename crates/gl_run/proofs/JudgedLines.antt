@@ -21,13 +21,6 @@ use Rattle.gl_draws.proofs.TraceNext.{end_place, last_is, there}
 use Rattle.gl_trace.specs.TraceLine.{TraceLine}
 use Rattle.gl_trace.specs.Judging.{Suits, AreJudged, judged_lines, line_of}
 
-pub judged_push : (ls : List TraceLine) (js : List Judged) (l : TraceLine) (j : Judged) → length js ≡ length ls
-    → judged_lines (ls ++ l ∷ []) (js ++ j ∷ []) ≡ judged_lines ls js ++ (l, j) ∷ []
-judged_push [] [] l j e = refl
-judged_push [] (y ∷ ys) l j e = absurd (omega (arith, e))
-judged_push (x ∷ xs) [] l j e = absurd (omega (arith, e))
-judged_push (x ∷ xs) (y ∷ ys) l j e = ap (λ r. (x, y) ∷ r) (judged_push xs ys l j (omega (arith, e)))
-
 judged_at : (ls : List TraceLine) (js : List Judged) (k : ℕ) (l : TraceLine) (j : Judged) → slice_get ls k ≡ Some l → slice_get js k ≡ Some j
     → slice_get (judged_lines ls js) k ≡ Some (l, j)
 judged_at [] js k l j here there = cc
@@ -82,7 +75,7 @@ right_suits s t (Commits reads writes) Performed r = tt
 right_suits s t (Commits reads writes) (Raised var) r =
     let n = numbered s.lists t (Abort (line_tx reads writes s.numbers) (WasRaised var)) var r.0 in in_either reads writes var (of_commit reads writes s.numbers var n.0 n.1)
 
-after_push : (lines : List Line) (l : Line) (s : Tracing) → after_lines (lines ++ l ∷ []) s ≡ with_item l.thread l.item l.judged (after_lines lines s)
+pub after_push : (lines : List Line) (l : Line) (s : Tracing) → after_lines (lines ++ l ∷ []) s ≡ with_item l.thread l.item l.judged (after_lines lines s)
 after_push [] l s = refl
 after_push (x ∷ xs) l s = after_push xs l (with_item x.thread x.item x.judged s)
 

@@ -1,7 +1,6 @@
 pub mod JudgedLines
 pub mod LongPrograms
-pub mod CleanLines
-pub mod Snoc
+pub mod SaidLines
 pub mod BuiltPrograms
 pub mod Entries
 pub mod FewWords

@@ -9,6 +9,8 @@ use Rattle.gl_trace.specs.Trace.{IsTrace, IsFirstFault}
 use Rattle.gl_trace.specs.TraceLine.{TraceLine}
 use Rattle.gl_trace.specs.Verdicts.{is_race, verdict_text}
 use Rattle.gl_run.specs.Output.{refusal}
+use Rattle.gl_run.specs.declared.keep.Keep.{Keep}
+use Rattle.gl_run.specs.declared.keep.Keep.TheVariants.{Record, Nothing}
 use Rattle.gl_run.specs.declared.kept.Kept.{Kept}
 use Rattle.gl_run.specs.declared.kept.Kept.TheVariants.{Trace}
 
@@ -16,24 +18,25 @@ use Rattle.gl_run.specs.declared.kept.Kept.TheVariants.{Trace}
 abbrev pub status_of : List Judged → ℕ
 status_of judged = if list_any is_race judged then 6 else 0
 
--- the record of these lines is kept
-abbrev pub KeepsRecord : List Line → Option Kept → Type 0
-KeepsRecord lines None = ⊥
-KeepsRecord lines (Some (Trace made)) = (t : ℕ) → lists_of made t ≡ trace_record lines t
+-- the record of these lines is kept, where one is to be kept
+abbrev pub KeepsRecord : Keep → List Line → Option Kept → Type 0
+KeepsRecord Nothing lines kept = kept ≡ None
+KeepsRecord Record lines None = ⊥
+KeepsRecord Record lines (Some (Trace made)) = (t : ℕ) → lists_of made t ≡ trace_record lines t
 
 -- the status, the bytes and what is kept for a trace: those of its verdicts, which are what the race law says
-pub record AnswersLines (trace : List TraceLine) (status : ℕ) (bytes : List ℕ) (kept : Option Kept) : Type 0 where
+pub record AnswersLines (keep : Keep) (trace : List TraceLine) (status : ℕ) (bytes : List ℕ) (kept : Option Kept) : Type 0 where
   pub judged : List Judged
   pub right : AreVerdicts (map line_of (judged_lines trace judged))
   pub status_is : status ≡ status_of judged
   pub bytes_are : bytes ≡ verdict_text trace judged
-  pub kept_is : KeepsRecord (map line_of (judged_lines trace judged)) kept
+  pub kept_is : KeepsRecord keep (map line_of (judged_lines trace judged)) kept
 
 -- the status and the bytes for a text that is a trace
-pub record AcceptsTrace (input : List ℕ) (status : ℕ) (bytes : List ℕ) (kept : Option Kept) : Type 0 where
+pub record AcceptsTrace (keep : Keep) (input : List ℕ) (status : ℕ) (bytes : List ℕ) (kept : Option Kept) : Type 0 where
   pub trace : List TraceLine
   pub meaning : IsTrace input trace
-  pub answer : AnswersLines trace status bytes kept
+  pub answer : AnswersLines keep trace status bytes kept
 
 -- the status and the bytes for a text that is none
 pub record RefusesTrace (input : List ℕ) (status : ℕ) (bytes : List ℕ) (kept : Option Kept) : Type 0 where
@@ -45,5 +48,5 @@ pub record RefusesTrace (input : List ℕ) (status : ℕ) (bytes : List ℕ) (ke
   pub kept_is : kept ≡ None
 
 -- what a text is answered
-abbrev pub ChecksText : List ℕ → ℕ → List ℕ → Option Kept → Type 0
-ChecksText input status bytes kept = AcceptsTrace input status bytes kept ⊎ RefusesTrace input status bytes kept
+abbrev pub ChecksText : Keep → List ℕ → ℕ → List ℕ → Option Kept → Type 0
+ChecksText keep input status bytes kept = AcceptsTrace keep input status bytes kept ⊎ RefusesTrace input status bytes kept

@@ -1,6 +1,8 @@
 pub mod Output
 pub mod Words
 pub mod Check
+pub mod Recording
+pub mod Said
 pub mod Listed
 pub mod Texts
 pub mod Command

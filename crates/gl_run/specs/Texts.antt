@@ -2,17 +2,18 @@
 use Rattle.std.specs.Prelude.{ℕ, ◌<◌, List, Option, length}
 use Rattle.gl_run.specs.declared.words.Command.{Command}
 use Rattle.gl_run.specs.declared.words.Command.TheVariants as commands
+use Rattle.gl_run.specs.declared.keep.Keep.{Keep}
 use Rattle.gl_run.specs.declared.kept.Kept.{Kept}
 use Rattle.gl_run.specs.Words.{most_of}
 use Rattle.gl_run.specs.Check.{ChecksText}
 use Rattle.gl_run.specs.Listed.{ListsText}
 use Rattle.gl_run.specs.Runs.{RunsText}
 
-abbrev pub AnswersText : Command → List ℕ → ℕ → List ℕ → Option Kept → Type 0
-AnswersText commands.Check input status bytes kept = ChecksText input status bytes kept
-AnswersText commands.List input status bytes kept = ListsText input status bytes kept
-AnswersText (commands.Run steps) input status bytes kept = RunsText steps input status bytes kept
+abbrev pub AnswersText : Keep → Command → List ℕ → ℕ → List ℕ → Option Kept → Type 0
+AnswersText keep commands.Check input status bytes kept = ChecksText keep input status bytes kept
+AnswersText keep commands.List input status bytes kept = ListsText input status bytes kept
+AnswersText keep (commands.Run steps) input status bytes kept = RunsText steps input status bytes kept
 
 -- what every text of more bytes than the command reads is answered
 abbrev pub AnswersLonger : Command → ℕ → List ℕ → Option Kept → Type 0
-AnswersLonger command status bytes kept = (input : List ℕ) → most_of command < length input → AnswersText command input status bytes kept
+AnswersLonger command status bytes kept = (keep : Keep) (input : List ℕ) → most_of command < length input → AnswersText keep command input status bytes kept

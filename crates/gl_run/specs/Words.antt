@@ -1,5 +1,5 @@
 -- Which command the words ask for.
-use Rattle.std.specs.Prelude.{ℕ, List, [], ◌∷◌, Option, Some, None, option_map, bytes_eq, codes, length, take, drop, nat_lt, nat_le, ◌&&◌, if◌then◌else◌}
+use Rattle.std.specs.Prelude.{ℕ, List, [], ◌∷◌, Option, Some, None, bytes_eq, codes, length, take, drop, nat_lt, nat_le, ◌&&◌, if◌then◌else◌}
 use Rattle.gl_asm.specs.declared.limits.TheConstants.{LONGEST}
 use Rattle.gl_text.specs.Number.{magnitude_of}
 use Rattle.gl_trace.specs.declared.limits.TheConstants.{TRACE_BYTES}

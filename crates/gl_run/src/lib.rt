@@ -2,16 +2,18 @@
 #![tactic(auto)]
 
 mod check;
+mod keep;
 mod kept;
 mod listed;
 mod output;
 mod page;
 mod run;
 mod top;
+mod verdicts;
 mod words;
 
 pub use kept::Kept;
-pub use top::{Answer, goldi, goldi_run, goldi_text};
+pub use top::{Answer, goldi, goldi_run, goldi_status, goldi_text};
 
 #[cfg(test)]
 mod tests;

@@ -1,13 +1,14 @@
 // The top call: words, input, output and status.
 ghost use Rattle.std.specs.Prelude.{◌≡◌, ◌⊎◌, IfOk, IfSome, None, string_bytes, map};
 ghost use Rattle.std.specs.Io.KnownBytes.{IsAtEnd};
-ghost use Rattle.gl_run.specs.Command.{Replies, HasCauses, HasWritten};
+ghost use Rattle.gl_run.specs.Command.{Replies, HasCauses, HasWritten, HasWrittenAlone};
 ghost use Rattle.gl_run.specs.Output.{usage};
 ghost use Rattle.gl_run.specs.Replies.{IsVerdict, ReplyCause};
 ghost use Rattle.gl_run.specs.Texts.{AnswersText, AnswersLonger};
 ghost use Rattle.gl_run.specs.Words.{command_of, run_command_of, text_command_of};
 
 use crate::check::check;
+use crate::keep::Keep;
 use crate::kept::Kept;
 use crate::listed::list;
 use crate::output::usage;
@@ -38,12 +39,13 @@ fn answer_text(
     command: Command,
     input: &[u8],
     cuts: &Cuts,
+    keep: Keep,
 ) -> Result<Page, AllocError>
-    ensures answer { IfOk result (λ p. AnswersText command input.now p.status p.text.items p.kept) }
+    ensures answer { IfOk result (λ p. AnswersText keep command input.now p.status p.text.items p.kept) }
     ensures status { IfOk result (λ p. IsVerdict p.status) }
 {
     match command {
-        Command::Check => check(alloc, input, cuts),
+        Command::Check => check(alloc, input, cuts, keep),
         Command::List => list(alloc, input),
         Command::Run { steps } => run(alloc, input, steps),
     }
@@ -63,15 +65,16 @@ fn reply<S: Source>(
     asked: Option<Command>,
     source: &mut S,
     cuts: &Cuts,
+    keep: Keep,
 ) -> Result<Page, Stop>
     ensures cause { ReplyCause asked (S.faults source.old) (S.faults source.new) result }
     ensures end { IfOk result (λ p. (p.status ≡ 0) ⊎ ((p.status ≡ 6) ⊎ (p.status ≡ 7)) → IsAtEnd (S.left source.new)) }
-    ensures page { IfOk result (λ p. IfSome (S.left source.old) (λ input. Replies asked input p.status p.text.items p.kept)) }
+    ensures page { IfOk result (λ p. IfSome (S.left source.old) (λ input. Replies keep asked input p.status p.text.items p.kept)) }
 {
     match asked {
         None => no_command(alloc).map_err(|_| Stop::Memory),
         Some(command) => match read_all(alloc, source, command.most()) {
-            Ok(input) => answer_text(alloc, command, &input, cuts).map_err(|_| Stop::Memory),
+            Ok(input) => answer_text(alloc, command, &input, cuts, keep).map_err(|_| Stop::Memory),
             Err(ReadStop::TooLong) => answer_longer(alloc, command).map_err(|_| Stop::Memory),
             Err(ReadStop::Fault) => Err(Stop::Read),
             Err(ReadStop::Memory(_)) => Err(Stop::Memory),
@@ -95,13 +98,14 @@ fn serve<S: Source, K: Sink>(
     source: &mut S,
     sink: &mut K,
     cuts: &Cuts,
+    keep: Keep,
 ) -> Answer
     ensures causes { HasCauses asked (S.faults source.old) (S.faults source.new) (K.faults sink.old) (K.faults sink.new) result.status }
     ensures end { (result.status ≡ 0) ⊎ ((result.status ≡ 6) ⊎ (result.status ≡ 7)) → IsAtEnd (S.left source.new) }
     ensures written { IfSome (S.left source.old) (λ input.
-        HasWritten asked input result.status result.kept (K.written sink.old) (K.written sink.new)) }
+        HasWritten keep asked input result.status result.kept (K.written sink.old) (K.written sink.new)) }
 {
-    match reply(alloc, asked, source, cuts) {
+    match reply(alloc, asked, source, cuts, keep) {
         Ok(Page { status, text, kept }) => match write_all(sink, &text) {
             Ok(()) => Answer { status, kept },
             Err(Failed) => Answer { status: 3, kept },
@@ -131,9 +135,16 @@ pub fn goldi_text<S: Source, K: Sink>(
     ensures causes { HasCauses (text_command_of (map string_bytes words.now)) (S.faults source.old) (S.faults source.new) (K.faults sink.old) (K.faults sink.new) result.status }
     ensures end { (result.status ≡ 0) ⊎ ((result.status ≡ 6) ⊎ (result.status ≡ 7)) → IsAtEnd (S.left source.new) }
     ensures written { IfSome (S.left source.old) (λ input.
-        HasWritten (text_command_of (map string_bytes words.now)) input result.status result.kept (K.written sink.old) (K.written sink.new)) }
+        HasWritten Keep.Record (text_command_of (map string_bytes words.now)) input result.status result.kept (K.written sink.old) (K.written sink.new)) }
 {
-    serve(alloc, text_command_of(words), source, sink, cuts)
+    serve(
+        alloc,
+        text_command_of(words),
+        source,
+        sink,
+        cuts,
+        Keep::Record,
+    )
 }
 
 /// Does what the words say where they name a command that runs a program; other words are none that it knows. The
@@ -148,9 +159,16 @@ pub fn goldi_run<S: Source, K: Sink>(
     ensures causes { HasCauses (run_command_of (map string_bytes words.now)) (S.faults source.old) (S.faults source.new) (K.faults sink.old) (K.faults sink.new) result.status }
     ensures end { (result.status ≡ 0) ⊎ ((result.status ≡ 6) ⊎ (result.status ≡ 7)) → IsAtEnd (S.left source.new) }
     ensures written { IfSome (S.left source.old) (λ input.
-        HasWritten (run_command_of (map string_bytes words.now)) input result.status result.kept (K.written sink.old) (K.written sink.new)) }
+        HasWritten Keep.Record (run_command_of (map string_bytes words.now)) input result.status result.kept (K.written sink.old) (K.written sink.new)) }
 {
-    serve(alloc, run_command_of(words), source, sink, cuts)
+    serve(
+        alloc,
+        run_command_of(words),
+        source,
+        sink,
+        cuts,
+        Keep::Record,
+    )
 }
 
 /// Does what the words say: the top call, which serves all commands, with the statuses of `goldi_run`.
@@ -164,7 +182,25 @@ pub fn goldi<S: Source, K: Sink>(
     ensures causes { HasCauses (command_of (map string_bytes words.now)) (S.faults source.old) (S.faults source.new) (K.faults sink.old) (K.faults sink.new) result.status }
     ensures end { (result.status ≡ 0) ⊎ ((result.status ≡ 6) ⊎ (result.status ≡ 7)) → IsAtEnd (S.left source.new) }
     ensures written { IfSome (S.left source.old) (λ input.
-        HasWritten (command_of (map string_bytes words.now)) input result.status result.kept (K.written sink.old) (K.written sink.new)) }
+        HasWritten Keep.Record (command_of (map string_bytes words.now)) input result.status result.kept (K.written sink.old) (K.written sink.new)) }
 {
-    serve(alloc, command_of(words), source, sink, cuts)
+    serve(alloc, command_of(words), source, sink, cuts, Keep::Record)
+}
+
+/// Does what `goldi` does and writes what it writes, and answers the status alone, for a caller that asks for no record: none
+/// is made of a trace.
+pub fn goldi_status<S: Source, K: Sink>(
+    alloc: Global,
+    words: &[String],
+    source: &mut S,
+    sink: &mut K,
+    cuts: &Cuts,
+) -> u8
+    ensures causes { HasCauses (command_of (map string_bytes words.now)) (S.faults source.old) (S.faults source.new) (K.faults sink.old) (K.faults sink.new) result }
+    ensures end { (result ≡ 0) ⊎ ((result ≡ 6) ⊎ (result ≡ 7)) → IsAtEnd (S.left source.new) }
+    ensures written { IfSome (S.left source.old) (λ input.
+        HasWrittenAlone (command_of (map string_bytes words.now)) input result (K.written sink.old) (K.written sink.new)) }
+{
+    let answer = serve(alloc, command_of(words), source, sink, cuts, Keep::Nothing);
+    answer.status
 }

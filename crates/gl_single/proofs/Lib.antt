@@ -8,6 +8,7 @@ pub mod FormLaw
 pub mod LegalLaw
 pub mod MachineLaw
 pub mod Moves
+pub mod OneList
 pub mod Reporting
 pub mod Running
 pub mod Telling

@@ -3,6 +3,7 @@ pub mod ByThread
 pub mod Firsts
 pub mod Lines
 pub mod Moments
+pub mod OneList
 pub mod OneThread
 pub mod Running
 pub mod World

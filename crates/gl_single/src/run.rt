@@ -6,6 +6,7 @@ ghost use Rattle.gl_bytecode.specs.Lawful.{Lawful};
 ghost use Rattle.gl_bytecode.specs.Machine.{ask_of};
 ghost use Rattle.gl_bytecode.specs.declared.ask.Ask.TheVariants.{Go, Over};
 ghost use Rattle.gl_model.specs.declared.record.Ending.{Ending};
+ghost use Rattle.gl_single.specs.OneList.{IsOneList};
 ghost use Rattle.gl_single.specs.OneThread.{HasFew, RunsAlone};
 ghost use Rattle.gl_single.specs.Running.{InRun, work_left};
 
@@ -16,7 +17,7 @@ use gl_vm::{Ask, Machine, Reply};
 use std::alloc::{AllocError, Global};
 
 /// Runs a program of one thread, which starts so many instructions at most, and answers the record of the run: it is
-/// lawful. The only error is want of memory.
+/// lawful, and has one list. The only error is want of memory.
 pub fn run_alone(
     alloc: Global,
     program: &Program,
@@ -24,7 +25,8 @@ pub fn run_alone(
     steps: u32,
 ) -> Result<Record, AllocError>
     requires alone { RunsAlone program.now }
-    ensures { IfOk result (λ made. Lawful program.now inputs.now steps (lists_of made)) }
+    ensures lawful { IfOk result (λ made. Lawful program.now inputs.now steps (lists_of made)) }
+    ensures one { IfOk result IsOneList }
 {
     let _main = program.main();
     let mut machine = Machine::new(alloc, program, 0, steps)?;

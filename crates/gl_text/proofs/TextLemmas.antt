@@ -153,7 +153,7 @@ either_good : (a b : Bool) → not b ≡ false → not (a || b) ≡ false
 either_good true b e = refl
 either_good false b e = e
 
-fewer_pass : (p q : ℕ → Bool) → ((x : ℕ) → p x ≡ false → q x ≡ false) → (xs : List ℕ) → list_any p xs ≡ false → list_any q xs ≡ false
+pub fewer_pass : (p q : ℕ → Bool) → ((x : ℕ) → p x ≡ false → q x ≡ false) → (xs : List ℕ) → list_any p xs ≡ false → list_any q xs ≡ false
 fewer_pass p q h [] e = refl
 fewer_pass p q h (x ∷ xs) e =
     elim (cases_Bool (p x)) [

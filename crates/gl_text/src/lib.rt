@@ -8,6 +8,6 @@ mod parts;
 mod text;
 
 pub use fault::{TextError, TextFault};
-pub use numerals::{magnitude, number};
+pub use numerals::{magnitude, natural, number};
 pub use parts::{Words, words_are_slices, words_of};
 pub use text::{Line, Lines, is_bad};

@@ -63,6 +63,13 @@ impl<'a> Model for Words<'a> {
     ghost view = { λ s. parts s.rest.now };
 }
 
+/// The words of a text, a `#` as any other byte.
+pub(crate) fn parts_of(text: &[u8]) -> Words<'_>
+    ensures { result ≡ parts text.now }
+{
+    Words { rest: text }
+}
+
 /// The words of a line, up to the first `#`.
 pub fn words_of(line: &[u8]) -> Words<'_>
     ensures { result ≡ words line.now }

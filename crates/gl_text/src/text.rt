@@ -1,12 +1,12 @@
 // Lines of a text.
-ghost use Rattle.std.specs.Prelude.{◌≡◌, ◌+◌, ◌<◌, ◌≤◌, length, MatchOption, IsNone, [], ◌∷◌, slice_get, Some, None};
+ghost use Rattle.std.specs.Prelude.{◌≡◌, ◌+◌, ◌<◌, ◌≤◌, length, MatchOption, IfSome, IsNone, [], ◌∷◌, slice_get, Some, None, true};
 ghost use Rattle.std.specs.List.{position, list_any};
 ghost use Rattle.std.specs.Str.Lines.{lines, strip_carriage_return};
 ghost use Rattle.std.specs.Iterator.{YieldsFirstBy, item_count};
-ghost use Rattle.gl_text.specs.Text.{is_line_feed, is_unprintable, is_bad, words};
+ghost use Rattle.gl_text.specs.Text.{is_line_feed, is_special, is_unprintable, is_bad, words, IsPlain};
 ghost use Rattle.gl_text.specs.Spans.{spans};
 
-use crate::parts::{Spans, Words, spans_of, words_of};
+use crate::parts::{Spans, Words, parts_of, spans_of, words_of};
 use std::marker::Model;
 
 // The place of the first line feed.
@@ -26,8 +26,29 @@ fn without_return(line: &[u8]) -> &[u8]
     }
 }
 
-// The first line of a text, and what follows it.
-fn first_line(text: &[u8]) -> (&[u8], &[u8])
+// The place of the first byte that a plain line does not have.
+fn plain_end(text: &[u8]) -> Option<usize>
+    ensures { result ≡ position is_special text.now }
+{
+    text.iter()
+        .position(|b| *b == b'#' || !matches!(b, 32..=126))
+}
+
+// The first line of a text where it is plain and ends with a line feed, and what follows it.
+fn plain_line(text: &[u8]) -> Option<(&[u8], &[u8])>
+    ensures lines { IfSome result (λ x. lines text.now ≡ x.0.now ∷ lines x.1.now) }
+    ensures shorter { IfSome result (λ x. length x.1.now < length text.now) }
+    ensures plain { IfSome result (λ x. IsPlain x.0.now) }
+{
+    let end = plain_end(text)?;
+    if text[end] != b'\n' {
+        return None;
+    }
+    Some((&text[..end], &text[end + 1..]))
+}
+
+// The first line of a text, whatever it has, and what follows it.
+fn any_line(text: &[u8]) -> (&[u8], &[u8])
     requires { 0 < length text.now }
     ensures lines { lines text.now ≡ result.0.now ∷ lines result.1.now }
     ensures shorter { length result.1.now < length text.now }
@@ -36,6 +57,20 @@ fn first_line(text: &[u8]) -> (&[u8], &[u8])
         Some(end) => (without_return(&text[..end]), &text[end + 1..]),
         None => (text, &[]),
     }
+}
+
+// The first line of a text, whether it is known to be plain, and what follows it.
+fn first_line(text: &[u8]) -> (&[u8], bool, &[u8])
+    requires { 0 < length text.now }
+    ensures lines { lines text.now ≡ result.0.now ∷ lines result.2.now }
+    ensures shorter { length result.2.now < length text.now }
+    ensures plain { result.1 ≡ true → IsPlain result.0.now }
+{
+    if let Some((line, rest)) = plain_line(text) {
+        return (line, true, rest);
+    }
+    let (line, rest) = any_line(text);
+    (line, false, rest)
 }
 
 /// The lines of a text, in order, those without words too.
@@ -79,12 +114,13 @@ impl<'a> Lines<'a> {
         if self.rest.is_empty() {
             return None;
         }
-        let (text, rest) = first_line(self.rest);
+        let (text, plain, rest) = first_line(self.rest);
         self.rest = rest;
         self.given += 1;
         Some(Line {
             number: self.given,
             text,
+            plain,
         })
     }
 }
@@ -109,15 +145,21 @@ impl<'a> Iterator for Lines<'a> {
 pub struct Line<'a> {
     number: u32,
     text: &'a [u8],
+    // Whether it is known that the line has no bad byte and no comment.
+    plain: bool,
 }
 
 // Seen as its number and its bytes.
 impl<'a> Model for Line<'a> {
+    ghost use Rattle.std.specs.Prelude.{◌≡◌, true};
     ghost use Rattle.gl_text.specs.Numbered.{NumberedLine};
+    ghost use Rattle.gl_text.specs.Text.{IsPlain};
 
     ghost Value = { NumberedLine };
 
     ghost view = { λ s. record { number = s.number; text = s.text.now } };
+
+    ghost invariant = { λ s. s.plain ≡ true → IsPlain s.text.now };
 }
 
 impl<'a> Line<'a> {
@@ -132,14 +174,18 @@ impl<'a> Line<'a> {
     pub fn bad(&self) -> bool
         ensures { result ≡ is_bad self.now.text }
     {
-        is_bad(self.text)
+        !self.plain && is_bad(self.text)
     }
 
     /// The words of the line, in order.
     pub fn words(&self) -> Words<'a>
         ensures { result ≡ words self.now.text }
     {
-        words_of(self.text)
+        if self.plain {
+            parts_of(self.text)
+        } else {
+            words_of(self.text)
+        }
     }
 
     fn spans(&self) -> Spans<'a>

@@ -15,7 +15,7 @@ use Rattle.gl_trace.specs.declared.limits.TheConstants.{TRACE_BYTES, TRACE_LINES
 use Rattle.gl_trace.specs.Kept.{IsItemKept}
 use Rattle.gl_trace.specs.Phrase.{said}
 use Rattle.gl_trace.specs.TraceLine.{TraceLine, step_of, steps_of}
-use Rattle.gl_trace.specs.Trace.{lines_from, made, fault_at, line_fault, said_fault, kind_of, IsTrace, IsFirst, AreLines}
+use Rattle.gl_trace.specs.Trace.{lines_from, made, fault_at, line_fault, said_fault, kind_of, IsTrace, IsFirst, IsFirstFault, AreLines}
 use Rattle.gl_trace.specs.Tracks.{Tracks, IsWithin}
 use Rattle.gl_trace.specs.Reads.{Reads}
 use Rattle.gl_trace.specs.declared.standing.Standing.{Standing}
@@ -183,3 +183,22 @@ read_fault text line n kind rest kept standing reads fault =
       fault = ap (λ l. line_fault (steps_of l) (n + 1) (get_or (lines text) n [])) (sym reads.said) ∙ ap (line_fault (steps_of kept) (n + 1)) next.here ∙ fault;
       before = reads.clean;
     }
+
+-- the same where the line is numbered m, and so many were given
+pub numbered_step : (text line : List ℕ) (n m given : ℕ) (rest : List (List ℕ)) (old : List TraceLine) (before after : Standing) (s : Step)
+    → m ≡ n + 1 → given ≡ m → Reads text n (line ∷ rest) old before → m ≤ TRACE_LINES → said (words line) ≡ Ok (Some s) → line_fault (steps_of old) m line ≡ None
+    → Tracks (steps_of old ++ s ∷ []) after → IsWithin m after → IsStep s → IsItemKept s.1 → Reads text given rest (old ++ (m, s.0, s.1) ∷ []) after
+numbered_step text line n m given rest old before after s next same reads few says clean tracks within range kept =
+    rw (same, next)
+    (read_step text line n rest old (old ++ (n + 1, s.0, s.1) ∷ []) before after s reads (rw next at few) says (rw next at clean) refl tracks (rw next at within) range kept)
+
+pub numbered_silent : (text line : List ℕ) (n m given : ℕ) (rest : List (List ℕ)) (old : List TraceLine) (standing : Standing)
+    → m ≡ n + 1 → given ≡ m → Reads text n (line ∷ rest) old standing → m ≤ TRACE_LINES → said (words line) ≡ Ok None → line_fault (steps_of old) m line ≡ None
+    → Reads text given rest old standing
+numbered_silent text line n m given rest old standing next same reads few says clean =
+    rw (same, next) (read_silent text line n rest old standing reads (rw next at few) says (rw next at clean))
+
+pub numbered_fault : (text line : List ℕ) (n m kind : ℕ) (rest : List (List ℕ)) (old : List TraceLine) (standing : Standing)
+    → m ≡ n + 1 → length text ≤ TRACE_BYTES → Reads text n (line ∷ rest) old standing → line_fault (steps_of old) m line ≡ Some kind → IsFirstFault text m kind
+numbered_fault text line n m kind rest old standing next short reads fault =
+    inr (short, (n, next, read_fault text line n kind rest old standing reads (rw next at fault)))

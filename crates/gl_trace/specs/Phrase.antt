@@ -78,6 +78,11 @@ step_said first others = do
   item ← form_said form (rest_of others)
   Ok (thread, item)
 
+-- the step of the thread, if there is one, with this item
+abbrev pub step_with : Item → Option ℕ → Option Step
+step_with item None = None
+step_with item (Some t) = Some (t, item)
+
 abbrev pub as_some : Result Step ℕ → Result (Option Step) ℕ
 as_some (Ok s) = Ok (Some s)
 as_some (Err kind) = Err kind

@@ -21,7 +21,11 @@ verdict_line line NoAccess = []
 verdict_line line Performed = decimal line ++ (codes " ok" ++ line_end)
 verdict_line line (Raised var) = decimal line ++ (codes " race" ++ line_end)
 
+-- how many races there are
+abbrev pub races_line : ℕ → List ℕ
+races_line races = codes "races " ++ (decimal races ++ line_end)
+
 -- a line for each access, and how many of them are races
 abbrev pub verdict_text : List TraceLine → List Judged → List ℕ
 verdict_text ls js =
-    flat_map (λ p. verdict_line p.0.0 p.1) (judged_lines ls js) ++ (codes "races " ++ (decimal (count_by is_race js) ++ line_end))
+    flat_map (λ p. verdict_line p.0.0 p.1) (judged_lines ls js) ++ races_line (count_by is_race js)

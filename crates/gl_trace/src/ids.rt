@@ -1,5 +1,5 @@
 // Numbers of a line, and the lists of variables of a commit.
-ghost use Rattle.std.specs.Prelude.{◌≡◌, ◌<◌, ◌≤◌, IfOk, IfSome, MatchOption, [], ◌∷◌, nat_le, true, List, ℕ, length};
+ghost use Rattle.std.specs.Prelude.{◌≡◌, ◌<◌, ◌≤◌, IfOk, IfSome, MatchOption, [], ◌∷◌, nat_le, true, false, Some, None, List, ℕ, length};
 ghost use Rattle.std.specs.List.{position, list_any, slice_split};
 ghost use Rattle.std.specs.Iterator.{YieldsFirstBy, item_count};
 ghost use Rattle.gl_trace.specs.Ids.{operand_of, set_of, list_words, is_comma, is_set};
@@ -8,7 +8,7 @@ ghost use Rattle.gl_model.specs.declared.limits.TheConstants.{VARIABLES, TX_VARI
 
 use gl_model::{VARIABLES, VarSet};
 use gl_text::kinds::BAD_NUMBER;
-use gl_text::number;
+use gl_text::natural;
 use std::marker::Model;
 
 /// A number from 0 to `most`.
@@ -16,7 +16,7 @@ pub fn operand(word: &[u8], most: u16) -> Result<u16, u8>
     ensures value { result ≡ operand_of most word.now }
     ensures bound { IfOk result (λ n. n ≤ most) }
 {
-    match number(word, 0, i64::from(most)) {
+    match natural(word, u64::from(most)) {
         Some(n) => Ok(n as u16),
         None => Err(BAD_NUMBER),
     }
@@ -90,31 +90,33 @@ fn reaches(ids: &[u16], id: u16) -> bool
     ids.iter().any(|x| id <= *x)
 }
 
-// The set with one id behind the others, if it still is a set.
-fn put_last(mut ids: VarSet, id: u16) -> Option<VarSet>
+// Puts one id behind the others, if they still are a set then.
+fn put_last(ids: &mut VarSet, id: u16) -> bool
     requires id { id < VARIABLES }
-    requires set { is_set ids ≡ true }
-    ensures { result ≡ with_last (Some ids) id }
+    requires set { is_set ids.old ≡ true }
+    ensures put { result ≡ true → Some ids.new ≡ with_last (Some ids.old) id }
+    ensures refused { result ≡ false → None ≡ with_last (Some ids.old) id }
 {
     if reaches(ids.ids(), id) {
-        return None;
+        return false;
     }
     match ids.insert(id) {
-        Ok(()) => Some(ids),
-        Err(_) => None,
+        Ok(()) => true,
+        Err(_) => false,
     }
 }
 
-// A list that may no longer be a set, with one id behind the others.
-fn put_more(kept: Option<VarSet>, id: u16) -> Option<VarSet>
+// Puts one id behind the others of a list that may no longer be a set.
+fn put_more(kept: &mut Option<VarSet>, id: u16)
     requires id { id < VARIABLES }
-    requires set { IsKept kept }
-    ensures value { result ≡ with_last kept id }
-    ensures set { IsKept result }
+    requires set { IsKept kept.old }
+    ensures value { kept.new ≡ with_last kept.old id }
+    ensures set { IsKept kept.new }
 {
-    match kept {
-        Some(ids) => put_last(ids, id),
-        None => None,
+    if let Some(ids) = kept {
+        if !put_last(ids, id) {
+            *kept = None;
+        }
     }
 }
 
@@ -126,7 +128,7 @@ pub fn ids(word: &[u8]) -> Result<Option<VarSet>, u8>
     let mut kept = Some(VarSet::empty());
     let mut parts = list_parts(word);
     while let Some(part) = parts.next() {
-        kept = put_more(kept, operand(part, VARIABLES - 1)?);
+        put_more(&mut kept, operand(part, VARIABLES - 1)?);
     }
     Ok(kept)
 }

@@ -16,9 +16,9 @@ mod verdicts;
 pub use kept::Trace;
 pub use laws::one_meaning;
 pub use limits::{TRACE_BYTES, TRACE_LINES};
-pub use reader::read_trace;
-pub use tracer::trace_record;
-pub use verdicts::verdict_text;
+pub use reader::{NO_ITEM, TraceReader, read_trace};
+pub use tracer::{Tracer, trace_record};
+pub use verdicts::{push_races, push_verdict, verdict_text};
 
 #[cfg(test)]
 mod tests;

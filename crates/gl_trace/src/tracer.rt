@@ -5,7 +5,7 @@ ghost use Rattle.gl_model.specs.Entries.{seen};
 ghost use Rattle.gl_model.specs.Kept.{IsEntryInRange};
 ghost use Rattle.gl_model.specs.Lists.{lists_of};
 ghost use Rattle.gl_model.specs.Rising.{with_all};
-ghost use Rattle.gl_model.specs.Trace.{Tracing, with_entry, with_act, with_end, with_line, with_plain, with_commit, with_item, with_over, with_ending, is_empty, with_numbers, before_lines, after_lines, trace_record, line_tx, look_count};
+ghost use Rattle.gl_model.specs.Trace.{Line, Tracing, with_entry, with_act, with_end, with_line, with_plain, with_commit, with_item, with_over, with_ending, is_empty, with_numbers, before_lines, after_lines, trace_record, line_tx, look_count};
 ghost use Rattle.gl_model.specs.TraceSteps.{IsLineAct, IsLineItem, is_too_wide};
 ghost use Rattle.gl_model.specs.declared.limits.TheConstants.{THREADS, VARIABLES, TX_VARIABLES};
 ghost use Rattle.gl_model.specs.Entries.{Commit as CommitEntry};
@@ -110,13 +110,14 @@ fn draw_each(numbers: &mut [u64], variables: &VarSet)
     }
 }
 
-// The record so far, the next position, the next number of each variable, and who has ended.
+/// Makes the record that a trace stands for, line by line: the record so far, the next position, the next number of each
+/// variable, and who has ended.
 #[derive(Drop)]
 pub struct Tracer {
-    pub history: Record,
-    pub next: u64,
-    pub numbers: [u64; VARIABLE_ROOM],
-    pub ended: [bool; THREAD_ROOM],
+    history: Record,
+    next: u64,
+    numbers: [u64; VARIABLE_ROOM],
+    ended: [bool; THREAD_ROOM],
 }
 
 impl Tracer {
@@ -310,8 +311,8 @@ impl Tracer {
         }
     }
 
-    // A line of a trace.
-    fn item(
+    /// The thread's next line says this, and this is said of it.
+    pub fn item(
         &mut self,
         alloc: Global,
         thread: u8,
@@ -387,14 +388,25 @@ impl Tracer {
         }
     }
 
-    // Thread 0 has begun.
-    fn new(alloc: Global) -> Result<Tracer, AllocError>
+    /// The record before the first line: thread 0 has begun.
+    pub fn new(alloc: Global) -> Result<Tracer, AllocError>
         ensures traces { IfOk result (Traces before_lines) }
         ensures most { IfOk result (IsUpTo 1) }
     {
         let mut tracer = Tracer::empty(alloc);
         tracer.act(0, Act::Begin(0))?;
         Ok(tracer)
+    }
+
+    /// The record after the last line: each thread's list ends with its End, if it has not ended, and is over.
+    pub fn record(mut self) -> Result<Record, AllocError>
+        requires room { IsUpTo (2 * TRACE_LINES + 1) self }
+        ensures { (lines : List Line) → Traces (after_lines lines before_lines) self → IfOk result (λ r. (t : ℕ) → lists_of r t ≡ trace_record lines t) }
+    {
+        for thread in 0..THREADS {
+            self.finish(thread)?;
+        }
+        Ok(self.history)
     }
 }
 
@@ -420,9 +432,5 @@ pub fn trace_record(alloc: Global, trace: &Trace, judged: &[Judged]) -> Result<R
     requires { AreJudged trace.now judged.now }
     ensures { IfOk result (λ r. (t : ℕ) → lists_of r t ≡ trace_record (map line_of (judged_lines trace.now judged.now)) t) }
 {
-    let mut tracer = traced(alloc, trace, judged)?;
-    for thread in 0..THREADS {
-        tracer.finish(thread)?;
-    }
-    Ok(tracer.history)
+    traced(alloc, trace, judged)?.record()
 }

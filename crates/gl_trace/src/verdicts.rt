@@ -1,21 +1,38 @@
 // The text of the verdicts.
 ghost use Rattle.std.specs.Prelude.{◌≡◌, ◌++◌, IfOk, OnOk, string_bytes, count_by};
 ghost use Rattle.gl_trace.specs.Judging.{AreJudged};
-ghost use Rattle.gl_trace.specs.Verdicts.{is_race, verdict_line, verdict_text};
+ghost use Rattle.std.specs.Fmt.{decimal};
+ghost use Rattle.gl_trace.specs.Verdicts.{is_race, verdict_line, races_line, verdict_text};
 
 use crate::kept::Trace;
 use gl_model::Judged;
+use itoa::Buffer;
 use std::alloc::{AllocError, Global};
 
-// Adds the line of a verdict.
-fn push_verdict(out: &mut String, line: u32, judged: Judged) -> Result<(), AllocError>
+// Adds a number and a word behind it.
+fn push_line(out: &mut String, line: u32, word: &str) -> Result<(), AllocError>
+    ensures { OnOk result (string_bytes out.new ≡ string_bytes out.old ++ (decimal line ++ word.now)) }
+{
+    out.push_str(Buffer::new().format(line))?;
+    out.push_str(word)
+}
+
+/// Adds the line of a verdict; a line that is no access has none.
+pub fn push_verdict(out: &mut String, line: u32, judged: Judged) -> Result<(), AllocError>
     ensures { OnOk result (string_bytes out.new ≡ string_bytes out.old ++ verdict_line line judged) }
 {
     match judged {
         Judged::NoAccess => Ok(()),
-        Judged::Performed => writeln!(out, "{line} ok"),
-        Judged::Raised { .. } => writeln!(out, "{line} race"),
+        Judged::Performed => push_line(out, line, " ok\n"),
+        Judged::Raised { .. } => push_line(out, line, " race\n"),
     }
+}
+
+/// Adds the last line: the number of races.
+pub fn push_races(out: &mut String, races: usize) -> Result<(), AllocError>
+    ensures { OnOk result (string_bytes out.new ≡ string_bytes out.old ++ races_line races) }
+{
+    writeln!(out, "races {races}")
 }
 
 // How many races there are.
@@ -39,6 +56,6 @@ pub fn verdict_text(alloc: Global, trace: &Trace, judged: &[Judged]) -> Result<V
         push_verdict(&mut out, lines[i].0, judged[i])?;
     }
     let races = races(judged);
-    writeln!(out, "races {races}")?;
+    push_races(&mut out, races)?;
     Ok(out.into_bytes())
 }

@@ -2,7 +2,7 @@
 #![tactic(auto)]
 
 use gl_io::{ReaderSource, WriterSink};
-use gl_run::goldi;
+use gl_run::goldi_status;
 use gl_shortcut::Cuts;
 use std::alloc::{AllocError, Global};
 use std::process::ExitCode;
@@ -22,8 +22,7 @@ fn main(rt: HostRuntime) -> ExitCode {
         Ok(words) => {
             let mut source = ReaderSource::new(rt.stdin());
             let mut sink = WriterSink::new(rt.stdout());
-            let answer = goldi(rt.alloc(), &words, &mut source, &mut sink, &Cuts::none());
-            ExitCode::from(answer.status)
+            ExitCode::from(goldi_status(rt.alloc(), &words, &mut source, &mut sink, &Cuts::none()))
         }
         Err(_) => ExitCode::from(5),
     }

@@ -20,5 +20,5 @@ loop-reads-preserved c =
 
 pub returns-clause-put : goal.returns-clause-put
 returns-clause-put c =
-    let near : c.args.thread < length c.loop-reads.reads.items = search rules in
-    ap (λ r. padded (slice_set c.loop-reads.reads.items c.args.thread r)) c.put.ensures.put ∙ padded_set c.loop-reads.reads.items c.args.thread (Some c.args.info) near ∙ ap (λ zs. slice_set zs c.args.thread (Some c.args.info)) c.loop-reads.invariant.same
+    let near : c.args.info.now.thread < length c.loop-reads.reads.items = search rules in
+    ap (λ r. padded (slice_set c.loop-reads.reads.items c.args.info.now.thread r)) c.put.ensures.put ∙ padded_set c.loop-reads.reads.items c.args.info.now.thread (Some c.args.info.now) near ∙ ap (λ zs. slice_set zs c.args.info.now.thread (Some c.args.info.now)) c.loop-reads.invariant.same

@@ -11,4 +11,4 @@ invariant-loop-reads l = record {
 }
 
 abbrev pub decreases-loop-reads : goal.decreases-loop-reads
-decreases-loop-reads l = l.thread + 1 - length l.reads.items
+decreases-loop-reads l = l.info.thread + 1 - length l.reads.items

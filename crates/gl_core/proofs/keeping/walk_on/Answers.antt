@@ -1,12 +1,21 @@
-use Rattle.std.proofs.Common.{◌+◌, ◌-◌, length, take, drop, refl, arith}
-use Rattle.gl_core.proofs.Kept.{walked_more, moved_by}
+use Rattle.std.proofs.Common.{◌<◌, ℕ, length, get_or, sym, ◌∙◌, ap, arith}
+use Rattle.gl_core.proofs.Kept.{moved_more}
 use Rattle.gl_core.proofs.keeping.walk_on.Goals as goal
-
-pub loop-stamp-preserved : goal.loop-stamp-preserved
-loop-stamp-preserved c = walked_more (take (length c.args.events.now - c.args.info.now.pos) (drop c.args.info.now.pos c.args.events.now)) c.args.info.now c.loop-stamp.info c.step_on.new.info c.loop-stamp.stamp-index c.stamp-item.result c.loop-stamp.invariant c.loop-stamp-test.true c.stamp-item.is c.step_on.ensures
 
 pub returns-then-has-clause-moved : goal.returns-then-has-clause-moved
 returns-then-has-clause-moved c =
-    let rest = take (length c.args.events.now - c.args.info.now.pos) (drop c.args.info.now.pos c.args.events.now) in
-    let n = c.loop-stamp-test.true in
-    moved_by c.args.events.now rest c.args.info.now c.step_on.new.info (c.loop-stamp.stamp-index + 1) refl c.requires.within (omega arith) (walked_more rest c.args.info.now c.loop-stamp.info c.step_on.new.info c.loop-stamp.stamp-index c.stamp-item.result c.loop-stamp.invariant n c.stamp-item.is c.step_on.ensures)
+    let stamps = c.args.events.now.stamps in
+    let here = c.loop-at.invariant.here in
+    let near : c.loop-at.info.pos < length stamps = omega arith in
+    moved_more stamps c.args.info.now c.loop-at.info c.step.new.info c.step.ensures.0 c.loop-at.invariant.moved near (c.step.ensures.1 ∙ ap (λ (k : ℕ). get_or stamps k c.step.ensures.0) (sym here)) c.step.ensures.2
+
+pub loop-at-preserved : goal.loop-at-preserved
+loop-at-preserved c =
+    let stamps = c.args.events.now.stamps in
+    let here = c.loop-at.invariant.here in
+    let next = c.step.ensures.2.pos in
+    let near : c.loop-at.info.pos < length stamps = omega arith in
+    record {
+      moved = moved_more stamps c.args.info.now c.loop-at.info c.step.new.info c.step.ensures.0 c.loop-at.invariant.moved near (c.step.ensures.1 ∙ ap (λ (k : ℕ). get_or stamps k c.step.ensures.0) (sym here)) c.step.ensures.2;
+      here = omega arith;
+    }

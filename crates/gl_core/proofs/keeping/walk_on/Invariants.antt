@@ -1,5 +1,9 @@
-use Rattle.gl_core.proofs.Kept.{IsWalked}
+use Rattle.std.proofs.Common.{◌≡◌}
+use Rattle.gl_core.specs.Moved.{IsMoved}
 use Rattle.gl_core.proofs.keeping.walk_on.Given as goal
 
-abbrev pub invariant-loop-stamp : goal.invariant-loop-stamp
-invariant-loop-stamp l = IsWalked l.rest l.fn.info l.info l.stamp-index
+abbrev pub invariant-loop-at : goal.invariant-loop-at
+invariant-loop-at l = record {
+  moved : IsMoved l.events.stamps l.fn.info l.info;
+  here : l.info.pos ≡ l.at;
+}

@@ -6,7 +6,7 @@ use Rattle.gl_core.proofs.lines.least_race.Given as goal
 
 abbrev pub invariant-loop-var : goal.invariant-loop-var
 invariant-loop-var l = record {
-  moved : AreRowsMoved l.events l.fn.rows l.rows;
-  least : IsLeast (λ y. SomeFails l.events (row_of l.fn.rows y) (asked_part l.thread l.variables l.writes l.held y)) (take l.var-index l.var-items) l.least;
-  cost : IsPaid l.events 0 l.fn.walked l.walked (ahead_of_rows l.fn.rows) (ahead_of_rows l.rows);
+  moved : AreRowsMoved l.events.stamps l.fn.rows l.rows;
+  least : IsLeast (λ y. SomeFails l.events.stamps (row_of l.fn.rows y) (asked_part l.thread l.variables l.writes l.held y)) (take l.var-index l.var-items) l.least;
+  cost : IsPaid l.events.stamps 0 l.fn.walked l.walked (ahead_of_rows l.fn.rows) (ahead_of_rows l.rows);
 }

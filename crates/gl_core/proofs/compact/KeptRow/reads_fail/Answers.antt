@@ -13,12 +13,12 @@ use Rattle.gl_core.proofs.compact.KeptRow.reads_fail.Goals as goal
 
 pub some_fails_on-requires-clause-within : goal.some_fails_on-requires-clause-within
 some_fails_on-requires-clause-within c = λ t i e.
-    let within : IsWithin (row_with c.self.inside.last_write c.self.inside.reads.items) (length c.args.events.now) = subst (λ (r : Row). IsWithin r (length c.args.events.now)) (sym c.self.view_is) c.requires.within in
+    let within : IsWithin (row_with c.self.inside.last_write c.self.inside.reads.items) (length c.args.events.now.stamps) = subst (λ (r : Row). IsWithin r (length c.args.events.now.stamps)) (sym c.self.view_is) c.requires.within in
     within.reads t i (read_padded c.self.inside.reads.items t ∙ ap (λ (zs : List (Option Info)). read_of zs t) (sym c.deref_mut.ensures.value) ∙ e)
 
 pub returns-then-q-clause-moved : goal.returns-then-q-clause-moved
 returns-then-q-clause-moved c =
-    let events = c.args.events.now in
+    let events = c.args.events.now.stamps in
     let xs = c.self.inside.reads.items in
     let ys = c.some_fails_on.new.reads in
     let kept = c.self.inside.last_write in
@@ -31,7 +31,7 @@ returns-then-q-clause-moved c =
 
 pub returns-then-q-clause-fails : goal.returns-then-q-clause-fails
 returns-then-q-clause-fails c =
-    let events = c.args.events.now in
+    let events = c.args.events.now.stamps in
     let xs = c.self.inside.reads.items in
     let kept = c.self.inside.last_write in
     let q = c.args.q.now in
@@ -42,7 +42,7 @@ returns-then-q-clause-fails c =
 
 pub returns-then-q-clause-cost : goal.returns-then-q-clause-cost
 returns-then-q-clause-cost c =
-    let events = c.args.events.now in
+    let events = c.args.events.now.stamps in
     let xs = c.self.inside.reads.items in
     let ys = c.some_fails_on.new.reads in
     let kept = c.self.inside.last_write in

@@ -2,7 +2,7 @@ use Rattle.std.proofs.Common.{◌+◌, sym}
 use Rattle.std.proofs.lemmas.List.{take_rest}
 use Rattle.gl_text.specs.Text.{is_line_feed}
 use Rattle.gl_text.proofs.TextLemmas.{first_line_at, lines_last, place_none}
-use Rattle.gl_text.proofs.text.first_line.Goals as goal
+use Rattle.gl_text.proofs.text.any_line.Goals as goal
 
 pub returns-in-Some-clause-lines : goal.returns-in-Some-clause-lines
 returns-in-Some-clause-lines c =
