@@ -9,10 +9,11 @@ use std::process::ExitCode;
 use std::rt::Env;
 use std::{env, io};
 
-// The words of the command line; none where they are no text.
+// The words of the command line; none where they are no text. What they need of memory may be wanting.
 fn words_given(rt: &(impl Env + AllocGlobal)) -> Result<Vec<String>, AllocError> {
     match env::args(rt) {
         Ok(args) => args.collect(rt.alloc()),
+        Err(error) if error.kind() == io::ErrorKind::OutOfMemory => Err(AllocError),
         Err(_) => Ok(Vec::new(rt.alloc())),
     }
 }
