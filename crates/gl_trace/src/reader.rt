@@ -93,7 +93,7 @@ impl<'a> TraceReader<'a> {
     }
 
     /// Reads the next line that says something: answers its number and its thread, and writes what it says to `item`. `None` at the end
-    /// of a text without a fault; else its first fault, behind which nothing is to be read.
+    /// of a text without a fault; else its first fault, behind which nothing is to be read. Then nothing is said of `item`.
     pub fn next_line(&mut self, item: &mut Item) -> Result<Option<(u32, u8)>, TextFault>
         ensures line { (text : List ℕ) (made : List TraceLine) → IsReadTo text made self.old → IfOk result (λ o. MatchOption o (IsTrace text made) (λ x. IsReadTo text (made ++ (x.0, x.1, item.new) ∷ []) self.new)) }
         ensures fault { (text : List ℕ) (made : List TraceLine) → IsReadTo text made self.old → IfErr result (λ f. IsFirstFault text f.line f.kind) }

@@ -311,7 +311,7 @@ impl Tracer {
         }
     }
 
-    /// The thread's next line says this, and this is said of it.
+    /// The thread's next line says this, and this is said of it. After want of memory the record so far is of no use.
     pub fn item(
         &mut self,
         alloc: Global,
