@@ -36,6 +36,7 @@ done <<<"$steps")
 check "the way from the top call to the definitions: $lost" $?
 
 # The first cell of each row of the tables headed "Call": `crate::Type::call`, or a type.
+# shellcheck disable=SC2016
 calls=$(sed -n '/^| Call |/,/^$/s/^| \(`[^|]*\) |.*/\1/p' docs/claims.md | grep -o '`[^`]*`' | tr -d '`' | sed 's/.*:://' | sort -u)
 lost=$(for call in $calls; do
     grep -Eqr --include='*.rt' "(fn|struct) $call\b" crates/*/src || [ -d "crates/$call" ] || echo "$call"
