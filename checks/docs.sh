@@ -44,7 +44,7 @@ done)
 [ -n "$calls" ] && [ -z "$lost" ]
 check "no such call: $lost" $?
 
-[ "$(sed -n 's/^    //p' README.md)" = "$(cat examples/unordered_fork.{trace,out})" ]
+[ "$(sed -n '/^## An example/,/^## The/s/^    //p' README.md)" = "$(cat examples/unordered_fork.{trace,out})" ]
 check "README's example" $?
 
 echo "$passed passed, $failed failed"
