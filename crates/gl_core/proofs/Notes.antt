@@ -20,7 +20,7 @@ use Rattle.gl_draws.specs.RowFacts.{InfoOf, read_of, RowStands}
 use Rattle.gl_draws.specs.Verdicts.{IsPlaced}
 use Rattle.gl_draws.proofs.EventTies.{new_event}
 use Rattle.gl_draws.proofs.OwnInfo.{own_info}
-use Rattle.gl_draws.proofs.TraceEvents.{allows_push}
+use Rattle.gl_draws.proofs.Runs.{allows_push}
 use Rattle.gl_core.specs.Noted.{IsNewInfo, IsNoted, part_of}
 use Rattle.gl_core.specs.Rows.{asked_part}
 use Rattle.gl_core.proofs.Owners.{state_at, least_owned}
