@@ -43,7 +43,7 @@ module _ (draws : ℕ → List Draw) (x : ℕ) (d : Draw) where
   pub count_elsewhere : (t y : ℕ) → y ≢ x → count_by t (next y) ≡ count_by t (draws y)
   count_elsewhere t y ne = ap (count_by t) (next_else y ne)
 
-  -- part 4
+  -- the numbers
   pub numbers_hold : (count count' : ℕ → ℕ) → count' (suc x) ≡ suc (count (suc x)) → ((y : ℕ) → y ≢ x → count' (suc y) ≡ count (suc y)) → d.thread < THREADS → ((y : ℕ) → count_by d.thread (draws y) < 2 ^ 51 + 2) → NumbersHold count draws → NumbersHold count' next
   numbers_hold count count' here else' named short p = record {
     counts = λ y near. elim (ℕ_discrete y x) [
@@ -64,7 +64,7 @@ module _ (draws : ℕ → List Draw) (x : ℕ) (d : Draw) where
   pub numbers_other : (r : Shelf) (drawn : List Drawn) → d.thread ≢ r.thread → ShelfDraws draws drawn r → ShelfDraws next drawn r
   numbers_other r drawn other k = record { numbers = drawn_other draws x d r.thread r.marked drawn other k.numbers; few = λ y. let c = count_same r.thread y other in let g = k.few y in omega arith; two = k.two; above = k.above; runs = k.runs }
 
-  -- part 6
+  -- what is said of the draws
   pub verdicts_next : (log : List Stamp) → DrawsHold log x (d ∷ draws x) → ((y : ℕ) → DrawsHold log y (draws y)) → (y : ℕ) → DrawsHold log y (next y)
   verdicts_next log new all y = elim (ℕ_discrete y x) [
     | yes e ↦ subst (λ l. DrawsHold log y l) (sym (ap next e ∙ next_here)) (subst (λ z. DrawsHold log z (d ∷ draws x)) (sym e) new)

@@ -35,7 +35,7 @@ machine_same setting w w' a b c d m = record {
   steps = λ p x at. let s = m.steps p x (subst (λ l. Rattle.gl_model.specs.Edges.EventAt l p x) a at) in subst (λ f. Rattle.gl_model.specs.Machine.Step setting (f p) x (w'.values p) (f (suc p))) (sym d) (subst (λ f. Rattle.gl_model.specs.Machine.Step setting (w.states p) x (f p) (w.states (suc p))) (sym c) s);
 }
 
--- part 1 of the whole table, when the view of one seat changes
+-- the turns of the whole table, when the view of one seat changes
 pub turns_step : (turn turn' holder holder' : ℕ → ℕ) (id : ℕ) (views : List View) (v u : View) → get_elem? views id ≡ some v → ((k : ℕ) → k < objects → turn' k ≤ THREADS)
     → ((k : ℕ) → k < objects → turn' k ≢ 0 → ((holder' k ≡ id) × HasObject u k) ⊎ ((holder' k ≡ holder k) × (turn k ≢ 0) × (HasObject v k → HasObject u k)))
     → TurnsHold turn holder views → TurnsHold turn' holder' (set views id u)
@@ -94,7 +94,7 @@ stands_held setting w hold zero (slot.Row r) s = absurd s
 stands_held setting w hold (suc x) slot.Empty s = absurd s
 stands_held setting w hold (suc x) (slot.List l) s = absurd s
 
--- a word that is no hold and no cell changes: of a view only part 1 can change
+-- a word that is no hold and no cell changes: of a view only its turns can change
 pub fits_board : (key : Key) (b b' : Board) (w : World) (holder' : ℕ → ℕ) (j : ℕ) (v : View) → SameHolds b b' → SameCells b b' → TurnsFit b'.turn holder' j v → Fits key b w j v → Fits key b' (record w { holder = holder' }) j v
 fits_board key b b' w holder' j v holds cells turns f =
     let w' : World = record w { holder = holder' } in

@@ -190,7 +190,7 @@ module _ (key : Key) (w : World) (st : table.State Slot View) (id : ℕ) (v : Vi
               | inr old ↦ H.whole.numbers.threads y f (subst (λ l. Among l f) (sym r.1) (inr old))
             ]
 
-    -- part 6
+    -- what is said of the draws
     verdicts : (y : ℕ) → DrawsHold w.log y (after y)
     verdicts y = by (is_in y zs) refl
       where

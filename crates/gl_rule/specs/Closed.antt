@@ -1,4 +1,4 @@
--- What is known of the lists of all passes, when a table is closed.
+-- What is known of the lists of all passes when a table is closed, and when a pass is done.
 use Rattle.std.specs.Prelude.{◌≡◌, ◌⊎◌, Bool, ℕ, ℤ, ◌<◌, ◌≤◌, true, false, ◌==◌, if◌then◌else◌, List, [], ◌∷◌}
 use Rattle.gl_model.specs.declared.event.Stamp.{Stamp}
 use Rattle.gl_model.specs.Entries.{Entry, Plain}
@@ -21,6 +21,7 @@ abbrev pub lists_in : List Shelf → Lists
 lists_in [] t = []
 lists_in (s ∷ ss) t = if s.thread == t then s.marked else lists_in ss t
 
+-- what the rule says of all lists together, once nobody holds, owes or waits: `low` is the first segment that is kept
 pub record IsClosed (setting : Setting) (low : ℕ) (R : Lists) : Type 0 where
   pub log : List Stamp
   pub draws : ℕ → List Draw

@@ -1,4 +1,5 @@
--- What is asked of a commit, beside what is asked of any event.
+-- What is asked of a transaction's end, beside what is asked of any event: of a commit, of an attempt that is dropped because a word was
+-- changed or because it would race, and of a cached write that is written back; and the views that they leave.
 use Rattle.std.specs.Prelude.{◌≡◌, ℕ, ℤ, ◌==◌, not, zero, suc, Bool, true, false, ◌<◌, if◌then◌else◌, List, [], ◌∷◌, ◌++◌, map, Contains, Option, Some, None, ◌↔◌}
 use Rattle.std.specs.List.{filter}
 use Rattle.gl_rule.specs.declared.slot.Slot.{Slot}
@@ -32,6 +33,7 @@ pub record HeldRow (s : Shelf) (v : View) (p y : ℕ) : Type 0 where
   pub taken : one.taken ≡ slot.Row row
   pub drew : one.drew ≡ Some (draw s.thread p Open)
 
+-- the commit of tx, whose numbers were drawn in the block at p, over the events below m; question is what is asked of each row
 pub record MayCommit (setting : Setting) (s : Shelf) (v : View) (tx : Tx) (p m : ℕ) (question : ℕ → Question) : Type 0 where
   pub block : last_position s.marked ≡ Some p
   pub goes_on : IsNotOver s.marked
@@ -101,6 +103,7 @@ abbrev pub owed_after : Bool → ℕ → ℤ → List (ℕ × ℤ) → List (ℕ
 owed_after true x value owed = with_owed x value owed
 owed_after false x value owed = owed
 
+-- thread t, which has stored l, stores a cached access: the word is owed where it writes
 abbrev pub cached_in : View → ℕ → List Entry → ℕ → ℕ → Bool → ℤ → View
 cached_in v t l x k write value = record v { shelves = shelf t (l ++ Plain x k true write value false ∷ []) ∷ []; owed = owed_after write x value v.owed }
 

@@ -1,4 +1,5 @@
--- What a pass has to show over each list that it can not tell from the one in the table.
+-- What a pass has to show. Where it is about the list of events, it is over each list that the pass cannot tell from the one in the table:
+-- a list of as many events as it has seen, that the machine allows, with its own events and those that it knows in their places.
 use Rattle.std.specs.Prelude.{◌≡◌, ℕ, ℤ, zero, suc, Bool, true, false, ◌+◌, ◌*◌, ◌<◌, ◌≤◌, ◌^◌, List, [], length, slice_get, Contains, Option, Some, None, ◌↔◌, ◌⊎◌, pos}
 use Rattle.std.specs.List.{All}
 use Rattle.gl_model.specs.declared.event.Stamp.{Stamp}
@@ -58,6 +59,7 @@ pub record Follows (setting : Setting) (s : Shelf) (v : View) (h : Held) (x : �
 pub record Stays (setting : Setting) (h : Held) (x : ℕ) (taken row : Row) : Type 0 where
   pub stays : (l : List Stamp) (ds : List Draw) → RowStands setting l x ds taken → RowStands setting l x (with_draw h.drew ds) row
 
+-- the row of x, taken as taken, may be put back as row
 pub record MayPut (setting : Setting) (s : Shelf) (v : View) (h : Held) (x : ℕ) (taken row : Row) : Type 0 where
   pub right : Follows setting s v h x taken row ⊎ Stays setting h x taken row
   -- an Info stands at or behind a tail that was seen since, or no lower than one of the row as it was taken
@@ -67,15 +69,21 @@ pub record MayPut (setting : Setting) (s : Shelf) (v : View) (h : Held) (x : ℕ
 abbrev pub MayLeaveAt : Setting → Shelf → View → Held → ℕ → Slot → Slot → Type 0
 MayLeaveAt setting s v h zero taken y = y ≡ taken
 MayLeaveAt setting s v h (suc x) (slot.Row taken) (slot.Row row) = MayPut setting s v h x taken row
-MayLeaveAt setting s v h _ _ _ = ⊥
+MayLeaveAt setting s v h (suc x) (slot.Row taken) (slot.List l) = ⊥
+MayLeaveAt setting s v h (suc x) (slot.Row taken) slot.Empty = ⊥
+MayLeaveAt setting s v h (suc x) (slot.List l) y = ⊥
+MayLeaveAt setting s v h (suc x) slot.Empty y = ⊥
 
+-- the held object may be put back with the value y
 abbrev pub MayLeave : Setting → Shelf → View → Held → Slot → Type 0
 MayLeave setting s v h y = MayLeaveAt setting s v h h.object h.taken y
 
 -- no thread of the list's state is live
 abbrev pub SaysQuiet : ℕ → Slot → Type 0
 SaysQuiet zero (slot.List l) = (now : State) → IsStateOf l now → IsQuiet now
-SaysQuiet _ _ = ⊥
+SaysQuiet zero (slot.Row row) = ⊥
+SaysQuiet zero slot.Empty = ⊥
+SaysQuiet (suc x) y = ⊥
 
 -- the pass may walk from p: it holds a row that it raised to p or below, or of which an Info stands at p or below
 abbrev pub MayWalk : View → ℕ → Type 0

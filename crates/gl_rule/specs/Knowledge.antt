@@ -1,4 +1,4 @@
--- Part 7: what a pass has seen agrees with the table.
+-- Knowledge: what a pass has seen agrees with the table, for good.
 use Rattle.std.specs.Prelude.{◌≡◌, ℕ, zero, suc, ◌<◌, ◌≤◌, List, length, Some, slice_get, slice_index, Contains}
 use Rattle.std.specs.List.{All}
 use Rattle.gl_model.specs.declared.event.Stamp.{Stamp}
@@ -20,8 +20,10 @@ AreBelow n s = (i p : ℕ) (e : Entry) → At s.marked i e → position_of e ≡
 abbrev pub TailFits : ℕ → (ℕ → ℕ) → ℕ → ℕ → Slot → ℕ → Type 0
 TailFits long hold seen zero y n = n ≡ long
 TailFits long hold seen (suc x) (slot.Row row) n = (n ≤ seen) × IsWithin row n × (hold (suc x) ≤ n)
-TailFits long hold seen (suc x) _ n = ⊥
+TailFits long hold seen (suc x) (slot.List l) n = ⊥
+TailFits long hold seen (suc x) slot.Empty n = ⊥
 
+-- so of each tail that was seen while the object was held
 abbrev pub TailsFit : ℕ → (ℕ → ℕ) → ℕ → Held → Type 0
 TailsFit long hold seen h = (n : ℕ) → Contains h.tails n → TailFits long hold seen h.object h.taken n
 
@@ -36,6 +38,7 @@ ReadFits hold (Stop n) = Unit {0}
 abbrev pub WordFits : List Stamp → CellWord → Type 0
 WordFits log c = (x : Stamp) → slice_get log c.position ≡ Some x → c.word ≡ slice_index (packed x) c.index
 
+-- what the view says it has seen: the tail, its own events, known events, tails while it held an object, holds, and words of cells
 pub record KnowledgeFits (hold : ℕ → ℕ) (log : List Stamp) (v : View) : Type 0 where
   pub seen : v.seen ≤ length log
   pub own : All (AreBelow v.seen) v.shelves

@@ -1,4 +1,4 @@
--- Part 3, of the whole list: its events are steps of the machine, with the values that their entries carry.
+-- The machine: the events of the list are its steps, with the values that their entries carry.
 use Rattle.std.specs.Prelude.{◌≡◌, ℕ, ℤ, suc, length, Some}
 use Rattle.std.specs.List.{All}
 use Rattle.gl_model.specs.declared.event.Stamp.{Stamp}
@@ -10,6 +10,7 @@ use Rattle.gl_model.specs.Records.{position_of}
 use Rattle.gl_rule.specs.View.{View, Shelf}
 use Rattle.gl_rule.specs.World.{World}
 
+-- the state is that behind the list; so is each state between, step by step
 pub record MachineHolds (setting : Setting) (w : World) : Type 0 where
   pub allowed : Allows setting w.log w.now
   pub first : w.states 0 ≡ start setting

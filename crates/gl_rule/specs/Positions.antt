@@ -1,4 +1,4 @@
--- Part 2: the positions of the stored events, and the form of each list so far.
+-- Positions: the tail counts the events, and each list has its thread's events in their order and a form that it may have so far.
 use Rattle.std.specs.Prelude.{◌≡◌, ℕ, ◌<◌, ◌≤◌, ◌^◌, List, length}
 use Rattle.std.specs.List.{All}
 use Rattle.gl_model.specs.declared.event.Stamp.{Stamp}
@@ -9,11 +9,13 @@ use Rattle.gl_draws.specs.Forming.{events_by, IsFormed}
 use Rattle.gl_draws.specs.Ties.{counted}
 use Rattle.gl_rule.specs.View.{View, Shelf}
 
+-- the tail counts the events, each of which is in range, and no thread made so many that a count of them wraps
 pub record PositionsHold (tail : ℕ) (log : List Stamp) : Type 0 where
   pub count : tail ≡ length log
   pub kept : All IsStampInRange log
   pub few : (t : ℕ) → events_by t log ≤ 2 ^ 50
 
+-- the list of one thread, which seat j has
 pub record ShelfFits (log : List Stamp) (seat : ℕ → ℕ) (j : ℕ) (s : Shelf) : Type 0 where
   pub here : seat s.thread ≡ j
   pub named : s.thread < THREADS

@@ -1,4 +1,4 @@
--- Part 9: where a view is quiet, no thread of the list's state is live.
+-- Quiet: a pass that has seen that no thread is live is right for good.
 use Rattle.std.specs.Prelude.{◌≡◌, true}
 use Rattle.gl_model.specs.Machine.{State}
 use Rattle.gl_state.specs.States.{IsQuiet}

@@ -1,4 +1,4 @@
--- Part 6, of attempts that were refused for a race.
+-- Refusals: an attempt that was refused for a race was judged over the events up to a tail, and rightly.
 use Rattle.std.specs.Prelude.{◌≡◌, ℕ, suc, ◌<◌, List, Contains}
 use Rattle.std.specs.List.{All}
 use Rattle.gl_draws.specs.Draws.{Draw, Among}

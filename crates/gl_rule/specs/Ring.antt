@@ -1,4 +1,5 @@
--- Part 8: the ring is safe.
+-- The ring: each event from the first kept segment on stands in its cell, nothing that a row or a hold names lies before that segment, and
+-- that segment is the one of the last Trim.
 use Rattle.std.specs.Prelude.{◌≡◌, ◌≢◌, ℕ, suc, ◌+◌, ◌<◌, ◌≤◌, List, [], ◌∷◌, length, Some, slice_get, slice_index, Contains, ◌⊎◌}
 use Rattle.std.specs.List.{All}
 use Rattle.gl_model.specs.declared.event.Stamp.{Stamp}
@@ -22,6 +23,7 @@ pub record LowHolds (low : ℕ) (trims : List (ℕ × ℕ)) : Type 0 where
   pub once : (o r : ℕ × ℕ) → Contains trims o → Contains trims r → o.1 ≡ r.1 → o.0 ≡ r.0
   pub named : (o : ℕ × ℕ) → Contains trims o → o.0 < THREADS
 
+-- the Trims of the list are those that its thread made
 pub record ShelfTrims (trims : List (ℕ × ℕ)) (s : Shelf) : Type 0 where
   pub made : (i low : ℕ) → At s.marked i (Trim low) → Contains trims (s.thread, low)
   pub kept : (low : ℕ) → Contains trims (s.thread, low) → (i : ℕ) × At s.marked i (Trim low)
@@ -30,6 +32,7 @@ pub record ShelfTrims (trims : List (ℕ × ℕ)) (s : Shelf) : Type 0 where
 abbrev pub FloorFits : (ℕ → ℕ) → Held → Type 0
 FloorFits hold h = (n : ℕ) → h.floor ≡ Some n → (hold h.object ≡ n) × (h.object ≢ 0)
 
+-- what the view says of holds, of the words that it stored in the tail's cell, and of its Trims
 pub record RingFits (b : Board) (log : List Stamp) (trims : List (ℕ × ℕ)) (v : View) : Type 0 where
   pub floors : All (FloorFits b.hold) v.held
   -- what was stored stands in the cell of the tail, and only the list's holder has stored

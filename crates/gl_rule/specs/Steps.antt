@@ -24,7 +24,7 @@ use Rattle.gl_rule.specs.Adding.{Adding}
 use Rattle.gl_rule.specs.Closed.{IsDone}
 use Rattle.gl_rule.specs.Commits.{MayCommit, MayPay, paid, drew_commit}
 use Rattle.gl_rule.specs.Fitting.{MayLeave, SaysQuiet, MayWalk, MayPublish, MayStoreWord, MayRaise, MayTrim, MayMark, MayOpen}
-use Rattle.gl_rule.specs.Objects.{Key, capacity, objects, cell_at}
+use Rattle.gl_rule.specs.Objects.{Key, capacity, objects, stop_word, cell_at}
 use Rattle.gl_rule.specs.Opened.{first_words, first_slots, sixteen}
 use Rattle.gl_rule.specs.Rule.{Rule}
 use Rattle.gl_rule.specs.Told.{Took, Left, SawTail, Saw, SawFloor, SawCell, SawEvent, PutWord, Published, PublishedAct, Raised, Lowered, Marked, Opened}
@@ -67,7 +67,7 @@ LoadsFloor =
 
 -- the stop word is loaded
 abbrev pub LoadsStop : Type 0
-LoadsStop = (key : Key) (slots id : ℕ) (v : View) (c : List (ℕ × Slot)) → table.Allows (Rule key) slots id (v, c) 3075 (λ n. n) (λ n. Saw (Stop n) v c)
+LoadsStop = (key : Key) (slots id : ℕ) (v : View) (c : List (ℕ × Slot)) → table.Allows (Rule key) slots id (v, c) stop_word (λ n. n) (λ n. Saw (Stop n) v c)
 
 -- one word of the event at position p is loaded
 abbrev pub LoadsCell : Type 0
@@ -89,7 +89,7 @@ StoresWord =
 
 -- the stop word is stored
 abbrev pub SetsStop : Type 0
-SetsStop = (key : Key) (slots id n : ℕ) (v : View) (c : List (ℕ × Slot)) → table.Allows (Rule key) slots id (v, c) 3075 (λ _. n) (λ _ u. u ≡ (v, c))
+SetsStop = (key : Key) (slots id n : ℕ) (v : View) (c : List (ℕ × Slot)) → table.Allows (Rule key) slots id (v, c) stop_word (λ _. n) (λ _ u. u ≡ (v, c))
 
 -- the hold of a row is raised, with Infos moved up to it
 abbrev pub RaisesHold : Type 0

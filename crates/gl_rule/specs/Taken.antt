@@ -28,4 +28,7 @@ pub record StateTold (setting : Setting) (v : View) (l : ListView) : Type 0 wher
 abbrev pub TakenTold : Setting → View → ℕ → Slot → Type 0
 TakenTold setting v zero (slot.List l) = StateTold setting v l
 TakenTold setting v (suc x) (slot.Row row) = Unit {0}
-TakenTold setting v _ _ = ⊥
+TakenTold setting v zero (slot.Row row) = ⊥
+TakenTold setting v zero slot.Empty = ⊥
+TakenTold setting v (suc x) (slot.List l) = ⊥
+TakenTold setting v (suc x) slot.Empty = ⊥

@@ -1,4 +1,5 @@
--- What each step tells its seat: v is the view that the step begins with, c the slots that the seat has.
+-- What each kind of step tells its seat: v is the view that the step begins with, c the slots that the seat has taken, n the word that it
+-- found, w the seat's view and slots after it.
 use Rattle.std.specs.Prelude.{◌≡◌, ◌≢◌, ℕ, Bool, ◌⊎◌, ◌∷◌, ◌<◌, ◌≤◌, ◌^◌, ◌+◌, ◌-◌, List, Contains, slice_index, Option, Some, None, [], ◌++◌, ℤ, false}
 use Rattle.atomic_table.specs.Table as table
 use Rattle.gl_model.specs.declared.limits.TheConstants.{THREADS}
@@ -17,6 +18,7 @@ use Rattle.gl_model.specs.Entries.{Entry, Plain, Sync}
 use Rattle.gl_draws.specs.Draws.{Draw, draw, What, Entered, Looked, Open}
 use Rattle.gl_rule.specs.View.{View, Shelf, Held, HasObject, published, put_word, raised, saw_floor, lowered, marked, shelf, Read, CellWord, took, refused, left, saw_tail, saw, saw_cell, knows}
 
+-- a seat's view, and the slots that it has taken
 abbrev pub Seat : Type 0
 Seat = table.Me Slot View
 
@@ -26,15 +28,19 @@ Took setting k v c n w =
     ((n ≡ 0) × ((y : Slot) × (w ≡ (took v k y, (k, y) ∷ c)) × TakenTold setting v k y × (HasObject v k → ⊥)))
     ⊎ ((n ≢ 0) × (n ≤ THREADS) × (w ≡ (refused v k (n - 1), c)))
 
+-- the object was put back; q says whether no thread was live in the list's state that was put back
 abbrev pub Left : ℕ → Bool → View → List (ℕ × Slot) → Seat → Type 0
 Left k q v c w = w ≡ (left v k q, table.rest c)
 
+-- the tail was seen: it has not fallen, and each held row's Infos are within it
 abbrev pub SawTail : View → List (ℕ × Slot) → ℕ → Seat → Type 0
 SawTail v c n w = (w ≡ (saw_tail v n, c)) × (v.seen ≤ n) × ((h : Held) (row : Row) → Contains v.held h → h.taken ≡ slot.Row row → IsWithin row n)
 
+-- a hold or the stop word was seen
 abbrev pub Saw : Read → View → List (ℕ × Slot) → Seat → Type 0
 Saw r v c w = w ≡ (saw v r, c)
 
+-- word i of the event at p was seen; the tail was not so far ahead that the cell was given again
 abbrev pub SawCell : ℕ → ℕ → ℕ → View → List (ℕ × Slot) → ℕ → Seat → Type 0
 SawCell cap p i v c n w = (v.seen ≤ p + cap) × (w ≡ (saw_cell v (record { position = p; index = i; word = n }), c))
 
@@ -52,12 +58,15 @@ Published s entry x y drew v c n w = (n + 1 < 2 ^ 64) × (v.seen ≤ n) × (w �
 abbrev pub SawFloor : Held → View → List (ℕ × Slot) → ℕ → Seat → Type 0
 SawFloor h v c n w = w ≡ (saw_floor v h n, c)
 
+-- a word was stored in the cell of the tail
 abbrev pub PutWord : ℕ → View → List (ℕ × Slot) → Seat → Type 0
 PutWord word v c w = w ≡ (put_word v word, c)
 
+-- the hold of h was raised, and its row became y
 abbrev pub Raised : Held → Slot → ℕ → View → List (ℕ × Slot) → Seat → Type 0
 Raised h y to v c w = w ≡ (raised v h y to, c)
 
+-- the first segment that is kept was n, and became at least `to`
 abbrev pub Lowered : Shelf → ℕ → View → List (ℕ × Slot) → ℕ → Seat → Type 0
 Lowered s to v c n w = w ≡ (lowered v s.thread s.marked n to, c)
 
@@ -71,6 +80,7 @@ abbrev pub what_of : Option ℤ → What
 what_of (Some value) = Looked value
 what_of None = Open
 
+-- a look, with the value that it saw, or the end of an attempt drew n, which waits for its entry
 abbrev pub Opened : Shelf → Held → ℕ → ℕ → Option ℤ → View → List (ℕ × Slot) → ℕ → Seat → Type 0
 Opened s h x p look v c n w = (n + 1 < 2 ^ 64) × (w ≡ (marked v s (v.drawn ++ record { var = x; nth = n; look = look } ∷ []) h (draw s.thread p (what_of look)), c))
 

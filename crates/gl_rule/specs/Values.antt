@@ -1,4 +1,5 @@
--- Parts 3 and 5: the list's state is the machine's, and each row is that of its variable's last performed accesses, at home or as it was taken. No Info of a row stands below the row's hold.
+-- Values: the list's state is the machine's, and each row is that of its variable's last performed accesses, at home or as it was taken. No
+-- Info of a row stands below the row's hold.
 use Rattle.std.specs.Prelude.{◌≡◌, ℕ, zero, suc, ◌<◌, ◌≤◌, List, ◌∷◌, Option, Some, None, ◌⊎◌}
 use Rattle.std.specs.List.{All}
 use mathlib.Core.Option as home
@@ -27,7 +28,10 @@ pub record IsAbove (row : Row) (n : ℕ) : Type 0 where
 abbrev pub Stands : Setting → World → (ℕ → ℕ) → ℕ → Slot → Type 0
 Stands setting w hold zero (slot.List l) = IsStateOf l w.now
 Stands setting w hold (suc x) (slot.Row row) = RowStands setting w.log x (w.draws x) row × IsAbove row (hold (suc x))
-Stands setting w hold _ _ = ⊥
+Stands setting w hold zero (slot.Row row) = ⊥
+Stands setting w hold zero slot.Empty = ⊥
+Stands setting w hold (suc x) (slot.List l) = ⊥
+Stands setting w hold (suc x) slot.Empty = ⊥
 
 -- the draws with one that was made since, if there is one
 abbrev pub with_draw : Option Draw → List Draw → List Draw
@@ -44,7 +48,10 @@ pub record RowHeld (setting : Setting) (w : World) (x : ℕ) (drew : Option Draw
 abbrev pub StandsHeld : Setting → World → (ℕ → ℕ) → Option Draw → ℕ → Slot → Type 0
 StandsHeld setting w hold drew zero (slot.List l) = IsStateOf l w.now
 StandsHeld setting w hold drew (suc x) (slot.Row row) = RowHeld setting w x drew row × IsAbove row (hold (suc x))
-StandsHeld setting w hold drew _ _ = ⊥
+StandsHeld setting w hold drew zero (slot.Row row) = ⊥
+StandsHeld setting w hold drew zero slot.Empty = ⊥
+StandsHeld setting w hold drew (suc x) (slot.List l) = ⊥
+StandsHeld setting w hold drew (suc x) slot.Empty = ⊥
 
 abbrev pub HeldStands : Setting → World → (ℕ → ℕ) → Held → Type 0
 HeldStands setting w hold h = StandsHeld setting w hold h.drew h.object h.taken
@@ -52,5 +59,6 @@ HeldStands setting w hold h = StandsHeld setting w hold h.drew h.object h.taken
 pub record ValuesFit (setting : Setting) (w : World) (hold : ℕ → ℕ) (v : View) : Type 0 where
   pub held : All (HeldStands setting w hold) v.held
 
+-- each object whose turn is free is at home, with a value as it has to be
 pub record ValuesHold (setting : Setting) (w : World) (turn hold : ℕ → ℕ) (homes : List (home.Option Slot)) : Type 0 where
   pub home : (k : ℕ) → k < objects → turn k ≡ 0 → (y : Slot) × (get_elem? homes k ≡ home.some (home.some y)) × Stands setting w hold k y

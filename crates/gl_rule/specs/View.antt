@@ -1,4 +1,5 @@
--- What a seat knows.
+-- What a seat knows: the lists that its pass has stored, and what it has seen, holds, drew and owes. The table sees views alone; a pass's own
+-- data are tied to its view.
 use Rattle.std.specs.Prelude.{◌≡◌, ℕ, ℤ, Bool, false, suc, ◌==◌, not, ◌||◌, if◌then◌else◌, List, [], ◌∷◌, ◌++◌, map, max, nat_lt, Contains, Option, Some, None}
 use Rattle.std.specs.List.{filter}
 use Rattle.gl_model.specs.declared.event.Stamp.{Stamp}
@@ -12,6 +13,7 @@ pub record Shelf : Type 0 where
   pub thread : ℕ
   pub marked : List Entry
 
+-- thread t with these entries
 abbrev pub shelf : ℕ → List Entry → Shelf
 shelf t l = record { thread = t; marked = l }
 
@@ -45,6 +47,7 @@ pub record CellWord : Type 0 where
   pub index : ℕ
   pub word : ℕ
 
+-- what a seat knows
 pub record View : Type 0 where
   pub shelves : List Shelf
   pub seen : ℕ
@@ -60,9 +63,11 @@ pub record View : Type 0 where
   -- the words of cells that were loaded
   pub loaded : List CellWord
 
+-- a view of these lists that knows nothing else
 abbrev pub blank : List Shelf → View
 blank l = record { shelves = l; seen = 0; known = []; held = []; drawn = []; reads = []; quiet = false; owed = []; stored = []; loaded = [] }
 
+-- object k is held
 abbrev pub HasObject : View → ℕ → Type 0
 HasObject v k = (h : Held) × Contains v.held h × (h.object ≡ k)
 
@@ -70,12 +75,15 @@ HasObject v k = (h : Held) × Contains v.held h × (h.object ≡ k)
 abbrev pub without : ℕ → List Held → List Held
 without k held = filter (λ h. not (h.object == k)) held
 
+-- object k, just taken with the value y
 abbrev pub new_held : ℕ → Slot → Held
 new_held k y = record { object = k; taken = y; first = y; tails = []; drew = None; floor = None }
 
+-- object k was taken with the value y
 abbrev pub took : View → ℕ → Slot → View
 took v k y = record v { held = new_held k y ∷ v.held; reads = v.reads ++ Taken k y ∷ [] }
 
+-- the turn of object k was read as held by a pass
 abbrev pub refused : View → ℕ → ℕ → View
 refused v k by = record v { reads = v.reads ++ Busy k by ∷ [] }
 
@@ -83,15 +91,19 @@ refused v k by = record v { reads = v.reads ++ Busy k by ∷ [] }
 abbrev pub left : View → ℕ → Bool → View
 left v k q = record v { held = without k v.held; quiet = v.quiet || q; stored = if k == 0 then [] else v.stored }
 
+-- a tail was seen while the object is held
 abbrev pub with_tail : ℕ → Held → Held
 with_tail n h = record h { tails = n ∷ h.tails }
 
+-- the tail was seen to be n
 abbrev pub saw_tail : View → ℕ → View
 saw_tail v n = record v { seen = n; held = map (with_tail n) v.held }
 
+-- something else was read
 abbrev pub saw : View → Read → View
 saw v r = record v { reads = v.reads ++ r ∷ [] }
 
+-- a word of a cell was loaded
 abbrev pub saw_cell : View → CellWord → View
 saw_cell v c = record v { loaded = v.loaded ++ c ∷ [] }
 
@@ -99,12 +111,9 @@ saw_cell v c = record v { loaded = v.loaded ++ c ∷ [] }
 abbrev pub knows : View → ℕ → Stamp → View
 knows v p x = record v { known = v.known ++ (p, x) ∷ [] }
 
+-- a word was stored in the cell of the tail
 abbrev pub put_word : View → ℕ → View
 put_word v n = record v { stored = v.stored ++ n ∷ [] }
-
--- thread t, which has stored l, stores e
-abbrev pub with_stored : View → ℕ → List Entry → Entry → View
-with_stored v t l e = record v { shelves = shelf t (l ++ e ∷ []) ∷ [] }
 
 -- a held object after an event was published at n: the list's state is y, and n + 1 is its tail; what was drawn on a row is as drew says
 abbrev pub after_publish : ℕ → Slot → (Held → Option Draw) → Held → Held
