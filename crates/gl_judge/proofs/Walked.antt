@@ -1,27 +1,15 @@
--- The test of an access over a lockset that was walked on.
-use Rattle.std.proofs.Common.{◌≡◌, ℕ, ◌+◌, ◌-◌, ◌<◌, ◌≤◌, List, [], ◌∷◌, length, take, drop, refl, sym, ◌∙◌, ap, subst, inl, inr, arith, Some, None, true, false, Bool, get_or}
+-- The test of an access over a window of the list.
+use Rattle.std.proofs.Common.{◌≡◌, ℕ, ◌+◌, ◌-◌, ◌<◌, ◌≤◌, List, length, take, drop, refl, sym, ◌∙◌, ap, subst, inl, inr, arith, Some, None, true, false, Bool, get_or}
 use Rattle.std.specs.Prelude.{Option, ◌↔◌, IsTrue, not}
 use Rattle.std.proofs.lemmas.Bool.{cases_lt}
 use Rattle.std.proofs.lemmas.List.{take_all, length-drop, drop-drop, get_or_default, get_or_past}
 use Rattle.gl_model.specs.declared.event.Stamp.{Stamp}
 use Rattle.gl_model.specs.declared.event.Element.{Element}
-use Rattle.gl_model.specs.declared.event.Element.TheVariants.{Thread, Tx}
 use Rattle.gl_model.specs.declared.row.Info.{Info}
 use Rattle.gl_model.specs.Lockset.{Has}
-use Rattle.gl_model.specs.Locksets.{Elements, After, AfterAll, IsOrderedOrExcepted}
+use Rattle.gl_model.specs.Locksets.{Elements, AfterAll, IsOrderedOrExcepted}
 use Rattle.gl_draws.specs.RowFacts.{read_of, set_after, Fails}
-
--- a set only grows
-pub AfterAll-has : (S : Elements) (xs : List Stamp) (y : Element) → S y → AfterAll S xs y
-AfterAll-has S [] y has = has
-AfterAll-has S (s ∷ xs) y has = AfterAll-has (After S s) xs y (inl (inl has))
-
--- what passes over a set passes over a greater one
-pub passes_greater : (S T : Elements) (u : ℕ) (variables : Option (List ℕ)) → ((y : Element) → S y → T y) → IsOrderedOrExcepted S u variables → IsOrderedOrExcepted T u variables
-passes_greater S T u None f c = f (Thread u) c
-passes_greater S T u (Some xs) f (inl c) = inl (f Tx c)
-passes_greater S T u (Some xs) f (inr (inl c)) = inr (inl (f (Thread u) c))
-passes_greater S T u (Some xs) f (inr (inr c)) = inr (inr (c.0, (c.1.0, c.1.1, f c.1.0 c.1.2)))
+use Rattle.gl_draws.proofs.MovedInfos.{AfterAll-has, passes_greater}
 
 -- the events from a position on, in a window that begins before it
 pub drop_window : (h w : List Stamp) (from p : ℕ) → from ≤ p → drop from h ≡ w → drop (p - from) w ≡ drop p h

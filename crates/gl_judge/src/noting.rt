@@ -1,11 +1,11 @@
 ghost use Rattle.std.specs.Prelude.{◌<◌};
 ghost use Rattle.gl_model.specs.declared.limits.TheConstants.{THREADS};
-ghost use Rattle.gl_core.specs.Noted.{IsNewInfo, IsNoted};
+ghost use Rattle.gl_judge.specs.Noted.{IsNewInfo, IsNoted};
 
 use gl_model::{Info, Lockset, Question, Row};
 
 /// The Info of an access that is performed at a position.
-pub(crate) fn new_info(q: &Question, pos: u64) -> Info
+pub fn new_info(q: &Question, pos: u64) -> Info
     requires { q.now.thread < THREADS }
     ensures { IsNewInfo q.now pos result }
 {

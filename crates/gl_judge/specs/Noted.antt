@@ -1,5 +1,5 @@
 -- What a row keeps of a performed access.
-use Rattle.std.specs.Prelude.{◌≡◌, ℕ, List, true, false, Some, None, is_some, slice_set, replicate, ◌↔◌}
+use Rattle.std.specs.Prelude.{◌≡◌, ℕ, true, false, Some, None, is_some, slice_set, replicate, ◌↔◌}
 use Rattle.gl_model.specs.declared.event.Element.{Element}
 use Rattle.gl_model.specs.declared.limits.TheConstants.{THREADS}
 use Rattle.gl_model.specs.declared.row.Info.{Info}
@@ -7,7 +7,6 @@ use Rattle.gl_model.specs.declared.row.Row.{Row}
 use Rattle.gl_model.specs.declared.row.Question.{Question}
 use Rattle.gl_model.specs.Lockset.{Has}
 use Rattle.gl_model.specs.Locksets.{InitialLockset}
-use Rattle.gl_model.specs.Trace.{is_in}
 
 -- the Info of the question's access, with the set that it starts with, before the event at that position
 pub record IsNewInfo (q : Question) (at : ℕ) (i : Info) : Type 0 where
@@ -17,10 +16,6 @@ pub record IsNewInfo (q : Question) (at : ℕ) (i : Info) : Type 0 where
   pub held : i.held ≡ q.held
   pub pos : i.pos ≡ at
   pub set : (y : Element) → Has i.set y ↔ InitialLockset q.thread q.commit y
-
--- the same Info, of a commit on these variables, in the row of one of them
-abbrev pub part_of : Info → List ℕ → ℕ → Info
-part_of i writes x = record i { write = is_in x writes }
 
 -- the row with the access noted: a write is the last write, and drops the reads; a read is its thread's read
 pub record IsNoted (old : Row) (q : Question) (at : ℕ) (new : Row) : Type 0 where

@@ -1,6 +1,6 @@
 use Rattle.std.proofs.Common.{refl}
-use Rattle.gl_core.proofs.RowTests.{judged}
-use Rattle.gl_core.proofs.judging.judge.Goals as goal
+use Rattle.gl_judge.proofs.RowTests.{judged}
+use Rattle.gl_judge.proofs.judging.judge.Goals as goal
 
 pub returns-then-some_conflict_fails-clause-racy : goal.returns-then-some_conflict_fails-clause-racy
 returns-then-some_conflict_fails-clause-racy c = λ setting h x ds f e s a.

@@ -1,5 +1,5 @@
 -- A row in which a performed access was noted stands for the draws with that access.
-use Rattle.std.proofs.Common.{◌≡◌, ℕ, ◌+◌, ◌-◌, ◌<◌, ◌≤◌, ◌==◌, List, [], ◌∷◌, ◌++◌, length, take, drop, set, refl, sym, ◌∙◌, ap, subst, arith, Some, None, true, false, Bool, not, eq-eqb, ne_eqb, length-set}
+use Rattle.std.proofs.Common.{◌≡◌, ℕ, zero, suc, ◌+◌, ◌-◌, ◌<◌, ◌≤◌, ◌==◌, List, [], ◌∷◌, ◌++◌, length, take, drop, set, replicate, refl, sym, ◌∙◌, ap, subst, arith, Some, None, true, false, Bool, not, eq-eqb, ne_eqb, length-set}
 use Rattle.std.specs.Prelude.{◌↔◌, pos, IsTrue, IsSome, is_some, slice_range, slice_set, if◌then◌else◌}
 use Rattle.std.proofs.lemmas.List.{take_all, get_or-set_same, get_or-set_other, length_push}
 use native.Mathlib.Decide.{ℕ_discrete}
@@ -21,10 +21,14 @@ use Rattle.gl_draws.specs.Verdicts.{IsPlaced}
 use Rattle.gl_draws.proofs.EventTies.{new_event}
 use Rattle.gl_draws.proofs.OwnInfo.{own_info}
 use Rattle.gl_draws.proofs.TraceEvents.{allows_push}
-use Rattle.gl_core.specs.Noted.{IsNewInfo, IsNoted, part_of}
-use Rattle.gl_core.specs.Rows.{asked_part}
-use Rattle.gl_core.proofs.Owners.{state_at, least_owned}
-use Rattle.gl_core.proofs.Threading.{replicate_at}
+use Rattle.gl_judge.specs.Noted.{IsNewInfo, IsNoted}
+use Rattle.gl_draws.proofs.Owners.{state_at, least_owned}
+
+-- each place of a list of one value has it, and so has what is behind its end
+none_at : (n k : ℕ) → read_of (replicate n None) k ≡ None
+none_at zero k = refl
+none_at (suc n) zero = refl
+none_at (suc n) (suc k) = none_at n k
 
 module _ (setting : Setting) (h : List Stamp) (x : ℕ) (ds : List Draw) (old new : Row) (s : RowStands setting h x ds old) (words : word_of x ds ≡ pos 0) (q : Question) (at : ℕ) (n : IsNoted old q at new) (d : Draw) (by : q.thread ≡ d.thread) (near : d.thread < THREADS) where
   -- the new draw's access stands in the new row
@@ -56,7 +60,7 @@ module _ (setting : Setting) (h : List Stamp) (x : ℕ) (ds : List Draw) (old ne
           word = rw iw (value_zero ∙ sym (wrote e));
           last_write = rw (iw, k.0) g;
           threads = ap length k.1;
-          reads = λ u. let r : read_of new.reads u ≡ None = ap (λ xs. read_of xs u) k.1 ∙ replicate_at THREADS u None in rw (iw, r) tt;
+          reads = λ u. let r : read_of new.reads u ≡ None = ap (λ xs. read_of xs u) k.1 ∙ none_at THREADS u in rw (iw, r) tt;
         }
 
     as_read : w ≡ false → RowStands setting h x (d ∷ ds) new
@@ -138,8 +142,3 @@ module _ (setting : Setting) (h : List Stamp) (now : State) (allowed : Allows se
         within = omega arith;
         set = λ y. subst (λ r. Has i.set y ↔ AfterAll (InitialLockset d.thread (variables_in d.what)) r y) (sym nothing) (starts y);
       }
-
--- what is kept of a commit in the row of one of its variables, by what is kept of it in a row that it reads
-pub part_new : (t : ℕ) (variables writes held : List ℕ) (at x : ℕ) (first : Info) → IsNewInfo (asked_part t variables [] held 0) at first
-    → IsNewInfo (asked_part t variables writes held x) at (part_of first writes x)
-part_new t variables writes held at x first new = record { thread = new.thread; write = refl; commit = new.commit; held = new.held; pos = new.pos; set = new.set }

@@ -10,7 +10,7 @@ use Rattle.gl_draws.specs.Draws.{Draw}
 use Rattle.gl_draws.specs.NextRaces.{IsRacyNext}
 use Rattle.gl_draws.specs.RowFacts.{SomeFails}
 use Rattle.gl_draws.proofs.NextTestLaw.{next_fails_racy, next_passes_not_racy}
-use Rattle.gl_core.specs.Standing.{StandsFor, AsksFor}
+use Rattle.gl_judge.specs.Standing.{StandsFor, AsksFor}
 
 module _ (setting : Setting) (h : List Stamp) (x : ℕ) (ds : List Draw) (row : Row) (question : Question) (s : StandsFor setting h x ds row question.thread) (f : Entry) (asks : AsksFor question f x) where
   racy : SomeFails h row question → IsRacyNext h x ds question.thread question.commit f

@@ -1,6 +1,6 @@
-use Rattle.gl_core.proofs.Walked.{passes_before, walked}
+use Rattle.gl_judge.proofs.Walked.{passes_before, walked}
 use Rattle.gl_model.specs.Lockset.{Has}
-use Rattle.gl_core.proofs.judging.fails.Goals as goal
+use Rattle.gl_judge.proofs.judging.fails.Goals as goal
 
 pub returns-then-passes : goal.returns-then-passes
 returns-then-passes c = λ h e. passes_before h c.args.info.now c.args.q.now.thread c.args.q.now.commit c.passes.result c.passes.ensures c.if-passes.true

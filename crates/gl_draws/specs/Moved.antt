@@ -1,11 +1,11 @@
 -- An Info that was walked on: it stands for the same access, with its set further on.
-use Rattle.std.specs.Prelude.{◌≡◌, ℕ, ◌+◌, ◌≤◌, List, length, slice_range, Option, Some, None, ◌↔◌}
+use Rattle.std.specs.Prelude.{◌≡◌, ℕ, ◌≤◌, List, length, slice_range, Option, Some, None, ◌↔◌}
 use Rattle.gl_model.specs.declared.event.Stamp.{Stamp}
 use Rattle.gl_model.specs.declared.event.Element.{Element}
 use Rattle.gl_model.specs.declared.row.Info.{Info}
 use Rattle.gl_model.specs.declared.row.Row.{Row}
 use Rattle.gl_model.specs.Lockset.{Has}
-use Rattle.gl_model.specs.Locksets.{After, AfterAll}
+use Rattle.gl_model.specs.Locksets.{AfterAll}
 use Rattle.gl_draws.specs.RowFacts.{read_of}
 
 -- the new Info has walked the events between the two positions, and no other
@@ -18,15 +18,7 @@ pub record IsMoved (h : List Stamp) (old new : Info) : Type 0 where
   pub within : new.pos ≤ length h
   pub set : (y : Element) → Has new.set y ↔ AfterAll (Has old.set) (slice_range h old.pos new.pos) y
 
--- the new Info has walked this event more
-pub record IsStepped (s : Stamp) (old new : Info) : Type 0 where
-  pub thread : new.thread ≡ old.thread
-  pub write : new.write ≡ old.write
-  pub commit : new.commit ≡ old.commit
-  pub held : new.held ≡ old.held
-  pub pos : new.pos ≡ old.pos + 1
-  pub set : (y : Element) → Has new.set y ↔ After (Has old.set) s y
-
+-- each of the two is there exactly where the other is, and is it walked on
 abbrev pub AreMoved : List Stamp → Option Info → Option Info → Type 0
 AreMoved h None None = Unit {0}
 AreMoved h (Some old) (Some new) = IsMoved h old new

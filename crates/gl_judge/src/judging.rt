@@ -1,4 +1,4 @@
-ghost use Rattle.gl_core.specs.declared.judging.Verdict.TheVariants.{Race};
+ghost use Rattle.gl_judge.specs.declared.judging.Verdict.TheVariants.{Race};
 ghost use Rattle.std.specs.Prelude.{◌≡◌, ◌↔◌, ◌⊎◌, ℕ, ◌<◌, ◌≤◌, ◌+◌, IsTrue, List, Some, All, length, drop, slice_get};
 ghost use Rattle.gl_model.specs.declared.event.Element.{Element as AnElement};
 ghost use Rattle.gl_model.specs.declared.event.Stamp.{Stamp as AStamp};
@@ -11,8 +11,8 @@ ghost use Rattle.gl_model.specs.Entries.{Entry};
 ghost use Rattle.gl_model.specs.Machine.{Setting};
 ghost use Rattle.gl_draws.specs.Draws.{Draw};
 ghost use Rattle.gl_draws.specs.NextRaces.{IsRacyNext};
-ghost use Rattle.gl_core.specs.Standing.{StandsFor, AsksFor};
-ghost use Rattle.gl_core.specs.Asked.{IsFrom, IsAbsentOrFrom, IsRowFrom};
+ghost use Rattle.gl_judge.specs.Standing.{StandsFor, AsksFor};
+ghost use Rattle.gl_judge.specs.Asked.{IsFrom, IsAbsentOrFrom, IsRowFrom};
 
 use crate::window::walk;
 use gl_model::{Element, Info, Lockset, Question, Row, Stamp, VarSet};
@@ -27,7 +27,7 @@ pub enum Verdict {
     Race,
 }
 
-pub(crate) fn has_some(set: &Lockset, variables: &VarSet) -> bool
+fn has_some(set: &Lockset, variables: &VarSet) -> bool
     ensures { IsTrue result ↔ ((y : AnElement) × IsVarOf variables.now y × Has set.now y) }
 {
     for x in variables.ids() {
@@ -39,7 +39,7 @@ pub(crate) fn has_some(set: &Lockset, variables: &VarSet) -> bool
 }
 
 /// Whether an access whose lockset this is lets the question's pass.
-pub(crate) fn passes(set: &Lockset, q: &Question) -> bool
+pub fn passes(set: &Lockset, q: &Question) -> bool
     requires { q.now.thread < THREADS }
     ensures { IsTrue result ↔ IsOrderedOrExcepted (Has set.now) q.now.thread q.now.commit }
 {
