@@ -6,7 +6,7 @@ use Rattle.gl_model.specs.declared.row.Info.{Info}
 use Rattle.gl_model.specs.declared.row.Row.{Row}
 use Rattle.gl_model.specs.declared.row.Question.{Question}
 use Rattle.gl_model.specs.Machine.{Setting}
-use Rattle.gl_draws.specs.Draws.{Draw, access_of, last_write, last_read, IsWord}
+use Rattle.gl_draws.specs.Draws.{Draw, access_of, last_write, last_read}
 use Rattle.gl_draws.specs.RowFacts.{InfoOf, read_of, RowStands, Fails, SomeFails, IsWithin}
 use Rattle.gl_draws.specs.Moved.{AreMoved, IsRowMoved}
 use Rattle.gl_draws.proofs.MovedInfos.{unmoved, moved_trans, fails_moved, info_moved}
@@ -21,7 +21,7 @@ module _ (setting : Setting) (h : List Stamp) where
 
   pub row_moved : (x : ℕ) (ds : List Draw) (old new : Row) → IsRowMoved h old new → RowStands setting h x ds old → RowStands setting h x ds new
   row_moved x ds old new m s = record {
-    word = subst (IsWord x ds) (sym m.value) s.word;
+    word = m.value ∙ s.word;
     last_write = of_moved true old.last_write new.last_write (last_write x ds) m.last_write s.last_write;
     threads = m.threads ∙ s.threads;
     reads = λ t. of_moved false (read_of old.reads t) (read_of new.reads t) (last_read x t ds) (m.reads t) (s.reads t);

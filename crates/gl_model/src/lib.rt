@@ -10,6 +10,7 @@ mod lockset;
 mod record;
 mod rising;
 mod row;
+mod stated;
 mod tx;
 mod var_set;
 
@@ -23,6 +24,7 @@ pub use limits::{
 pub use lockset::Lockset;
 pub use record::{Ending, Entry, Record};
 pub use row::{Info, Item, Judged, Question, Row, StepFault};
+pub use stated::limits_are_stated;
 pub use tx::{Look, Looks, Number, Numbers, Pair, Pairs, Tx, Why};
 pub use var_set::{Full, VarSet};
 
