@@ -1,5 +1,5 @@
 -- A row whose Infos were walked on stands as it stood, and fails the same tests.
-use Rattle.std.proofs.Common.{◌≡◌, ℕ, ◌≤◌, List, length, refl, sym, ◌∙◌, subst, inl, inr, Some, None, true, false, Bool}
+use Rattle.std.proofs.Common.{◌≡◌, ℕ, ◌≤◌, List, length, refl, ◌∙◌, subst, inl, inr, Some, None, true, false, Bool}
 use Rattle.std.specs.Prelude.{Option, ◌↔◌}
 use Rattle.gl_model.specs.declared.event.Stamp.{Stamp}
 use Rattle.gl_model.specs.declared.row.Info.{Info}
