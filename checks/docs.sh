@@ -36,6 +36,7 @@ done <<<"$steps")
 check "the way from the top call to the definitions: $lost" $?
 
 # The first cell of each row of the tables headed "Call": `crate::Type::call`, or a type.
+# shellcheck disable=SC2016
 calls=$(sed -n '/^| Call |/,/^$/s/^| \(`[^|]*\) |.*/\1/p' docs/claims.md | grep -o '`[^`]*`' | tr -d '`' | sed 's/.*:://' | sort -u)
 lost=$(for call in $calls; do
     grep -Eqr --include='*.rt' "(fn|struct) $call\b" crates/*/src || [ -d "crates/$call" ] || echo "$call"
@@ -43,7 +44,7 @@ done)
 [ -n "$calls" ] && [ -z "$lost" ]
 check "no such call: $lost" $?
 
-[ "$(sed -n 's/^    //p' README.md)" = "$(cat examples/unordered_fork.{trace,out})" ]
+[ "$(sed -n '/^## An example/,/^## The/s/^    //p' README.md)" = "$(cat examples/unordered_fork.{trace,out})" ]
 check "README's example" $?
 
 echo "$passed passed, $failed failed"
