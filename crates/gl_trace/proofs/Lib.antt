@@ -1,4 +1,3 @@
 pub mod IdsLemmas
-pub mod WideLemmas
 pub mod TraceLemmas
 pub mod TracerLemmas
