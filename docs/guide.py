@@ -1,6 +1,6 @@
 #!/usr/bin/env python3
-"""Holds the user's guide against the code and the program, and prints what differs: the kinds of faults and their names, the
-text of each kind and what is said of it, the sessions that are shown, and the program that embeds the detector."""
+"""Holds the user's guide and the page on Goldilocks against the code and the program, and prints what differs: the kinds of faults
+and their names, the text of each kind and what is said of it, the sessions that are shown, and the program that embeds the detector."""
 import os, re, subprocess, sys
 
 TOP = os.path.join(os.path.dirname(os.path.abspath(__file__)), "..")
@@ -56,21 +56,21 @@ def check_kinds(guide):
         compare(f"the guide's {cell} at {command}", (says.strip("`") + "\n", 4), goldi(command, text_of(cell)))
 
 
-# each `$ ./goldi COMMAND < FILE` of the guide, with the file of the repository, or else the text that is shown before it
-def check_sessions(guide):
+# each `$ ./goldi COMMAND < FILE` of a page, with the file of the repository, or else the text that is shown before it
+def check_sessions(page, said):
     shown = ""
-    for kind, block in re.findall(r"^```(\w*)\n(.*?)^```$", guide, re.M | re.S):
+    for kind, block in re.findall(r"^```(\w*)\n(.*?)^```$", said, re.M | re.S):
         session = re.match(r"\$ \./goldi (\w+) < (\S+)\n", block)
         if not session:
             shown = block
             continue
         command, name = session.groups()
         if os.path.exists(os.path.join(TOP, name)):
-            compare(f"the guide's {name}", read(name), shown)
+            compare(f"{name} in {page}", read(name), shown)
         wanted, _, status = block[session.end() :].partition("$ echo $?\n")
         text, came = goldi(command, shown.encode())
-        compare(f"the guide's session of {name}", wanted, text)
-        compare(f"the guide's status of {name}", int(status or came), came)
+        compare(f"the session of {name} in {page}", wanted, text)
+        compare(f"the status of {name} in {page}", int(status or came), came)
 
 
 def check_embedding(guide):
@@ -82,7 +82,8 @@ def check_embedding(guide):
 
 guide = read("docs/guide.md")
 check_kinds(guide)
-check_sessions(guide)
+check_sessions("the guide", guide)
+check_sessions("the page on Goldilocks", read("docs/goldilocks.md"))
 check_embedding(guide)
 print("\n".join(failures + [f"{passed} passed, {len(failures)} failed"]))
 sys.exit(1 if failures else 0)

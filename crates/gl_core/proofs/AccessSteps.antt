@@ -19,18 +19,18 @@ use Rattle.gl_model.specs.Trace.{is_in}
 use Rattle.gl_model.specs.TraceSteps.{Step, is_too_wide, is_running, item_fault}
 use Rattle.gl_draws.specs.Draws.{What, Entered, Looked, Draw, draw, is_write, is_read, written, value_in, word_of}
 use Rattle.gl_draws.specs.RowFacts.{RowStands, SomeFails}
-use Rattle.gl_draws.specs.Traced.{Traced, block_of, touches, with_look, with_own, plain_entry, commit_entry, refused_entry, after_item, traced}
-use Rattle.gl_draws.specs.TraceLaws.{IsJudgedBy}
-use Rattle.gl_draws.specs.TraceStates.{steps_of}
+use Rattle.gl_lines.specs.Traced.{Traced, block_of, touches, with_look, with_own, plain_entry, commit_entry, refused_entry, after_item, traced}
+use Rattle.gl_lines.specs.TraceLaws.{IsJudgedBy}
+use Rattle.gl_lines.specs.TraceStates.{steps_of}
 use Rattle.gl_draws.proofs.EntryKinds.{is_in-contains, contains-is_in}
-use Rattle.gl_draws.proofs.LineSets.{is_in-touches, its_variables, its_writes}
+use Rattle.gl_lines.proofs.LineSets.{is_in-touches, its_variables, its_writes}
 use Rattle.gl_draws.proofs.RowGrowth.{row_grows, row_stays}
-use Rattle.gl_draws.proofs.TraceLawProofs.{sound_front, last_clean, last_runs}
-use Rattle.gl_draws.proofs.TraceLines.{IsTraced}
-use Rattle.gl_draws.proofs.TraceMachine.{clean_parts, runs, with_at-here, with_at-else}
-use Rattle.gl_draws.proofs.TracePlain.{block_here, placed}
-use Rattle.gl_draws.proofs.TraceSound.{sound_traced}
-use Rattle.gl_draws.proofs.VerdictLaw.{grow_law}
+use Rattle.gl_lines.proofs.TraceLawProofs.{sound_front, last_clean, last_runs}
+use Rattle.gl_lines.proofs.TraceLines.{IsTraced}
+use Rattle.gl_lines.proofs.TraceMachine.{clean_parts, runs, with_at-here, with_at-else}
+use Rattle.gl_lines.proofs.TracePlain.{block_here, placed}
+use Rattle.gl_lines.proofs.TraceSound.{sound_traced}
+use Rattle.gl_lines.proofs.VerdictLaw.{grow_law}
 use Rattle.gl_core.specs.declared.threads.Threads.{Threads}
 use Rattle.gl_core.specs.Moved.{IsRowMoved}
 use Rattle.gl_core.specs.Noted.{IsNoted}

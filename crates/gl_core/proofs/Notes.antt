@@ -15,12 +15,12 @@ use Rattle.gl_model.specs.Infos.{InfoFor, AreLeastOwned}
 use Rattle.gl_model.specs.Lockset.{Has}
 use Rattle.gl_model.specs.Locksets.{AfterAll, InitialLockset}
 use Rattle.gl_model.specs.Machine.{Setting, State, Allows, Running, start}
-use Rattle.gl_draws.specs.Draws.{Draw, access_of, variables_in, is_write, is_read, written, last_read, word_of}
+use Rattle.gl_draws.specs.Draws.{Draw, access_of, variables_in, is_write, is_read, last_read, word_of, wrote}
 use Rattle.gl_draws.specs.RowFacts.{InfoOf, read_of, RowStands}
 use Rattle.gl_draws.specs.Verdicts.{IsPlaced}
 use Rattle.gl_draws.proofs.EventTies.{new_event}
 use Rattle.gl_draws.proofs.OwnInfo.{own_info}
-use Rattle.gl_draws.proofs.TraceEvents.{allows_push}
+use Rattle.gl_draws.proofs.Runs.{allows_push}
 use Rattle.gl_core.specs.Noted.{IsNewInfo, IsNoted, part_of}
 use Rattle.gl_core.specs.Rows.{asked_part}
 use Rattle.gl_core.proofs.Owners.{state_at, least_owned}
@@ -28,7 +28,7 @@ use Rattle.gl_core.proofs.Threading.{replicate_at}
 
 module _ (setting : Setting) (h : List Stamp) (x : ℕ) (ds : List Draw) (old new : Row) (s : RowStands setting h x ds old) (words : word_of x ds ≡ pos 0) (q : Question) (at : ℕ) (n : IsNoted old q at new) (d : Draw) (by : q.thread ≡ d.thread) (near : d.thread < THREADS) where
   -- the new draw's access stands in the new row
-  module _ (w : Bool) (writes : q.write ≡ w) (is_w : is_write x d.what ≡ w) (is_r : is_read x d.what ≡ not w) (wrote : w ≡ true → written x d.what ≡ pos 0) (f : InfoFor setting h n.info (access_of d) w) where
+  module _ (w : Bool) (writes : q.write ≡ w) (is_w : is_write x d.what ≡ w) (is_r : is_read x d.what ≡ not w) (wrote : w ≡ true → wrote x d ≡ pos 0) (f : InfoFor setting h n.info (access_of d) w) where
     value_zero : new.value ≡ pos 0
     value_zero = n.value ∙ s.word ∙ words
 

@@ -8,7 +8,7 @@ use Rattle.gl_model.specs.declared.event.Event.TheVariants.{Act as Does, Commit}
 use Rattle.gl_model.specs.declared.event.Stamp.{Stamp}
 use Rattle.gl_model.specs.Infos.{AreLeastOwned}
 use Rattle.gl_model.specs.Machine.{Setting, State, MonitorState, Free, Owned, Owns, Run, Entered, Effect, left_once, with_at}
-use Rattle.gl_draws.proofs.TraceMachine.{with_at-here, with_at-else}
+use Rattle.gl_lines.proofs.TraceMachine.{with_at-here, with_at-else}
 
 -- the same monitors are owned by t
 SameOwner : ℕ → (ℕ → MonitorState) → (ℕ → MonitorState) → Type 0

@@ -16,6 +16,7 @@ use Rattle.gl_model.specs.declared.row.Judged.TheVariants.{NoAccess, Performed, 
 use Rattle.gl_model.specs.declared.row.Question.{Question}
 use Rattle.gl_model.specs.declared.row.Row.{Row}
 use Rattle.gl_model.specs.Elements.{IsActInRange, IsStampInRange}
+use Rattle.gl_model.specs.Rising.{AreVariables}
 use Rattle.gl_model.specs.Trace.{is_in}
 use Rattle.gl_draws.specs.RowFacts.{read_of, IsWithin, SomeFails}
 use Rattle.gl_draws.proofs.EntryKinds.{is_in-contains, contains-is_in}
@@ -83,12 +84,12 @@ ready_plain h kept after seen q x judged r long d others = record {
   held = r.held;
 }
 
-pub ready_commit : (h h' : List Stamp) (kept after : List Row) (seen : Threads) (t : ℕ) (variables : List ℕ) (asked : ℕ → Question) (judged : Judged) → AreReady h kept seen → t < THREADS → length after ≡ length kept → CommitDone h kept t variables asked judged h' after → AreReady h' after seen
-ready_commit h h' kept after seen t variables asked NoAccess r n long d = absurd d
-ready_commit h h' kept after seen t variables asked (Raised x) r n long d =
+pub ready_commit : (h h' : List Stamp) (kept after : List Row) (seen : Threads) (t : ℕ) (variables : List ℕ) (asked : ℕ → Question) (judged : Judged) → AreReady h kept seen → t < THREADS → AreVariables variables → length after ≡ length kept → CommitDone h kept t variables asked judged h' after → AreReady h' after seen
+ready_commit h h' kept after seen t variables asked NoAccess r n near long d = absurd d
+ready_commit h h' kept after seen t variables asked (Raised x) r n near long d =
     subst (λ k. AreReady k after seen) (sym d.1) (record { in_range = r.in_range; variables = let few = r.variables in omega arith; within = λ y. moved_within h (row_of kept y) (row_of after y) (d.2 y); depth = r.depth; held = r.held })
-ready_commit h h' kept after seen t variables asked Performed r n long d = record {
-  in_range = subst (All IsStampInRange) (sym d.1) (All-push IsStampInRange h (record { thread = t; event = Commits variables }) r.in_range (n, tt));
+ready_commit h h' kept after seen t variables asked Performed r n near long d = record {
+  in_range = subst (All IsStampInRange) (sym d.1) (All-push IsStampInRange h (record { thread = t; event = Commits variables }) r.in_range (n, near));
   variables = let few = r.variables in omega arith;
   within = λ y. by_in y (is_in y variables) refl;
   depth = depth_more (length h) (length h') seen more' r.depth;
@@ -195,11 +196,11 @@ ready_plain_at h h1 kept kept1 after seen q x judged n eh ek r long count d othe
     subst (λ rows. AreReady h rows seen) (sym (written_back kept after n (long ∙ count)))
     (ready_plain h kept after seen q x judged r (long ∙ ap length ek) (subst (λ k. PlainDone k (row_of kept x) q x judged (row_of after x)) eh (subst (λ rows. PlainDone h1 (row_of rows x) q x judged (row_of after x)) ek d)) (λ y o. others y o ∙ ap (λ rows. row_of rows y) ek))
 
-pub ready_commit_at : (h h1 h' : List Stamp) (kept kept1 after : List Row) (seen : Threads) (t : ℕ) (variables : List ℕ) (asked : ℕ → Question) (judged : Judged) (n : ℕ) → h1 ≡ h → kept1 ≡ kept → AreReady h kept seen → t < THREADS → length after ≡ length kept1 → length kept1 ≡ n → CommitDone h1 kept1 t variables asked judged h' after
+pub ready_commit_at : (h h1 h' : List Stamp) (kept kept1 after : List Row) (seen : Threads) (t : ℕ) (variables : List ℕ) (asked : ℕ → Question) (judged : Judged) (n : ℕ) → h1 ≡ h → kept1 ≡ kept → AreReady h kept seen → t < THREADS → AreVariables variables → length after ≡ length kept1 → length kept1 ≡ n → CommitDone h1 kept1 t variables asked judged h' after
     → AreReady h' (take n (after ++ drop (length after) kept)) seen
-ready_commit_at h h1 h' kept kept1 after seen t variables asked judged n eh ek r near long count d =
+ready_commit_at h h1 h' kept kept1 after seen t variables asked judged n eh ek r near range long count d =
     subst (λ rows. AreReady h' rows seen) (sym (written_back kept after n (long ∙ count)))
-    (ready_commit h h' kept after seen t variables asked judged r near (long ∙ ap length ek) (subst (λ k. CommitDone k kept t variables asked judged h' after) eh (subst (λ rows. CommitDone h1 rows t variables asked judged h' after) ek d)))
+    (ready_commit h h' kept after seen t variables asked judged r near range (long ∙ ap length ek) (subst (λ k. CommitDone k kept t variables asked judged h' after) eh (subst (λ rows. CommitDone h1 rows t variables asked judged h' after) ek d)))
 
 pub plain_since : (h h1 : List Stamp) (kept grown grown1 after : List Row) (q q' : Question) (x : ℕ) (judged : Judged) (n : ℕ) → h1 ≡ h → grown1 ≡ grown → row_of grown x ≡ row_of kept x → q ≡ q' → length after ≡ n → PlainDone h1 (row_of grown1 x) q x judged (row_of after x) → PlainDone h (row_of kept x) q' x judged (row_of (take n (after ++ drop (length after) grown)) x)
 plain_since h h1 kept grown grown1 after q q' x judged n eh eg same eq long d =

@@ -10,7 +10,7 @@ use Rattle.gl_model.specs.Infos.{InfoFor, AreLeastOwned}
 use Rattle.gl_model.specs.Lockset.{Has}
 use Rattle.gl_model.specs.Locksets.{Access, Elements, AfterAll, InitialLockset, LocksetAt}
 use Rattle.gl_model.specs.Machine.{Setting}
-use Rattle.gl_draws.specs.Draws.{Draw, access_of, last_write, last_read, IsWord}
+use Rattle.gl_draws.specs.Draws.{Draw, access_of, last_write, last_read}
 use Rattle.gl_draws.specs.RowFacts.{InfoOf, read_of, RowStands}
 use Rattle.gl_core.specs.Moved.{IsMoved, AreMoved, IsRowMoved}
 use Rattle.gl_core.proofs.Kept.{all_same, all_append}
@@ -52,7 +52,7 @@ module _ (setting : Setting) (h : List Stamp) where
 
   pub row_moved : (x : ℕ) (ds : List Draw) (old new : Row) → IsRowMoved h old new → RowStands setting h x ds old → RowStands setting h x ds new
   row_moved x ds old new m s = record {
-    word = subst (IsWord x ds) (sym m.value) s.word;
+    word = m.value ∙ s.word;
     last_write = of_moved true old.last_write new.last_write (last_write x ds) m.last_write s.last_write;
     threads = m.threads ∙ s.threads;
     reads = λ t. of_moved false (read_of old.reads t) (read_of new.reads t) (last_read x t ds) (m.reads t) (s.reads t);

@@ -17,13 +17,13 @@ use Rattle.gl_model.specs.Trace.{Line, AreVerdicts}
 use Rattle.gl_model.specs.TraceSteps.{Step, Hold, item_joins, item_leaves, is_ended, holder, is_held_by}
 use Rattle.gl_draws.specs.Draws.{Draw}
 use Rattle.gl_draws.specs.RowFacts.{RowStands}
-use Rattle.gl_draws.specs.Traced.{Traced, with_event, with_last, after_act as traced_act, after_line, traced}
-use Rattle.gl_draws.specs.TraceStates.{steps_of, AreSound, IsStateOf, monitor_of}
+use Rattle.gl_lines.specs.Traced.{Traced, with_event, with_last, after_act as traced_act, after_line, traced}
+use Rattle.gl_lines.specs.TraceStates.{steps_of, AreSound, IsStateOf, monitor_of}
 use Rattle.gl_draws.proofs.RowGrowth.{row_grows}
-use Rattle.gl_draws.proofs.TraceLawProofs.{sound_front}
-use Rattle.gl_draws.proofs.TraceMachine.{or_false, ended_push, holder_push}
-use Rattle.gl_draws.proofs.TraceSound.{traced_push, steps_push, sound_traced}
-use Rattle.gl_draws.proofs.VerdictLaw.{grow_law}
+use Rattle.gl_lines.proofs.TraceLawProofs.{sound_front}
+use Rattle.gl_lines.proofs.TraceMachine.{or_false, ended_push, holder_push}
+use Rattle.gl_lines.proofs.TraceSound.{traced_push, steps_push, sound_traced}
+use Rattle.gl_lines.proofs.VerdictLaw.{grow_law}
 use Rattle.gl_core.specs.declared.threads.Threads.{Threads}
 use Rattle.gl_core.specs.Rows.{untouched, row_of, asked_plain, with_act, joins_ended, after_act}
 use Rattle.gl_core.specs.Tracks.{Tracks, AreLeastHeld}

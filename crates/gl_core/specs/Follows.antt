@@ -9,8 +9,8 @@ use Rattle.gl_model.specs.Elements.{IsStampInRange}
 use Rattle.gl_model.specs.Machine.{trace_setting}
 use Rattle.gl_model.specs.Trace.{Line, AreVerdicts}
 use Rattle.gl_draws.specs.RowFacts.{RowStands, IsWithin}
-use Rattle.gl_draws.specs.Traced.{history, draws_of}
-use Rattle.gl_draws.specs.TraceStates.{steps_of, AreSound}
+use Rattle.gl_lines.specs.Traced.{history, draws_of}
+use Rattle.gl_lines.specs.TraceStates.{steps_of, AreSound}
 use Rattle.gl_core.specs.Tracks.{Tracks, IsWithinDepth, KeepsHeld}
 use Rattle.gl_core.specs.Known.{AreKnown}
 use Rattle.gl_model.specs.TraceSteps.{is_too_wide}

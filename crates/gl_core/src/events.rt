@@ -115,7 +115,9 @@ impl Events {
                 step_on(info, &Stamp { thread, event });
             }
             ShortStamp::Commit { thread, place } => {
-                let event = Event::Commit(self.commits[place as usize]);
+                let variables = self.commits[place as usize];
+                variables.keeps();
+                let event = Event::Commit(variables);
                 step_on(info, &Stamp { thread, event });
             }
         }

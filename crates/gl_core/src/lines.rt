@@ -3,7 +3,7 @@ ghost use Rattle.std.specs.Prelude.{◌≡◌, ◌↔◌, ℕ, ◌+◌, ◌*◌,
 ghost use Rattle.gl_model.specs.declared.limits.TheConstants.{THREADS, VARIABLES, TX_VARIABLES};
 ghost use Rattle.gl_model.specs.declared.row.Row.{Row};
 ghost use Rattle.gl_model.specs.Elements.{IsStampInRange};
-ghost use Rattle.gl_model.specs.Rising.{with_one, with_all};
+ghost use Rattle.gl_model.specs.Rising.{AreVariables, with_one, with_all};
 ghost use Rattle.gl_model.specs.Trace.{is_in};
 ghost use Rattle.gl_draws.specs.RowFacts.{Fails, SomeFails, IsWithin};
 ghost use Rattle.gl_core.specs.Cost.{ahead_of_row, ahead_of_rows, made_by, IsPaid};
@@ -101,12 +101,14 @@ fn insert_one(all: &mut VarSet, var: u16)
 
 // The variables of a commit that reads and writes these.
 pub(crate) fn all_of(reads: &VarSet, writes: &VarSet) -> VarSet
-    ensures { length (with_all writes.now reads.now) ≤ TX_VARIABLES → result ≡ with_all writes.now reads.now }
+    ensures value { length (with_all writes.now reads.now) ≤ TX_VARIABLES → result ≡ with_all writes.now reads.now }
+    ensures range { AreVariables result }
 {
     let mut all = *reads;
     for var in writes.ids() {
         insert_one(&mut all, *var);
     }
+    all.keeps();
     all
 }
 

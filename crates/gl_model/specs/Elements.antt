@@ -9,6 +9,7 @@ use Rattle.gl_model.specs.declared.event.Event.TheVariants.{Act as Does, Commit}
 use Rattle.gl_model.specs.declared.event.Stamp.{Stamp}
 use Rattle.gl_model.specs.declared.event.Element.{Element}
 use Rattle.gl_model.specs.declared.event.Element.TheVariants.{Thread, Tx, Monitor, Volatile, Var}
+use Rattle.gl_model.specs.Rising.{AreVariables}
 use Rattle.gl_model.specs.declared.limits.TheConstants.{THREADS, FUNCTIONS, CLASSES, MONITORS, VOLATILES, VARIABLES}
 
 -- the id in an element is one that there is
@@ -34,10 +35,10 @@ IsActInRange Print = Unit {0}
 IsActInRange Input = Unit {0}
 IsActInRange (Fail k) = Unit {0}
 
--- so are those of an event; those of a commit are so by its type
+-- so are those of an event; those of a commit are the variables of one transaction
 abbrev pub IsEventInRange : Event → Type 0
 IsEventInRange (Does act) = IsActInRange act
-IsEventInRange (Commit xs) = Unit {0}
+IsEventInRange (Commit xs) = AreVariables xs
 
 -- the bit that stands for an element: threads, the mark, monitors, volatiles and variables, one after another
 abbrev pub place : Element → ℕ

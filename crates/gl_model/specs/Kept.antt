@@ -1,17 +1,14 @@
 -- What a record keeps to: threads rise, no list is empty, and each id is one that there is.
-use Rattle.std.specs.Prelude.{ℕ, ◌<◌, ◌≤◌, List, length, map}
+use Rattle.std.specs.Prelude.{ℕ, ◌<◌, List, length, map}
 use Rattle.std.specs.List.{AllByRecursion}
-use Rattle.gl_model.specs.declared.limits.TheConstants.{THREADS, VARIABLES, TX_VARIABLES}
+use Rattle.gl_model.specs.declared.limits.TheConstants.{THREADS, VARIABLES}
 use Rattle.gl_model.specs.declared.tx.Tx.{Tx}
 use Rattle.gl_model.specs.declared.tx.Why.{Why}
 use Rattle.gl_model.specs.declared.tx.Why.TheVariants.{Changed, Raised}
 use Rattle.gl_model.specs.Elements.{IsActInRange}
 use Rattle.gl_model.specs.Entries.{Entry, Sync, Commit, Plain, Abort, Trim, Over}
 use Rattle.gl_model.specs.Rising.{Rises}
-
--- the variables of one list of a transaction: at most as many as a transaction may have, rising, each one that there is
-abbrev pub AreVariables : List ℕ → Type 0
-AreVariables xs = (length xs ≤ TX_VARIABLES) × Rises xs × AllByRecursion (λ x. x < VARIABLES) xs
+pub use Rattle.gl_model.specs.Rising.{AreVariables}
 
 -- so are those of its looks, its writes and its numbers
 abbrev pub IsTxKept : Tx → Type 0

@@ -12,6 +12,7 @@ pub mod HappensBefore
 pub mod Padded
 pub mod Records
 pub mod Rising
+pub mod Rooms
 pub mod Trace
 pub mod Next
 pub mod Kept

@@ -1,11 +1,16 @@
 -- Lists of numbers that rise.
-use Rattle.std.specs.Prelude.{ℕ, ◌<◌, ◌==◌, nat_lt, if◌then◌else◌, List, [], ◌∷◌}
+use Rattle.std.specs.Prelude.{ℕ, ◌<◌, ◌≤◌, ◌==◌, nat_lt, if◌then◌else◌, List, [], ◌∷◌, length}
 use Rattle.std.specs.List.{AllByRecursion}
+use Rattle.gl_model.specs.declared.limits.TheConstants.{VARIABLES, TX_VARIABLES}
 
 -- each number is below all behind it
 abbrev pub Rises : List ℕ → Type 0
 Rises [] = Unit {0}
 Rises (x ∷ xs) = AllByRecursion (λ y. x < y) xs × Rises xs
+
+-- the variables of one list of a transaction: at most as many as a transaction may have, rising, each one that there is
+abbrev pub AreVariables : List ℕ → Type 0
+AreVariables xs = (length xs ≤ TX_VARIABLES) × Rises xs × AllByRecursion (λ x. x < VARIABLES) xs
 
 -- x put in its place, where it is not there
 abbrev pub with_one : ℕ → List ℕ → List ℕ

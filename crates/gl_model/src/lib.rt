@@ -22,7 +22,7 @@ pub use limits::{
     CLASSES, FUNCTIONS, HELD, INPUTS, MONITORS, THREADS, TX_VARIABLES, VARIABLES, VOLATILES,
 };
 pub use lockset::Lockset;
-pub use record::{Ending, Entry, Record};
+pub use record::{Ending, Entry, Record, RecordRoom};
 pub use row::{Info, Item, Judged, Question, Row, StepFault};
 pub use stated::limits_are_stated;
 pub use tx::{Look, Looks, Number, Numbers, Pair, Pairs, Tx, Why};

@@ -1,10 +1,10 @@
-ghost use Rattle.std.specs.Prelude.{◌≡◌, ℕ, ◌<◌, ◌≤◌, ◌∷◌, ◌++◌, [], length, map, slice_index_or, slice_set, MatchOption, Option, Some, None, OnOk, IfErr};
+ghost use Rattle.std.specs.Prelude.{◌≡◌, ℕ, ◌<◌, ◌≤◌, ◌∷◌, ◌++◌, [], length, map, slice_index_or, slice_set, MatchOption, Option, Some, None, OnOk, IfOk, IfErr, ◌+◌};
 ghost use Rattle.gl_model.specs.Entries.{seen, list_seen};
 ghost use Rattle.gl_model.specs.Lists.{list_of, with_last};
-ghost use Rattle.gl_model.specs.Kept.{IsEntryKept, IsEntryInRange, IsRecord};
+ghost use Rattle.gl_model.specs.Kept.{IsEntryKept, IsEntryInRange, IsListKept, IsRecord};
 ghost use Rattle.gl_model.specs.declared.limits.TheConstants.{THREADS};
 ghost use Rattle.gl_model.specs.declared.record.ThreadList.{ThreadList};
-ghost use Rattle.std.specs.List.{insert};
+ghost use Rattle.std.specs.List.{insert, AllByRecursion};
 ghost use Rattle.std.specs.Vec.{vec_len};
 
 use crate::event::Act;
@@ -206,5 +206,53 @@ impl Record {
     {
         entry.keeps();
         put_last(&mut self.lists, thread, entry)
+    }
+}
+
+/// Room for the lists of a record, which are moved into it whole.
+#[derive(Drop)]
+pub struct RecordRoom {
+    lists: Vec<ThreadList>,
+}
+
+impl Model for RecordRoom {
+    ghost use Rattle.std.specs.Prelude.{map, ◌-◌, vec_capacity, vec_len};
+    ghost use Rattle.gl_model.specs.Entries.{list_seen};
+    ghost use Rattle.gl_model.specs.Kept.{IsRecord};
+    ghost use Rattle.gl_model.specs.Rooms.{RoomView};
+
+    ghost Value = { RoomView };
+
+    ghost view = { λ r. record { lists = map list_seen r.lists.items; room = vec_capacity r.lists - vec_len r.lists } };
+
+    ghost invariant = { λ r. IsRecord (map list_seen r.lists.items) };
+}
+
+impl RecordRoom {
+    /// Room for so many lists at least.
+    pub fn with_capacity(alloc: Global, lists: usize) -> Result<RecordRoom, AllocError>
+        ensures { IfOk result (λ r. (r.lists ≡ []) × (lists ≤ r.room)) }
+    {
+        Ok(RecordRoom {
+            lists: Vec::with_capacity(alloc, lists)?,
+        })
+    }
+
+    /// Puts the list of a thread behind those of the threads below it.
+    pub fn add(&mut self, thread: u8, entries: Vec<Entry>)
+        requires room { 0 < self.old.room }
+        requires list { IsListKept (thread, map seen entries.items) }
+        requires behind { AllByRecursion (λ l. l.0 < thread) self.old.lists }
+        ensures lists { self.new.lists ≡ self.old.lists ++ (thread, map seen entries.items) ∷ [] }
+        ensures room { self.new.room + 1 ≡ self.old.room }
+    {
+        self.lists.push_reserved(ThreadList { thread, entries });
+    }
+
+    /// The record of these lists.
+    pub fn record(self) -> Record
+        ensures { result ≡ self.lists }
+    {
+        Record { lists: self.lists }
     }
 }

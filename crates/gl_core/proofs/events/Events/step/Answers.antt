@@ -10,4 +10,5 @@ step_on-requires-clause-stamp c =
 
 pub step_on-requires-in-Commit-clause-stamp : goal.step_on-requires-in-Commit-clause-stamp
 step_on-requires-in-Commit-clause-stamp c =
-    in_range c.self.inside.commits.items c.self.inside.stamps.items c.args.self.now.stamps c.args.position c.index-short.result.now (Commit c.in-Commit.thread c.in-Commit.place) (ap (λ (v : EventsView). v.stamps) c.self.view_is) c.requires.position c.index-short.ensures c.in-Commit.is c.requires.stamps
+    let stamp = in_range c.self.inside.commits.items c.self.inside.stamps.items c.args.self.now.stamps c.args.position c.index-short.result.now (Commit c.in-Commit.thread c.in-Commit.place) (ap (λ (v : EventsView). v.stamps) c.self.view_is) c.requires.position c.index-short.ensures c.in-Commit.is c.requires.stamps in
+    (stamp.0, c.keeps.ensures)
