@@ -14,7 +14,6 @@ use Rattle.gl_run.specs.Output.{refusal, usage}
 use Rattle.gl_run.specs.Texts.{AnswersText, AnswersLonger}
 use Rattle.gl_run.specs.Words.{most_of}
 use Rattle.gl_run.specs.declared.keep.Keep.{Keep}
-use Rattle.gl_run.specs.declared.kept.Kept.{Kept}
 use Rattle.gl_run.specs.declared.page.Page.{Page}
 use Rattle.gl_run.specs.declared.words.Command.{Command}
 use Rattle.gl_run.specs.declared.words.Command.TheVariants as commands

@@ -1,22 +1,18 @@
 -- What is rightly said of the lines of a trace is settled, and so is the answer of `check`.
-use Rattle.std.proofs.Common.{◌≡◌, ◌+◌, ◌<◌, ◌≤◌, ℕ, zero, suc, List, [], ◌∷◌, ◌++◌, Option, None, Some, length, map, take, refl, ap, sym, subst, ◌∙◌, inl, inr, arith, append_assoc, All}
-use Rattle.std.specs.Prelude.{option_map, slice_get}
+use Rattle.std.proofs.Common.{◌≡◌, ◌+◌, ℕ, zero, suc, List, [], ◌∷◌, ◌++◌, Option, None, Some, map, take, refl, ap, sym, subst, ◌∙◌, inl, inr, arith, append_assoc, All}
+use Rattle.std.specs.Prelude.{slice_get}
 use Rattle.std.proofs.lemmas.List.{map-append, take-append-le}
-use Rattle.std.proofs.lemmas.List.Elements.{All-get_or}
-use Rattle.std.proofs.lemmas.Option.{slice_get_within, slice_get-map, get_or_from_slice_get}
-use Rattle.gl_draws.specs.TraceLaws.{LastIsSettled}
-use Rattle.gl_draws.specs.TraceStates.{AreSound}
-use Rattle.gl_draws.specs.TraceStates.{steps_of as record_steps}
-use Rattle.gl_model.specs.declared.row.Judged.{Judged}
-use Rattle.gl_model.specs.Kept.{IsRecord}
-use Rattle.gl_model.specs.Lists.{lists_of}
-use Rattle.gl_model.specs.Trace.{Line, AreVerdicts, IsJudgedRightly, after_lines, before_lines, last_place, trace_record}
-use Rattle.gl_model.specs.TraceSteps.{Step, IsStep, AreClean, step_fault}
+use Rattle.std.proofs.lemmas.Option.{slice_get_within}
+use Rattle.gl_lines.specs.TraceLaws.{LastIsSettled}
+use Rattle.gl_lines.specs.TraceStates.{AreSound}
+use Rattle.gl_lines.specs.TraceStates.{steps_of as record_steps}
+use Rattle.gl_model.specs.Trace.{Line, AreVerdicts, IsJudgedRightly, after_lines, before_lines, last_place}
+use Rattle.gl_model.specs.TraceSteps.{IsStep, AreClean, step_fault}
 use Rattle.gl_trace.specs.Judging.{line_of}
 use Rattle.gl_trace.specs.Trace.{IsTrace, IsFirstFault}
-use Rattle.gl_trace.specs.TraceLine.{TraceLine, step_of, steps_of}
+use Rattle.gl_trace.specs.TraceLine.{TraceLine, steps_of}
 use Rattle.gl_trace.specs.Verdicts.{said_text, verdicts_said}
-use Rattle.gl_run.specs.Check.{AcceptsTrace, ChecksText, KeepsRecord, RefusesTrace, Said, lines_said, status_of}
+use Rattle.gl_run.specs.Check.{AcceptsTrace, KeepsRecord, RefusesTrace, Said, lines_said, status_of}
 use Rattle.gl_run.specs.Laws.{ChecksAreApart, ChecksAreOne}
 use Rattle.gl_run.specs.Output.{refusal}
 use Rattle.gl_run.specs.declared.keep.Keep.{Keep}

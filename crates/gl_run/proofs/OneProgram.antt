@@ -1,12 +1,11 @@
 -- The answer of `list` is settled, and that of a run by its record.
-use Rattle.std.proofs.Common.{◌≡◌, ℕ, ℤ, List, Option, None, Some, refl, ap, sym, subst, ◌∙◌, inl, inr}
+use Rattle.std.proofs.Common.{◌≡◌, ℕ, ℤ, List, Option, None, Some, ap, sym, subst, ◌∙◌, inl, inr}
 use Rattle.std.specs.Prelude.{unwrap_or}
 use Rattle.gl_asm.specs.Listing.{listing}
 use Rattle.gl_asm.specs.Texts.{IsText, IsFirstFault}
 use Rattle.gl_bytecode.specs.Programs.{Bytecode, Draft, draft_of}
 use Rattle.gl_model.specs.Entries.{Entry}
 use Rattle.gl_model.specs.Report.{report_of}
-use Rattle.gl_run.specs.Command.{Replies}
 use Rattle.gl_run.specs.Laws.{ChecksAreOne, ListingsAreApart, ListingsAreOne, RepliesAreOne, RepliesAreTold, RunsAreApart, RunsAreLawful, RunsAreTold, IsKeptRun, IsOneAnswer, IsToldByKept}
 use Rattle.gl_run.specs.Listed.{AcceptsProgram, RefusesProgram}
 use Rattle.gl_run.specs.Output.{refusal}

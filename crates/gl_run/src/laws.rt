@@ -8,7 +8,7 @@ pub fn checks_are_settled()
 {
     gl_trace::one_meaning();
     gl_trace::traces_are_clean();
-    gl_draws::verdicts_of_traces();
+    gl_lines::verdicts_of_traces();
 }
 
 /// A text has one answer of `list`. A run's answer is told by the record that is kept, which is lawful. No text is both accepted and

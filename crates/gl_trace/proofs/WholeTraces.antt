@@ -5,9 +5,8 @@ use Rattle.std.specs.Str.Lines.{lines}
 use Rattle.std.proofs.lemmas.Bool.{ltb-false}
 use Rattle.std.proofs.lemmas.List.{take_more, take_all, length-take-le, map-append}
 use Rattle.std.proofs.lemmas.List.Elements.{All-push}
-use Rattle.gl_model.specs.declared.limits.TheConstants.{THREADS, MONITORS, VOLATILES, VARIABLES}
-use Rattle.gl_model.specs.declared.row.Item.{Item}
-use Rattle.gl_model.specs.TraceSteps.{Step, IsStep, IsLineItem, AreClean, step_fault}
+use Rattle.gl_model.specs.declared.limits.TheConstants.{THREADS}
+use Rattle.gl_model.specs.TraceSteps.{Step, IsStep, IsLineItem, AreClean}
 use Rattle.gl_text.specs.Number.{signed_of}
 use Rattle.gl_text.specs.Text.{is_bad, words}
 use Rattle.gl_text.specs.declared.kinds.TheConstants.{BAD_BYTE, TOO_MANY_LINES}

@@ -1,10 +1,10 @@
-use Rattle.std.proofs.Common.{◌≡◌, ◌++◌, ◌∙◌, List, [], ◌∷◌, ap, sym, refl, length, map, string_bytes, arith}
+use Rattle.std.proofs.Common.{◌≡◌, ◌++◌, ◌∙◌, List, [], ◌∷◌, ap, sym, refl, length, arith}
 use Rattle.std.specs.List.{count_by, flat_map}
 use Rattle.std.proofs.lemmas.Grind.{common_steps}
 use Rattle.gl_model.specs.declared.row.Judged.{Judged}
 use Rattle.gl_trace.specs.Judging.{judged_lines}
 use Rattle.gl_trace.specs.TraceLine.{TraceLine}
-use Rattle.gl_trace.specs.Verdicts.{is_race, races_line, verdict_line, verdict_text, verdicts_said}
+use Rattle.gl_trace.specs.Verdicts.{is_race, races_line, verdict_line, verdicts_said}
 use Rattle.gl_trace.proofs.verdicts.verdict_text.Goals as goal
 
 -- where there is one for each line, what is said of the lines is all that is said
