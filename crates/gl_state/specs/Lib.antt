@@ -1,3 +1,4 @@
 pub mod ListView
 pub mod States
 pub mod Entering
+pub mod Starting
