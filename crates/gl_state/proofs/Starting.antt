@@ -1,11 +1,9 @@
 -- The state before any event is that of the machine.
-use Rattle.std.proofs.Common.{◌≡◌, ℕ, zero, suc, ◌+◌, ◌<◌, List, [], ◌∷◌, replicate, refl, sym, arith, ap, ◌∙◌}
+use Rattle.std.proofs.Common.{◌≡◌, ℕ, zero, suc, List, replicate, refl, sym, arith, ap, ◌∙◌}
 use Rattle.std.specs.Prelude.{pos, slice_index_or, None, Option}
-use Rattle.gl_model.specs.Machine.{Setting, start, with_at, ThreadState, NeverForked, Forked, Free}
+use Rattle.gl_model.specs.Machine.{Setting, start, NeverForked, Forked}
 use Rattle.gl_draws.proofs.DrawTies.{with_else}
-use Rattle.gl_state.specs.declared.state.Stage.{Stage}
 use Rattle.gl_state.specs.declared.state.Stage.TheVariants as stage
-use Rattle.gl_state.specs.ListView.{ListView}
 use Rattle.gl_state.specs.Starting.{first_state}
 use Rattle.gl_state.specs.States.{IsStateOf, thread_state, monitor_state}
 

@@ -2,3 +2,4 @@ pub mod ListView
 pub mod States
 pub mod Entering
 pub mod Starting
+pub mod Acts

@@ -1,5 +1,5 @@
 -- What the table keeps at the start.
-use Rattle.std.specs.Prelude.{ℕ, pos, replicate, slice_set, None, List}
+use Rattle.std.specs.Prelude.{ℕ, pos, replicate, slice_set, None}
 use Rattle.gl_model.specs.declared.row.Row.{Row}
 use Rattle.gl_state.specs.declared.state.Stage.TheVariants as stage
 use Rattle.gl_state.specs.ListView.{ListView}

@@ -18,13 +18,13 @@ pub enum Stage {
 
 #[derive(Drop)]
 pub struct ListState {
-    threads: Vec<Stage>,
-    monitors: Vec<Option<(u8, u64)>>,
-    volatiles: Vec<i64>,
-    next_object: u16,
-    next_variable: u16,
-    next_volatile: u16,
-    inputs_taken: u32,
+    pub(crate) threads: Vec<Stage>,
+    pub(crate) monitors: Vec<Option<(u8, u64)>>,
+    pub(crate) volatiles: Vec<i64>,
+    pub(crate) next_object: u16,
+    pub(crate) next_variable: u16,
+    pub(crate) next_volatile: u16,
+    pub(crate) inputs_taken: u32,
 }
 
 impl Model for ListState {

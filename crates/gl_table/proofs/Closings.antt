@@ -1,5 +1,5 @@
 -- What the last load tells, and the first words of a table.
-use Rattle.std.proofs.Common.{◌≡◌, ℕ, zero, suc, ◌+◌, ◌-◌, ◌<◌, ◌≤◌, List, [], ◌∷◌, ◌++◌, sym, refl, ap, subst, arith, ◌∙◌, append_assoc}
+use Rattle.std.proofs.Common.{◌≡◌, ℕ, zero, suc, ◌+◌, ◌-◌, ◌<◌, List, [], ◌∷◌, ◌++◌, sym, ap, subst, arith, ◌∙◌, append_assoc}
 use Rattle.std.specs.List.{All}
 use Rattle.std.proofs.lemmas.List.Elements.{All-nil, All-cons}
 use Rattle.atomic_table.specs.Table as table
@@ -21,11 +21,16 @@ use Rattle.gl_table.specs.PassView.{PassView}
 pub load_tells : (key : Key) (slots id : ℕ) (v : View) (c : List (ℕ × Slot)) → table.Allows (Rule key) slots id (v, c) 0 (λ n. n) (λ n w. ClosedTold key v w)
 load_tells key slots id v c s rule long here fits =
     let w = rule.0 in
-    let H = rule.1 in
-    (v, table.keeps, tt, loads_word key s id 0 v (w, reviews key w s id v v here (λ g o. o) H (H.views.at id v here)), record {
-      lawful = λ h rising. table_lawful key w s id v H here h.held h.all h.done rising;
-      trims = λ h. let t = trimmed key s id v rule here h in record { events = t.0; listed = t.1; trims = t.2 };
-    })
+    let H = rule.1 in (
+      v,
+      table.keeps,
+      tt,
+      loads_word key s id 0 v (w, reviews key w s id v v here (λ g o. o) H (H.views.at id v here)),
+      record {
+        lawful = λ h rising. table_lawful key w s id v H here h.held h.all h.done rising;
+        trims = λ h. let t = trimmed key s id v rule here h in record { events = t.0; listed = t.1; trims = t.2 };
+      },
+    )
 
 pub may_close : (key key' : Key) (slots id : ℕ) (me : table.Me Slot View) (u : View) → u ≡ me.0 → key' ≡ key → table.Allows (Rule key) slots id me 0 (λ n. n) (λ n w. ClosedTold key' u w)
 may_close key key' slots id me u is same =

@@ -1,7 +1,7 @@
 -- The passes of a table, one after another, while their lists are gathered.
-use Rattle.std.proofs.Common.{◌≡◌, ℕ, zero, suc, ◌+◌, ◌<◌, ◌≤◌, List, [], ◌∷◌, ◌++◌, length, map, sym, refl, ap, subst, arith, ◌∙◌, inl, inr, ⊎_elim, append_assoc, append-nil, true, false, Bool, ◌==◌}
-use Rattle.std.specs.Prelude.{slice_get, Some, Contains, ◌⊎◌, ◌≢◌}
-use Rattle.std.specs.List.{All, AllByRecursion}
+use Rattle.std.proofs.Common.{◌≡◌, ℕ, zero, suc, ◌+◌, ◌<◌, List, [], ◌∷◌, ◌++◌, length, map, sym, refl, ap, subst, arith, ◌∙◌, ⊎_elim, true, false, Bool, ◌==◌}
+use Rattle.std.specs.Prelude.{slice_get, Some, Contains, ◌≢◌}
+use Rattle.std.specs.List.{AllByRecursion}
 use Rattle.std.proofs.lemmas.List.{map-append}
 use Rattle.std.proofs.lemmas.Option.{slice_get_within}
 use mathlib.Core.Option.{some}
@@ -9,11 +9,10 @@ use lib.ListN.{get_elem?}
 use Rattle.atomic_table.specs.Table as table
 use Rattle.atomic_table.specs.Seated.{TableId}
 use Rattle.atomic_table.proofs.Lists.{at_set}
-use Rattle.gl_model.specs.declared.limits.TheConstants.{THREADS}
 use Rattle.gl_model.specs.Entries.{Entry, Sync, Commit, Plain, Abort, Trim, Over}
 use Rattle.gl_model.specs.Form.{At}
 use Rattle.gl_model.specs.Kept.{IsEntryKept, IsRecord, IsListKept}
-use Rattle.gl_model.specs.Lists.{list_of, lists_of}
+use Rattle.gl_model.specs.Lists.{lists_of}
 use Rattle.gl_model.specs.Rising.{Rises}
 use Rattle.gl_draws.specs.Cached.{IsEntryRising}
 use Rattle.gl_rule.specs.declared.slot.Slot.{Slot}
@@ -21,7 +20,7 @@ use Rattle.gl_rule.specs.Closed.{IsDone, kept_lists, lists_in, with_list}
 use Rattle.gl_rule.specs.Laws.{HasAll}
 use Rattle.gl_rule.specs.Objects.{Key}
 use Rattle.gl_rule.specs.Rule.{Rule}
-use Rattle.gl_rule.specs.View.{View, Shelf, shelf, both, blank}
+use Rattle.gl_rule.specs.View.{View, Shelf, both, blank}
 use Rattle.gl_rule.proofs.Ending.{drew_all, paid_all, both_done}
 use Rattle.gl_rule.proofs.Seats.{joins}
 use Rattle.gl_model.specs.Lawful.{IsLawful}

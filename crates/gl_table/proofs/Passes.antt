@@ -4,7 +4,6 @@ use Rattle.std.specs.Prelude.{Contains, Some, None, ℤ, if◌then◌else◌, Op
 use Rattle.gl_model.specs.declared.event.Act.{Act}
 use Rattle.gl_model.specs.declared.event.Event.TheVariants.{Act as Does}
 use Rattle.gl_model.specs.declared.event.Stamp.{Stamp}
-use Rattle.gl_model.specs.Form.{At}
 use Rattle.gl_model.specs.Kept.{IsEntryKept}
 use Rattle.gl_model.specs.Records.{position_of}
 use Rattle.gl_draws.specs.Draws.{Draw, draw, Entered}
@@ -21,7 +20,7 @@ use Rattle.gl_rule.specs.declared.slot.Slot.TheVariants as slot
 use Rattle.gl_table.specs.CaughtUp.{caught_up, adds_all, adds_one, first_marked}
 use Rattle.gl_rule.specs.Knowledge.{AreBelow}
 use Rattle.gl_rule.specs.Objects.{objects}
-use Rattle.gl_table.specs.PassInside.{IsReady, IsPass, AreOut, IsHeld, empties}
+use Rattle.gl_table.specs.PassInside.{IsReady, IsPass, AreOut, empties}
 use Rattle.gl_table.specs.PassView.{pass_of}
 use Rattle.gl_rule.specs.View.{View, Held, HasObject, shelf, took, refused, left, saw_tail, with_tail, saw, Read, without, published, after_publish, marked}
 use Rattle.gl_rule.specs.Taken.{TakenTold}

@@ -1,11 +1,10 @@
 -- Ids in entries are ones that there are.
-use Rattle.std.proofs.Common.{◌≡◌, ℕ, ◌<◌, List, sym, ap, subst, ◌∙◌, true, false}
-use Rattle.std.specs.Prelude.{Bool, ℤ, Contains, slice_get}
+use Rattle.std.proofs.Common.{◌≡◌, ℕ, ◌<◌, List, subst}
+use Rattle.std.specs.Prelude.{Bool, ℤ}
 use Rattle.std.specs.List.{All}
-use Rattle.std.proofs.lemmas.List.Elements.{All-contains}
 use Rattle.gl_model.specs.declared.limits.TheConstants.{VARIABLES}
 use Rattle.gl_model.specs.Entries.{Entry, Sync, Commit, Plain, Abort, Trim, Over}
-use Rattle.gl_model.specs.Form.{At, GivesRight, HasRight}
+use Rattle.gl_model.specs.Form.{At, GivesRight}
 use Rattle.gl_model.specs.Kept.{IsEntryKept}
 use Rattle.gl_rule.specs.Adding.{MayCache}
 use Rattle.gl_rule.specs.View.{View, Shelf}

@@ -1,11 +1,10 @@
 -- What a table is closed to.
-use Rattle.std.specs.Prelude.{◌≡◌, ℕ, List, [], ◌∷◌, length, map, slice_get, Some, Contains}
+use Rattle.std.specs.Prelude.{◌≡◌, ℕ, List, [], length, map, slice_get, Some, Contains}
 use Rattle.atomic_table.specs.Seated.{TableId}
 use Rattle.gl_model.specs.declared.event.Stamp.{Stamp}
 use Rattle.gl_model.specs.declared.limits.TheConstants.{THREADS}
 use Rattle.gl_model.specs.Entries.{Entry}
 use Rattle.gl_model.specs.Lawful.{IsLawful}
-use Rattle.gl_model.specs.Machine.{Setting}
 use Rattle.gl_model.specs.Records.{Lists, Place, EntryAt, IsEventList}
 use Rattle.gl_draws.specs.Cached.{IsEntryRising}
 use Rattle.gl_rule.specs.Closed.{IsDone, lists_in}

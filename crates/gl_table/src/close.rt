@@ -82,10 +82,7 @@ fn gather(board: &Board, root: &mut Seat, room: &mut RecordRoom, passes: Vec<Pas
 impl Shared {
     /// Ends the table, whose passes are all given back, in the order of their numbers, each done. The record has their lists that are not
     /// empty. It takes its memory first; the Err hands all back as it was.
-    pub fn close(
-        self,
-        passes: Vec<Pass>,
-    ) -> Result<Sealed, (Shared, Vec<Pass>, AllocError)>
+    pub fn close(self, passes: Vec<Pass>) -> Result<Sealed, (Shared, Vec<Pass>, AllocError)>
         requires all { AreAllDone self.id passes.items }
         ensures key { IfOk result (λ s. s.key ≡ self.key) }
         ensures lists { IfOk result (λ s. (t : ℕ) → lists_of s.entries t ≡ mine_at passes.items t) }

@@ -13,7 +13,7 @@ mod sealed;
 mod shared;
 mod telling;
 
-pub use pass::Pass;
 pub use layout::Layout;
+pub use pass::Pass;
 pub use sealed::Sealed;
 pub use shared::{Busy, Shared};

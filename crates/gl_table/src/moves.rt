@@ -18,15 +18,14 @@ ghost use Rattle.gl_rule.specs.View.{Shelf, shelf, Held, Hold};
 ghost use Rattle.gl_rule.specs.declared.slot.Slot.{Slot as ASlot};
 ghost use Rattle.gl_rule.specs.declared.slot.Slot.TheVariants as slot;
 
-use gl_rule::Know;
 use crate::layout::Layout;
 use crate::rule::{
     Closes, Leaves, Lowers, Marks, Order, Publishes, Puts, Raises, SeesFloor, SeesHold, SeesTail,
     Takes, Told,
 };
-use gl_rule::Slot;
-use gl_state::ListState;
 use gl_model::{Act, Entry, Row};
+use gl_rule::{Know, Slot};
+use gl_state::ListState;
 
 pub type Seat = atomic_table::Seat<Slot, Know>;
 

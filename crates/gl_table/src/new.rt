@@ -23,7 +23,9 @@ use gl_state::{KeptRow, ListState};
 use std::alloc::{AllocError, Global};
 
 const PASSES: u8 = 16;
+
 const ROWS: u16 = 1024;
+
 const OBJECTS: usize = 1025;
 
 pub(crate) type Owned = Table<Slot, Know, Layout, Order, Global>;

@@ -19,8 +19,8 @@ use crate::hold::bring;
 use crate::moves::{
     Board, Seat, leave_turn, load_floor, load_hold, load_tail, raise_floor, take_turn,
 };
-use gl_rule::Slot;
 use gl_model::{Ending, Entry, Row};
+use gl_rule::Slot;
 use std::alloc::AllocError;
 use std::marker::{Brand, Model};
 

@@ -1,8 +1,7 @@
 // The rule of the table, and what its steps tell.
 use crate::layout::Layout;
-use gl_rule::Know;
-use gl_rule::Slot;
 use atomic_table::{Join, Play, Split, TableRule};
+use gl_rule::{Know, Slot};
 use std::marker::{Brand, PhantomData};
 
 pub struct Order;

@@ -9,17 +9,15 @@ ghost use Rattle.gl_rule.specs.Taken.{StateTold};
 ghost use Rattle.gl_rule.specs.View.{Hold, took, refused, left, saw_tail, saw};
 ghost use Rattle.gl_rule.specs.declared.slot.Slot.TheVariants as slot;
 
-use gl_state::KeptRow;
-use gl_rule::Know;
-use crate::pass::{Pass, put_object, see_hold, see_tail, take_object};
 use crate::layout::Layout;
+use crate::pass::{Pass, put_object, see_hold, see_tail, take_object};
 use crate::rule::Order;
-use gl_rule::Slot;
-use gl_state::ListState;
 use crate::telling::{mark_plain, publish};
 use atomic_table::Table;
 use gl_model::Act;
+use gl_rule::{Know, Slot};
 use gl_segments::Ring;
+use gl_state::{KeptRow, ListState};
 use std::alloc::Global;
 use std::marker::Model;
 
@@ -107,7 +105,14 @@ impl Shared {
         ensures published { pass.new ≡ published_act pass.old act.now value result state.now }
         ensures later { pass.old.seen ≤ result }
     {
-        publish(&self.table.shared, pass, self.layout.ring.len(), act, value, state)
+        publish(
+            &self.table.shared,
+            pass,
+            self.layout.ring.len(),
+            act,
+            value,
+            state,
+        )
     }
 
     /// Tries to take a row.

@@ -15,8 +15,8 @@ ghost use Rattle.gl_rule.specs.declared.slot.Slot.TheVariants as slot;
 use crate::moves::{Board, Seat, draw_number, publish_act, put_word};
 use crate::pack::pack;
 use crate::pass::Pass;
-use gl_state::ListState;
 use gl_model::{Act, Entry};
+use gl_state::ListState;
 use std::marker::Brand;
 
 // Stores the words in the cell of the tail.

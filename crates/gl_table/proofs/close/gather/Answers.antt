@@ -3,7 +3,7 @@ use Rattle.std.specs.List.{AllByRecursion}
 use Rattle.std.specs.Vec.Iter.{into_iter_items}
 use Rattle.gl_rule.specs.Closed.{kept_lists}
 use Rattle.gl_table.specs.Ending.{IsRoot, shelves_of}
-use Rattle.gl_table.specs.PassView.{PassView, shelf_of}
+use Rattle.gl_table.specs.PassView.{shelf_of}
 use Rattle.gl_table.proofs.Gathering.{kept_more, shelves_more, next_done, next_behind, nothing_left}
 use Rattle.gl_table.proofs.close.gather.Goals as goal
 

@@ -1,12 +1,11 @@
-use Rattle.std.proofs.Common.{◌≡◌, ◌++◌, ◌∷◌, [], List, ℕ, map, refl, sym, ap, subst, ◌∙◌, arith}
+use Rattle.std.proofs.Common.{◌≡◌, ◌++◌, ◌∷◌, [], map, sym, ap, subst, ◌∙◌, arith}
 use Rattle.atomic_table.specs.Table as table
 use Rattle.gl_model.specs.Entries.{seen}
 use Rattle.gl_rule.specs.Closed.{IsDone}
 use Rattle.gl_rule.specs.declared.slot.Slot.{Slot}
-use Rattle.gl_rule.specs.View.{View, Held, shelf, both, saw_tail, with_tail}
+use Rattle.gl_rule.specs.View.{View, shelf, saw_tail, with_tail}
 use Rattle.gl_table.specs.CaughtUp.{caught_up}
 use Rattle.gl_table.specs.Ending.{IsRoot}
-use Rattle.gl_table.specs.PassInside.{empties}
 use Rattle.gl_table.specs.PassView.{PassView, shelf_of}
 use Rattle.gl_table.proofs.Gathering.{joins_root, root_more}
 use Rattle.gl_table.proofs.Out.{nothing_out}
@@ -23,8 +22,7 @@ join_seat-requires c =
     let u = caught_up c.pass.inside.seat.me.0 c.pass.inside.id (map seen c.pass.inside.mine.items) in
     let idle : u.held ≡ [] = ap (λ (v : PassView). v.own.held) c.pass.view_is ∙ d.held in
     let done : IsDone (map seen c.pass.inside.mine.items) u.quiet = subst (λ (v : PassView). IsDone v.own.mine v.quiet) (sym c.pass.view_is) d.done in
-    let is : c.load_tail.new.seat.me.0 ≡ saw_tail u c.load_tail.result = ap (λ (m : table.Me Slot View). m.0) l.0 in
-    (
+    let is : c.load_tail.new.seat.me.0 ≡ saw_tail u c.load_tail.result = ap (λ (m : table.Me Slot View). m.0) l.0 in (
       t.0,
       s.0 ∙ ap (λ (v : PassView). v.own.table) c.pass.view_is ∙ d.table,
       ap (λ (m : table.Me Slot View). m.1) l.0 ∙ nothing_out _ _ _ p.out idle,

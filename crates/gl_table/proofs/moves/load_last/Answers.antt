@@ -1,6 +1,4 @@
-use Rattle.std.proofs.Common.{arith, subst}
-use Rattle.gl_table.specs.Ending.{ClosedTold}
-use Rattle.gl_table.specs.KeyOf.{key_of}
+use Rattle.std.proofs.Common.{arith}
 use Rattle.gl_table.proofs.Closings.{may_close}
 use Rattle.gl_table.proofs.moves.load_last.Goals as goal
 

@@ -1,8 +1,8 @@
-use Rattle.std.proofs.Common.{◌≡◌, ℕ, List, refl, sym, subst, ◌∙◌}
+use Rattle.std.proofs.Common.{ℕ, List, refl, sym, subst, ◌∙◌}
 use Rattle.atomic_table.specs.Table.{opening}
 use Rattle.gl_rule.specs.declared.slot.Slot.{Slot}
 use Rattle.gl_rule.specs.Objects.{capacity, word_count}
-use Rattle.gl_rule.specs.Opened.{first_slots, sixteen}
+use Rattle.gl_rule.specs.Opened.{sixteen}
 use Rattle.gl_rule.specs.Rule.{Rule}
 use Rattle.gl_rule.specs.View.{blank}
 use Rattle.gl_rule.proofs.Opening.{begins}

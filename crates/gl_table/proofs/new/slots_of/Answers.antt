@@ -1,4 +1,4 @@
-use Rattle.std.proofs.Common.{◌≡◌, ◌∷◌, ℕ, replicate, ap, ◌∙◌, arith}
+use Rattle.std.proofs.Common.{◌≡◌, ◌∷◌, replicate, ap, ◌∙◌, arith}
 use Rattle.gl_rule.specs.declared.slot.Slot.TheVariants as slot
 use Rattle.gl_state.specs.Starting.{empty_row, first_state}
 use Rattle.gl_table.proofs.new.slots_of.Goals as goal

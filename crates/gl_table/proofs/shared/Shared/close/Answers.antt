@@ -1,12 +1,10 @@
-use Rattle.std.proofs.Common.{◌≡◌, ℕ, [], sym, refl, ap, subst, ◌∙◌, arith}
+use Rattle.std.proofs.Common.{[], sym, ap, subst, ◌∙◌, arith}
 use Rattle.atomic_table.specs.Table as table
-use Rattle.gl_model.specs.Kept.{IsRecord}
-use Rattle.gl_model.specs.Lawful.{IsLawful}
 use Rattle.gl_model.specs.Lists.{lists_of}
 use Rattle.gl_rule.specs.declared.slot.Slot.{Slot}
-use Rattle.gl_rule.specs.View.{View, blank}
+use Rattle.gl_rule.specs.View.{View}
 use Rattle.gl_rule.proofs.Seats.{enters}
-use Rattle.gl_table.specs.Ending.{IsTrimmed, ClosedTold, AreAllDone, mine_at}
+use Rattle.gl_table.specs.Ending.{ClosedTold, AreAllDone}
 use Rattle.gl_table.specs.KeyOf.{key_of}
 use Rattle.gl_table.specs.TableView.{TableView}
 use Rattle.gl_table.specs.declared.layout.Layout.{Layout}
