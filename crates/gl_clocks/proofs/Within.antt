@@ -23,7 +23,7 @@ use Rattle.gl_draws.specs.Verdicts.{Precedes}
 use Rattle.gl_draws.proofs.BlockOrder.{by_steps_precedes, precedes, happens_before}
 use Rattle.gl_draws.proofs.Membership.{set_means, left_leaves, leaves_var}
 use Rattle.gl_draws.proofs.Reaching.{event_back, precedes_grows, precedes_back}
-use Rattle.gl_draws.proofs.TraceMachine.{with_at-here, with_at-else}
+use Rattle.gl_draws.proofs.DrawTies.{with_here, with_else}
 use Rattle.gl_clocks.specs.Clocks.{clocks, tick_of, tick}
 use Rattle.gl_clocks.specs.ClockLaws.{ClocksPrecede, ClocksInRecord, ClocksAtVariable, IsRefusedOn, ClocksAtRefusal}
 use Rattle.gl_clocks.proofs.Locked.{clocks_within, locksets_law, split_at}
@@ -31,10 +31,10 @@ use Rattle.gl_clocks.proofs.Ordered.{list_law, same_now, stands_access}
 
 -- a thread that made an event that is not its End runs
 at_own : (old : ℕ → ThreadState) (t : ℕ) (a : ThreadState) → with_at old t a t ≡ a
-at_own old t a = with_at-here old t a
+at_own old t a = with_here old t a
 
 after_runs : (setting : Setting) (old new : State) (t : ℕ) (e : Event) (value : ℤ) → MayStep (old.threads t) e value → Effect setting old t e value new → e ≢ Does End → new.threads t ≡ Running
-after_runs setting old new t (Does (Begin f)) value may h other = ap (λ (s : State). s.threads t) h ∙ with_at-here old.threads t Running
+after_runs setting old new t (Does (Begin f)) value may h other = ap (λ (s : State). s.threads t) h ∙ with_here old.threads t Running
 after_runs setting old new t (Does End) value may h other = absurd (other refl)
 after_runs setting old new t (Does (Acq o)) value may h other = ap (λ (s : State). s.threads t) h.2 ∙ may
 after_runs setting old new t (Does (Rel o)) value may h other = ap (λ (s : State). s.threads t) h.2 ∙ may
@@ -42,7 +42,7 @@ after_runs setting old new t (Does (VRead v)) value may h other = ap (λ (s : St
 after_runs setting old new t (Does (VWrite v)) value may h other = ap (λ (s : State). s.threads t) h ∙ may
 after_runs setting old new t (Does (Fork u f)) value may h other =
     let apart : t ≢ u = (λ e. let n : old.threads u ≡ NeverForked = h.0.2 in let r : old.threads u ≡ Running = ap old.threads (sym e) ∙ may in let z : NeverForked ≡ Running = sym n ∙ r in cc) in
-    ap (λ (s : State). s.threads t) h.1 ∙ with_at-else old.threads u t _ apart ∙ may
+    ap (λ (s : State). s.threads t) h.1 ∙ with_else old.threads u t _ apart ∙ may
 after_runs setting old new t (Does (Join u)) value may h other = ap (λ (s : State). s.threads t) h.1 ∙ may
 after_runs setting old new t (Does (Alloc c)) value may h other = ap (λ (s : State). s.threads t) h.4 ∙ may
 after_runs setting old new t (Does Print) value may h other = ap (λ (s : State). s.threads t) h ∙ may

@@ -7,9 +7,9 @@ use Rattle.std.proofs.lemmas.Option.{slice_get-map, slice_get_within, get_or_fro
 use Rattle.gl_model.specs.declared.row.Judged.{Judged}
 use Rattle.gl_model.specs.Trace.{Line, AreVerdicts}
 use Rattle.gl_model.specs.TraceSteps.{Step, IsStep, AreClean, step_fault}
-use Rattle.gl_draws.specs.TraceStates.{steps_of, AreSound}
-use Rattle.gl_draws.proofs.TraceSound.{steps_push}
-use Rattle.gl_draws.proofs.VerdictLaw.{settled_law}
+use Rattle.gl_lines.specs.TraceStates.{steps_of, AreSound}
+use Rattle.gl_lines.proofs.TraceSound.{steps_push}
+use Rattle.gl_lines.proofs.VerdictLaw.{settled_law}
 use Rattle.gl_core.specs.Follows.{Follows, IsStepped}
 use Rattle.gl_core.specs.declared.detector.Detector.{Detector}
 use Rattle.gl_slow.specs.Follows.{Follows as FollowsPlainly, IsStepped as IsPlainlyStepped}

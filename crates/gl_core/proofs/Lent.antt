@@ -5,7 +5,7 @@ use Rattle.std.specs.List.{find}
 use Rattle.gl_model.specs.declared.event.Act.TheVariants.{Begin}
 use Rattle.gl_model.specs.declared.event.Event.TheVariants.{Act as Does}
 use Rattle.gl_model.specs.Trace.{is_in}
-use Rattle.gl_draws.specs.Traced.{with_stamp}
+use Rattle.gl_lines.specs.Traced.{with_stamp}
 use Rattle.gl_core.specs.declared.latest.Epoch.{Epoch}
 use Rattle.gl_core.specs.Marks.{Marks}
 use Rattle.gl_core.specs.declared.tables.Tables.{Tables}

@@ -21,19 +21,19 @@ use Rattle.gl_model.specs.Trace.{Line, AreVerdicts, is_in}
 use Rattle.gl_model.specs.TraceSteps.{item_joins, act_joins, is_ended, is_running, is_too_wide, item_fault}
 use Rattle.gl_draws.specs.Draws.{Entered, Looked, Draw, draw}
 use Rattle.gl_draws.specs.NextRaces.{IsRacyNext}
-use Rattle.gl_draws.specs.TraceLaws.{IsJudgedBy}
-use Rattle.gl_draws.specs.Traced.{Traced, block_of, touches, with_look, with_own, plain_entry, commit_entry, refused_entry, entered, after_act as traced_act, after_item, after_line, traced}
-use Rattle.gl_draws.specs.TraceStates.{steps_of, AreSound}
+use Rattle.gl_lines.specs.TraceLaws.{IsJudgedBy}
+use Rattle.gl_lines.specs.Traced.{Traced, block_of, touches, with_look, with_own, plain_entry, commit_entry, refused_entry, entered, after_act as traced_act, after_item, after_line, traced}
+use Rattle.gl_lines.specs.TraceStates.{steps_of, AreSound}
 use Rattle.gl_draws.specs.Verdicts.{DrawsHold}
 use Rattle.gl_draws.proofs.EntryKinds.{is_in-contains, contains-is_in}
-use Rattle.gl_draws.proofs.LineSets.{is_in-touches, its_writes}
-use Rattle.gl_draws.proofs.RowNotes.{act_more}
-use Rattle.gl_draws.proofs.TraceEvents.{IsRecorded}
-use Rattle.gl_draws.proofs.TraceLawProofs.{sound_front, last_clean, last_runs, hold_law}
-use Rattle.gl_draws.proofs.TraceMachine.{or_false, ended_push, clean_parts, runs, with_at-here, with_at-else}
-use Rattle.gl_draws.proofs.TracePlain.{block_here}
-use Rattle.gl_draws.proofs.TraceSound.{traced_push, steps_push, sound_traced}
-use Rattle.gl_draws.proofs.VerdictLaw.{entry_writes, races_law}
+use Rattle.gl_lines.proofs.LineSets.{is_in-touches, its_writes}
+use Rattle.gl_lines.proofs.RowNotes.{act_more}
+use Rattle.gl_lines.proofs.TraceEvents.{IsRecorded}
+use Rattle.gl_lines.proofs.TraceLawProofs.{sound_front, last_clean, last_runs, hold_law}
+use Rattle.gl_lines.proofs.TraceMachine.{or_false, ended_push, clean_parts, runs, with_at-here, with_at-else}
+use Rattle.gl_lines.proofs.TracePlain.{block_here}
+use Rattle.gl_lines.proofs.TraceSound.{traced_push, steps_push, sound_traced}
+use Rattle.gl_lines.proofs.VerdictLaw.{entry_writes, races_law}
 use Rattle.gl_clocks.specs.Clocks.{Clocks, clocks, taken}
 use Rattle.gl_clocks.proofs.Own.{own_law}
 use Rattle.gl_core.specs.Marks.{Marks, latest_fails}

@@ -7,8 +7,8 @@ use Rattle.gl_model.specs.declared.row.Judged.{Judged}
 use Rattle.gl_model.specs.Rising.{with_all}
 use Rattle.gl_model.specs.Trace.{Line, AreVerdicts}
 use Rattle.gl_model.specs.TraceSteps.{is_ended}
-use Rattle.gl_draws.specs.Traced.{history, draws_of}
-use Rattle.gl_draws.specs.TraceStates.{steps_of, AreSound}
+use Rattle.gl_lines.specs.Traced.{history, draws_of}
+use Rattle.gl_lines.specs.TraceStates.{steps_of, AreSound}
 use Rattle.gl_core.specs.Marks.{Marks}
 use Rattle.gl_core.specs.declared.tables.Tables.{Tables}
 use Rattle.gl_core.specs.declared.detector.Detector.{Detector}

@@ -6,7 +6,7 @@ use Rattle.gl_model.specs.declared.event.Stamp.{Stamp}
 use Rattle.gl_model.specs.declared.row.Judged.{Judged}
 use Rattle.gl_model.specs.declared.row.Judged.TheVariants.{NoAccess, Performed, Raised}
 use Rattle.gl_model.specs.Trace.{is_in}
-use Rattle.gl_draws.specs.Traced.{with_stamp}
+use Rattle.gl_lines.specs.Traced.{with_stamp}
 use Rattle.gl_core.specs.declared.latest.Epoch.{Epoch}
 use Rattle.gl_core.specs.Marks.{Marks}
 use Rattle.gl_core.specs.declared.tables.Tables.{Tables}

@@ -116,7 +116,7 @@ impl Tables {
     ghost use Rattle.gl_core.specs.Lines.{commit_epoch};
     ghost use Rattle.std.specs.Prelude.{◌↔◌, IsTrue, slice_index_or};
     ghost use Rattle.gl_clocks.specs.Clocks.{taken, is_thread, is_var_of, is_released_by};
-    ghost use Rattle.gl_draws.specs.Traced.{Traced, with_stamp, after_act};
+    ghost use Rattle.gl_lines.specs.Traced.{Traced, with_stamp, after_act};
     ghost use Rattle.gl_model.specs.declared.event.Act.TheVariants.{Join};
     ghost use Rattle.gl_model.specs.declared.event.Element.{Element};
     ghost use Rattle.gl_model.specs.declared.event.Event.TheVariants.{Act as Does, Commit};

@@ -8,7 +8,7 @@ use Rattle.gl_model.specs.declared.event.Event.TheVariants.{Act as Does, Commit}
 use Rattle.gl_model.specs.declared.event.Stamp.{Stamp}
 use Rattle.gl_model.specs.Infos.{AreLeastOwned}
 use Rattle.gl_model.specs.Machine.{Setting, State, MonitorState, Free, Owned, Owns, Run, Entered, Effect, left_once, with_at}
-use Rattle.gl_draws.proofs.TraceMachine.{with_at-here, with_at-else}
+use Rattle.gl_draws.proofs.DrawTies.{with_here, with_else}
 
 -- the same monitors are owned by t
 SameOwner : ℕ → (ℕ → MonitorState) → (ℕ → MonitorState) → Type 0
@@ -33,8 +33,8 @@ module _ (t u : ℕ) (other : u ≢ t) where
   changed : (f g : ℕ → MonitorState) (p : ℕ) (m : MonitorState) → g ≡ with_at f p m → ((d : ℕ) → f p ≡ Owned t d → ⊥) → ((d : ℕ) → m ≡ Owned t d → ⊥) → SameOwner t f g
   unfolding SameOwner
   changed f g p m is before after o = elim (ℕ_discrete o p) [
-    | yes same ↦ (λ w. absurd (before w.0 (ap f (sym same) ∙ w.1)), λ w. absurd (after w.0 (sym (with_at-here f p m) ∙ ap (λ k. k p) (sym is) ∙ ap g (sym same) ∙ w.1)))
-    | no apart ↦ (let e : g o ≡ f o = ap (λ k. k o) is ∙ with_at-else f p o m apart in (λ w. (w.0, e ∙ w.1), λ w. (w.0, sym e ∙ w.1)))
+    | yes same ↦ (λ w. absurd (before w.0 (ap f (sym same) ∙ w.1)), λ w. absurd (after w.0 (sym (with_here f p m) ∙ ap (λ k. k p) (sym is) ∙ ap g (sym same) ∙ w.1)))
+    | no apart ↦ (let e : g o ≡ f o = ap (λ k. k o) is ∙ with_else f p o m apart in (λ w. (w.0, e ∙ w.1), λ w. (w.0, sym e ∙ w.1)))
   ]
 
   same : (f g : ℕ → MonitorState) → g ≡ f → SameOwner t f g

@@ -7,7 +7,7 @@ use Rattle.std.proofs.lemmas.Option.{slice_get_within, slice_get-map, get_or_fro
 use Rattle.gl_model.specs.declared.row.Judged.{Judged}
 use Rattle.gl_model.specs.Trace.{Line}
 use Rattle.gl_model.specs.TraceSteps.{Step, IsStep, step_fault}
-use Rattle.gl_draws.specs.TraceStates.{AreSound, steps_of}
+use Rattle.gl_lines.specs.TraceStates.{AreSound, steps_of}
 use Rattle.gl_example.specs.Steps.{IsTrace, lines_of}
 
 get_kept : (xs ys : List Step) (k : ℕ) (x : Step) → slice_get xs k ≡ Some x → slice_get (xs ++ ys) k ≡ Some x

@@ -20,7 +20,7 @@ use Rattle.gl_draws.specs.RowFacts.{InfoOf, read_of, RowStands}
 use Rattle.gl_draws.specs.Verdicts.{IsPlaced}
 use Rattle.gl_draws.proofs.EventTies.{new_event}
 use Rattle.gl_draws.proofs.OwnInfo.{own_info}
-use Rattle.gl_draws.proofs.TraceEvents.{allows_push}
+use Rattle.gl_draws.proofs.Runs.{allows_push}
 use Rattle.gl_judge.specs.Noted.{IsNewInfo, IsNoted}
 use Rattle.gl_draws.proofs.Owners.{state_at, least_owned}
 

@@ -16,8 +16,8 @@ use Rattle.gl_model.specs.HappensBefore.{IsRacy}
 use Rattle.gl_model.specs.Records.{Lists, NumberOn}
 use Rattle.gl_model.specs.Rising.{with_one, with_all}
 use Rattle.gl_model.specs.Trace.{Line, Tracing, AreVerdicts, IsJudgedRightly, after_lines, before_lines, last_place, line_tx, look_count, with_entry, with_item}
-use Rattle.gl_draws.proofs.LineSets.{contains_map}
-use Rattle.gl_draws.proofs.TraceNext.{end_place, last_is, there}
+use Rattle.gl_draws.proofs.Sets.{contains_map}
+use Rattle.gl_lines.proofs.TraceNext.{end_place, last_is, there}
 use Rattle.gl_trace.specs.TraceLine.{TraceLine}
 use Rattle.gl_trace.specs.Judging.{Suits, AreJudged, judged_lines, line_of}
 

@@ -10,8 +10,8 @@ use Rattle.std.proofs.lemmas.List.{map-append}
 use Rattle.std.proofs.lemmas.Option.{slice_get_within, slice_get-map, get_or_from_slice_get}
 use Rattle.gl_core.specs.Follows.{Follows, IsStepped}
 use Rattle.gl_core.specs.declared.detector.Detector.{Detector}
-use Rattle.gl_draws.specs.TraceStates.{AreSound}
-use Rattle.gl_draws.specs.TraceStates.{steps_of as record_steps}
+use Rattle.gl_lines.specs.TraceStates.{AreSound}
+use Rattle.gl_lines.specs.TraceStates.{steps_of as record_steps}
 use Rattle.gl_model.specs.declared.row.Judged.{Judged}
 use Rattle.gl_model.specs.declared.row.Judged.TheVariants.{NoAccess, Performed, Raised}
 use Rattle.gl_model.specs.Trace.{Line, AreVerdicts}

@@ -4,7 +4,21 @@
 ghost use Rattle.std.specs.Prelude.{◌≡◌, ◌↔◌, ◌+◌, ◌*◌, ◌/◌, ◌%◌, ◌<◌, ◌≤◌, IsTrue};
 ghost use Rattle.gl_segments.specs.Rings.{IsRing};
 
-/// The segments of a ring and the cells of each segment.
+#[cfg(test)]
+mod tests;
+
+/// The fewest segments of a ring.
+pub const LEAST_SEGMENTS: u16 = 2;
+/// The most segments of a ring.
+pub const MOST_SEGMENTS: u16 = 64;
+/// The fewest cells of a segment.
+pub const LEAST_CELLS: u16 = 4;
+/// The most cells of a segment.
+pub const MOST_CELLS: u16 = 64;
+
+/// The segments of a ring and the cells of each segment: 2 to 64 segments of 4 to 64 cells. The event at a position stands in
+/// the cell of that position modulo the number of all cells; segments are counted without end, and a segment is given again
+/// as many segments later as the ring has.
 #[derive(Clone, Copy, Debug, PartialEq, Eq)]
 pub struct Ring {
     pub segments: u16,
@@ -18,8 +32,8 @@ impl Ring {
         ensures is { (result.segments ≡ 64) × (result.cells ≡ 64) }
     {
         Ring {
-            segments: 64,
-            cells: 64,
+            segments: MOST_SEGMENTS,
+            cells: MOST_CELLS,
         }
     }
 
@@ -27,7 +41,10 @@ impl Ring {
     pub fn is_valid(self) -> bool
         ensures { IsTrue result ↔ IsRing self }
     {
-        2 <= self.segments && self.segments <= 64 && 4 <= self.cells && self.cells <= 64
+        LEAST_SEGMENTS <= self.segments
+            && self.segments <= MOST_SEGMENTS
+            && LEAST_CELLS <= self.cells
+            && self.cells <= MOST_CELLS
     }
 
     /// How many cells there are in all.

@@ -10,10 +10,10 @@ use Rattle.gl_model.specs.Rising.{with_all}
 use Rattle.gl_model.specs.Trace.{is_in}
 use Rattle.gl_closure.specs.declared.races.Performed.{Performed}
 use Rattle.gl_draws.specs.Draws.{Entered, Looked, Draw, draw, Among}
-use Rattle.gl_draws.specs.Traced.{Traced, block_of, plain_entry, commit_entry, refused_entry, with_look, with_own, touches, with_attempt}
+use Rattle.gl_lines.specs.Traced.{Traced, block_of, plain_entry, commit_entry, refused_entry, with_look, with_own, touches, with_attempt}
 use Rattle.gl_draws.proofs.EntryKinds.{is_in-contains, contains-is_in}
-use Rattle.gl_draws.proofs.LineSets.{is_in-touches, its_variables, its_writes}
-use Rattle.gl_draws.proofs.TraceMachine.{with_at-here, with_at-else}
+use Rattle.gl_lines.proofs.LineSets.{is_in-touches, its_variables, its_writes}
+use Rattle.gl_lines.proofs.TraceMachine.{with_at-here, with_at-else}
 use Rattle.gl_slow.specs.Lines.{plain_done, part_done}
 use Rattle.gl_slow.specs.Performed.{IsDrawnFor, ArePerformed}
 use Rattle.gl_slow.proofs.Places.{get_kept, get_more, get_cases, map_cases, map_there, place_of, contains_at}

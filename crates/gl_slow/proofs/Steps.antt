@@ -22,17 +22,17 @@ use Rattle.gl_closure.specs.declared.races.Next.{Next}
 use Rattle.gl_closure.proofs.CommitParts.{same_part}
 use Rattle.gl_draws.specs.Draws.{Draw}
 use Rattle.gl_draws.specs.NextRaces.{IsRacyNext}
-use Rattle.gl_draws.specs.TraceLaws.{IsJudgedBy}
-use Rattle.gl_draws.specs.Traced.{Traced, block_of, entered, plain_entry, after_act as traced_act, after_item, after_line, traced}
-use Rattle.gl_draws.specs.TraceStates.{steps_of, AreSound}
+use Rattle.gl_lines.specs.TraceLaws.{IsJudgedBy}
+use Rattle.gl_lines.specs.Traced.{Traced, block_of, entered, plain_entry, after_act as traced_act, after_item, after_line, traced}
+use Rattle.gl_lines.specs.TraceStates.{steps_of, AreSound}
 use Rattle.gl_draws.proofs.EntryKinds.{is_in-contains, contains-is_in}
-use Rattle.gl_draws.proofs.RowNotes.{act_more}
-use Rattle.gl_draws.proofs.TraceEvents.{IsRecorded}
-use Rattle.gl_draws.proofs.TraceLawProofs.{sound_front, last_clean, last_runs}
-use Rattle.gl_draws.proofs.TraceMachine.{or_false, ended_push, clean_parts, runs}
-use Rattle.gl_draws.proofs.TracePlain.{block_here}
-use Rattle.gl_draws.proofs.TraceSound.{traced_push, steps_push, sound_traced}
-use Rattle.gl_draws.proofs.VerdictLaw.{entry_writes, races_law}
+use Rattle.gl_lines.proofs.RowNotes.{act_more}
+use Rattle.gl_lines.proofs.TraceEvents.{IsRecorded}
+use Rattle.gl_lines.proofs.TraceLawProofs.{sound_front, last_clean, last_runs}
+use Rattle.gl_lines.proofs.TraceMachine.{or_false, ended_push, clean_parts, runs}
+use Rattle.gl_lines.proofs.TracePlain.{block_here}
+use Rattle.gl_lines.proofs.TraceSound.{traced_push, steps_push, sound_traced}
+use Rattle.gl_lines.proofs.VerdictLaw.{entry_writes, races_law}
 use Rattle.gl_slow.specs.Follows.{AreFollowed}
 use Rattle.gl_slow.specs.Lines.{IsLastOf, plain_next, plain_done, part_done, PlainDone, CommitDone}
 use Rattle.gl_slow.specs.Performed.{ArePerformed}

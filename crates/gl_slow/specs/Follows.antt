@@ -6,8 +6,8 @@ use Rattle.gl_model.specs.declared.row.Judged.{Judged}
 use Rattle.gl_model.specs.Trace.{Line, AreVerdicts}
 use Rattle.gl_model.specs.TraceSteps.{is_ended}
 use Rattle.gl_closure.specs.declared.races.Performed.{Performed}
-use Rattle.gl_draws.specs.Traced.{history, draws_of}
-use Rattle.gl_draws.specs.TraceStates.{steps_of, AreSound}
+use Rattle.gl_lines.specs.Traced.{history, draws_of}
+use Rattle.gl_lines.specs.TraceStates.{steps_of, AreSound}
 use Rattle.gl_slow.specs.Performed.{ArePerformed}
 use Rattle.gl_slow.specs.declared.judge.SlowJudge.{SlowJudge}
 

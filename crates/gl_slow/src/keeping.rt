@@ -7,7 +7,7 @@ ghost use Rattle.gl_model.specs.Elements.{IsActInRange};
 ghost use Rattle.gl_model.specs.Rising.{with_one, with_all};
 ghost use Rattle.gl_model.specs.Trace.{is_in};
 ghost use Rattle.gl_model.specs.TraceSteps.{act_joins};
-ghost use Rattle.gl_draws.specs.Traced.{Traced, after_act, with_stamp};
+ghost use Rattle.gl_lines.specs.Traced.{Traced, after_act, with_stamp};
 ghost use Rattle.gl_slow.specs.Lines.{IsLastOf, part_done};
 
 use gl_closure::{Access, Performed};

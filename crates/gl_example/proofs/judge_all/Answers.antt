@@ -1,7 +1,7 @@
 use Rattle.std.proofs.Common.{rules, ◌≡◌, ◌+◌, ◌∙◌, ◌++◌, [], ◌∷◌, length, take, get_or, ap, sym, subst, arith, length-append, length-take-le}
 use Rattle.std.proofs.lemmas.List.{take_more}
 use Rattle.gl_model.specs.Trace.{Line, AreVerdicts}
-use Rattle.gl_draws.specs.TraceStates.{AreSound}
+use Rattle.gl_lines.specs.TraceStates.{AreSound}
 use Rattle.gl_core.specs.Follows.{Follows}
 use Rattle.gl_example.specs.Steps.{lines_of}
 use Rattle.gl_example.proofs.Pushes.{lines_push}

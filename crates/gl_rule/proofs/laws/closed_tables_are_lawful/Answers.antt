@@ -1,0 +1,9 @@
+use Rattle.gl_rule.proofs.Ending.{table_lawful}
+use Rattle.gl_rule.proofs.Trimming.{trimmed}
+use Rattle.gl_rule.proofs.laws.closed_tables_are_lawful.Goals as goal
+
+pub returns-clause-lawful : goal.returns-clause-lawful
+returns-clause-lawful c = λ key s id v rule here h rising. table_lawful key rule.0 s id v rule.1 here h.held h.all h.done rising
+
+pub returns-clause-trims : goal.returns-clause-trims
+returns-clause-trims c = λ key s id v rule here h. trimmed key s id v rule here h

@@ -1,0 +1,29 @@
+-- What a table begins with.
+use Rattle.std.specs.Prelude.{ℕ, zero, suc, pos, List, [], ◌∷◌, replicate, None}
+use Rattle.gl_model.specs.declared.row.Row.{Row}
+use Rattle.gl_rule.specs.declared.slot.Slot.{Slot}
+use Rattle.gl_rule.specs.declared.slot.Slot.TheVariants as slot
+use Rattle.gl_state.specs.ListView.{ListView}
+use Rattle.gl_rule.specs.Objects.{Key, capacity, word_count}
+use Rattle.gl_rule.specs.View.{Shelf, shelf}
+
+-- the words: all turns are free, no event was made, no number drawn, and no hold raised
+abbrev pub first_words : Key → List ℕ
+first_words key = replicate (word_count (capacity key)) 0
+
+-- a row of a variable that nobody has accessed
+abbrev pub empty_row : Row
+empty_row = record { value = pos 0; last_write = None; reads = replicate 16 None }
+
+-- the slots: the list's state, and a row for each variable
+abbrev pub first_slots : ListView → List Slot
+first_slots l = slot.List l ∷ replicate 1024 (slot.Row empty_row)
+
+-- the empty shelves of the threads t to t + n - 1
+abbrev pub shelves_from : ℕ → ℕ → List Shelf
+shelves_from t zero = []
+shelves_from t (suc n) = shelf t [] ∷ shelves_from (suc t) n
+
+-- an empty shelf for each thread
+abbrev pub sixteen : List Shelf
+sixteen = shelves_from 0 16

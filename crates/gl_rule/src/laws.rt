@@ -1,0 +1,59 @@
+//! The rule of the table: each kind of step keeps it, tables begin with it, and what it says of a table at the end.
+#![tactic(auto)]
+
+ghost use Rattle.gl_rule.specs.Laws.{ClosedIsLawful, ClosedIsTrimmed};
+ghost use Rattle.gl_rule.specs.Steps.{TakesTurn, LeavesTurn, WritesBack, LoadsTail, LoadsHold, LoadsFloor, LoadsStop, LoadsCell, LoadsEvent, StoresWord, SetsStop, RaisesHold, RaisesLow, PublishesAct, PublishesCommit, MarksPlain, MarksOpen, RecordsAdded, Begins, EntersSeat, SplitsSeat, JoinsSeats};
+
+/// Taking an object's turn, leaving it, and leaving it with a value that was owed.
+pub fn turns_keep_the_rule()
+    ensures takes { TakesTurn }
+    ensures leaves { LeavesTurn }
+    ensures writes_back { WritesBack }
+{}
+
+/// Loading the tail, a hold, the stop word, or a word of an event's cell.
+pub fn loads_keep_the_rule()
+    ensures tail { LoadsTail }
+    ensures hold { LoadsHold }
+    ensures floor { LoadsFloor }
+    ensures stop { LoadsStop }
+    ensures cell { LoadsCell }
+    ensures event { LoadsEvent }
+{}
+
+/// Storing a word of a cell or the stop word, and raising a hold or the first segment.
+pub fn stores_keep_the_rule()
+    ensures word { StoresWord }
+    ensures stop { SetsStop }
+    ensures hold { RaisesHold }
+    ensures low { RaisesLow }
+{}
+
+/// Publishing an act or a commit.
+pub fn events_keep_the_rule()
+    ensures act { PublishesAct }
+    ensures commit { PublishesCommit }
+{}
+
+/// Drawing a number for a plain access, for a look, or for the end of an attempt; and recording what a pass adds
+/// without a step.
+pub fn accesses_keep_the_rule()
+    ensures plain { MarksPlain }
+    ensures open { MarksOpen }
+    ensures added { RecordsAdded }
+{}
+
+/// A table begins with the rule, and seats come, are split and are joined again under it.
+pub fn seats_keep_the_rule()
+    ensures begins { Begins }
+    ensures enters { EntersSeat }
+    ensures splits { SplitsSeat }
+    ensures joins { JoinsSeats }
+{}
+
+/// Where one pass has the lists of all threads, each of them done, and holds nothing, the record of these lists is
+/// lawful, and its Trims are those of the ring.
+pub fn closed_tables_are_lawful()
+    ensures lawful { ClosedIsLawful }
+    ensures trims { ClosedIsTrimmed }
+{}

@@ -1,0 +1,13 @@
+//! The rule of the shared table: what holds between any two of its steps.
+#![tactic(auto)]
+
+mod know;
+mod laws;
+mod slot;
+
+pub use know::Know;
+pub use laws::{
+    accesses_keep_the_rule, closed_tables_are_lawful, events_keep_the_rule, loads_keep_the_rule,
+    seats_keep_the_rule, stores_keep_the_rule, turns_keep_the_rule,
+};
+pub use slot::Slot;

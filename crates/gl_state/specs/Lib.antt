@@ -1,0 +1,3 @@
+pub mod ListView
+pub mod States
+pub mod Entering

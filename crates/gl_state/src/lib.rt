@@ -1,0 +1,8 @@
+//! What the table keeps: the state of the list, and each row in a box of its own.
+#![tactic(auto)]
+
+mod kept;
+mod state;
+
+pub use kept::KeptRow;
+pub use state::{ListState, Stage};
