@@ -15,7 +15,7 @@ use Rattle.gl_asm.specs.Definitions.{definitions, first_definition}
 use Rattle.gl_asm.specs.Forms.{none_yet}
 use Rattle.gl_asm.specs.Listable.{OperandsAreTyped}
 use Rattle.gl_asm.specs.Listing.{listing}
-use Rattle.gl_asm.specs.Texts.{IsText, LineFault, built, lines_read, text_read}
+use Rattle.gl_asm.specs.Texts.{IsText, LineFault, lines_read, text_read}
 use Rattle.gl_asm.proofs.ListedLimits.{has_main, limits_of, listable, short_classes}
 use Rattle.gl_asm.proofs.ListedLines.{lines_of_ended}
 use Rattle.gl_asm.proofs.ListedNames.{main_is}

@@ -1,5 +1,5 @@
 -- What a text means for `run`, which does not do all instructions yet: an instruction that it does not do is a fault of its line.
-use Rattle.std.specs.Prelude.{◌≡◌, ℕ, ℤ, ◌+◌, nat_lt, not, ◌&&◌, ◌×◌, List, [], ◌∷◌, length, Bool, true, false, Option, Some, None, Result, Ok, Err, if◌then◌else◌}
+use Rattle.std.specs.Prelude.{◌≡◌, ℕ, ℤ, ◌+◌, nat_lt, not, ◌&&◌, List, [], ◌∷◌, length, Bool, true, false, Option, Some, None, Result, Ok, Err, if◌then◌else◌}
 use Rattle.std.specs.Str.Lines.{lines}
 use Rattle.gl_text.specs.Text.{is_bad, words}
 use Rattle.gl_text.specs.declared.fault.TextError.{TextError}

@@ -1,4 +1,3 @@
-use Rattle.std.proofs.Common.{Ok}
 use Rattle.gl_asm.specs.Unbuilt.{read_to_run}
 use Rattle.gl_asm.proofs.BuiltPrograms.{each_built}
 use Rattle.gl_asm.proofs.assembling.assemble_to_run.Goals as goal
