@@ -1,6 +1,6 @@
 -- A pass's fields after each step.
 use Rattle.std.proofs.Common.{◌≡◌, ◌≢◌, ℕ, suc, ◌+◌, ◌-◌, ◌<◌, ◌≤◌, List, [], ◌∷◌, ◌++◌, take, length, drop, sym, refl, ap, subst, arith, ◌∙◌, ⊎_elim, append-nil, IsPermutation, Bool, true, false, ◌==◌, ◌||◌, inl, inr}
-use Rattle.std.specs.Prelude.{Contains, Some, None, ℤ, if◌then◌else◌, Option}
+use Rattle.std.specs.Prelude.{Contains, Some, None, ℤ, if◌then◌else◌, Option, nat_lt}
 use Rattle.gl_model.specs.declared.event.Act.{Act}
 use Rattle.gl_model.specs.declared.event.Event.TheVariants.{Act as Does}
 use Rattle.gl_model.specs.declared.event.Stamp.{Stamp}
@@ -10,10 +10,11 @@ use Rattle.gl_draws.specs.Draws.{Draw, draw, Entered}
 use Rattle.gl_draws.proofs.Pushes.{at_cases}
 use Rattle.std.specs.List.{All}
 use Rattle.std.proofs.lemmas.List.Elements.{All-push}
+use Rattle.std.proofs.lemmas.Bool.{ltb-true}
 use Rattle.atomic_table.specs.Table as table
 use Rattle.atomic_table.specs.Seated.{TableId}
 use Rattle.gl_model.specs.declared.limits.TheConstants.{THREADS}
-use Rattle.gl_model.specs.Entries.{Entry, Sync, Plain}
+use Rattle.gl_model.specs.Entries.{Entry, Sync, Plain, Trim}
 use Rattle.gl_model.specs.Machine.{Setting}
 use Rattle.gl_rule.specs.declared.slot.Slot.{Slot}
 use Rattle.gl_rule.specs.declared.slot.Slot.TheVariants as slot
@@ -22,9 +23,9 @@ use Rattle.gl_rule.specs.Knowledge.{AreBelow}
 use Rattle.gl_rule.specs.Objects.{objects}
 use Rattle.gl_table.specs.PassInside.{IsReady, IsPass, AreOut, empties}
 use Rattle.gl_table.specs.PassView.{pass_of}
-use Rattle.gl_rule.specs.View.{View, Held, HasObject, shelf, took, refused, left, saw_tail, with_tail, saw, Read, without, published, after_publish, marked}
+use Rattle.gl_rule.specs.View.{View, Held, HasObject, shelf, took, refused, left, saw_tail, with_tail, saw, Read, without, published, after_publish, marked, lowered}
 use Rattle.gl_rule.specs.Taken.{TakenTold}
-use Rattle.gl_rule.specs.Told.{Took, SawTail, Saw, PutWord, PublishedAct, Marked}
+use Rattle.gl_rule.specs.Told.{Took, SawTail, Saw, PutWord, PublishedAct, Marked, Lowered}
 use Rattle.gl_rule.specs.Adding.{MayAdd}
 use Rattle.gl_table.proofs.Adding.{ready_push}
 use Rattle.gl_table.proofs.Out as out
@@ -72,6 +73,14 @@ below_later : (n m t : ℕ) (es : List Entry) → n ≤ m → AreBelow n (shelf 
 below_later n m t es le below i p e at is = let a = below i p e at is in omega arith
 
 -- an entry more whose position, if it has one, is below n
+-- not below
+pub not_less : (n to : ℕ) → (n < to → ⊥) → nat_lt n to ≡ false
+not_less n to none = by (nat_lt n to) refl
+  where
+    by : (b : Bool) → nat_lt n to ≡ b → nat_lt n to ≡ false
+    by true e = absurd (none (ltb-true n to e))
+    by false e = e
+
 pub below_push : (n t : ℕ) (es : List Entry) (e : Entry) → AreBelow n (shelf t es) → ((p : ℕ) → position_of e ≡ Some p → p < n) → AreBelow n (shelf t (es ++ e ∷ []))
 below_push n t es e below new i p f at is = elim (at_cases es e f i at) [ inl old ↦ below i p f old is | inr last ↦ new p (subst (λ z. position_of z ≡ Some p) last.1 is) ]
 
@@ -173,6 +182,24 @@ module _ (me : table.Me Slot View) (t : ℕ) (mine : List Entry) (seen : ℕ) (o
 
   pub pass_saw : (r : Read) (w : table.Me Slot View) → Saw r now me.1 w → IsPass w t mine seen order quiet
   pass_saw r w told = pass_steps (saw now r) me.1 order quiet w refl refl p.quiets p.unstored p.out told
+
+  -- the first segment is raised, or not
+  pub pass_lowers : (n to : ℕ) (w : table.Me Slot View) (mine' : List Entry) (b : Bool) → nat_lt n to ≡ b → Lowered (shelf t mine) to now me.1 n w → mine' ≡ (if b then mine ++ Trim to ∷ [] else mine) → IsPass w t mine' seen order quiet
+  pass_lowers n to w mine' b is told more =
+      subst (λ x. IsPass x t mine' seen order quiet) (sym told)
+      (is_pass (lowered now t mine n to) me.1 t mine' seen order quiet (by b is more) p.ready.named p.sees p.quiets p.unstored p.out (below b more) (kept b more))
+    where
+      by : (b : Bool) → nat_lt n to ≡ b → mine' ≡ (if b then mine ++ Trim to ∷ [] else mine) → (lowered now t mine n to).shelves ≡ shelf t mine' ∷ []
+      by true is more = ap (λ b. (if b then shelf t (mine ++ Trim to ∷ []) else shelf t mine) ∷ []) is ∙ ap (λ l. shelf t l ∷ []) (sym more)
+      by false is more = ap (λ b. (if b then shelf t (mine ++ Trim to ∷ []) else shelf t mine) ∷ []) is ∙ ap (λ l. shelf t l ∷ []) (sym more)
+
+      below : (b : Bool) → mine' ≡ (if b then mine ++ Trim to ∷ [] else mine) → AreBelow seen (shelf t mine')
+      below true more = subst (λ l. AreBelow seen (shelf t l)) (sym more) (below_push seen t mine (Trim to) p.below (λ q z. absurd (let y : None ≡ Some q = z in cc)))
+      below false more = subst (λ l. AreBelow seen (shelf t l)) (sym more) p.below
+
+      kept : (b : Bool) → mine' ≡ (if b then mine ++ Trim to ∷ [] else mine) → All IsEntryKept mine'
+      kept true more = subst (All IsEntryKept) (sym more) (All-push IsEntryKept mine (Trim to) p.kept tt)
+      kept false more = subst (All IsEntryKept) (sym more) p.kept
 
   -- an object that is held is out with the seat
   pub is_out : (h : Held) → Contains now.held h → Contains order h.object
