@@ -10,3 +10,4 @@ pub mod Gathering
 pub mod Closings
 pub mod Doneness
 pub mod RightOf
+pub mod Aborts

@@ -25,8 +25,9 @@ use Rattle.gl_table.specs.PassInside.{IsReady, IsPass, AreOut, empties}
 use Rattle.gl_table.specs.PassView.{pass_of}
 use Rattle.gl_rule.specs.View.{View, Held, HasObject, shelf, took, refused, left, saw_tail, with_tail, saw, Read, without, published, after_publish, marked, lowered}
 use Rattle.gl_rule.specs.Taken.{TakenTold}
-use Rattle.gl_rule.specs.Told.{Took, SawTail, Saw, PutWord, PublishedAct, Marked, Lowered}
+use Rattle.gl_rule.specs.Told.{Took, SawTail, Saw, PutWord, PublishedAct, Marked, Opened, Lowered, what_of}
 use Rattle.gl_rule.specs.Adding.{MayAdd}
+use Rattle.gl_rule.specs.Commits.{paid}
 use Rattle.gl_table.proofs.Adding.{ready_push}
 use Rattle.gl_table.proofs.Out as out
 
@@ -87,6 +88,10 @@ below_push n t es e below new i p f at is = elim (at_cases es e f i at) [ inl ol
 words_left : (b : Bool) (l : List ℕ) → l ≡ [] → (if b then [] else l) ≡ []
 words_left true l e = refl
 words_left false l e = e
+
+or_false : (b : Bool) → (b || false) ≡ b
+or_false true = refl
+or_false false = refl
 
 quiet_or : (a b c : Bool) → a ≡ b → (a || c) ≡ (b || c)
 quiet_or a b c e = ap (λ x. x || c) e
@@ -200,6 +205,22 @@ module _ (me : table.Me Slot View) (t : ℕ) (mine : List Entry) (seen : ℕ) (o
       kept : (b : Bool) → mine' ≡ (if b then mine ++ Trim to ∷ [] else mine) → All IsEntryKept mine'
       kept true more = subst (All IsEntryKept) (sym more) (All-push IsEntryKept mine (Trim to) p.kept tt)
       kept false more = subst (All IsEntryKept) (sym more) p.kept
+
+  -- a number is drawn on the held object h, which waits for its entry
+  pub pass_opens : (h : Held) (x b n : ℕ) (look : Option ℤ) (w : table.Me Slot View) → Contains now.held h → Opened (shelf t mine) h x b look now me.1 n w → IsPass w t mine seen order quiet
+  pass_opens h x b n look w has told =
+      let d = draw t b (what_of look) in
+      let u = marked now (shelf t mine) (now.drawn ++ record { var = x; nth = n; look = look } ∷ []) h d in
+      pass_steps u me.1 order quiet w refl refl p.quiets p.unstored (out.out_changes me.1 order now.held p.out h (record h { drew = Some d }) has refl) told.1
+
+  -- the held object h, the row of x, goes back with a value that was owed
+  pub pass_pays : (h : Held) (x : ℕ) (y : Slot) (order' : List ℕ) (c : List (ℕ × Slot)) (z : table.Me Slot View) → Contains now.held h → IsPermutation order order' → order' ≡ (x + 1) ∷ drop 1 order' → c ≡ empties (drop 1 order') → z ≡ (left (paid now h x y) (suc x) false, c) → IsPass z t mine seen (drop 1 order') quiet
+  pass_pays h x y order' c z has perm front gone is =
+      let u = paid now h x y in
+      let next : x + 1 ≡ suc x = omega arith in
+      let mid : AreOut me.1 order u.held = out.out_changes me.1 order now.held p.out h (record h { taken = y }) has refl in
+      let same : quiet ≡ (now.quiet || false) = p.quiets ∙ sym (or_false now.quiet) in
+      pass_steps (left u (suc x) false) c (drop 1 order') quiet z refl refl same (words_left (suc x == 0) now.stored p.unstored) (out.out_leaves me.1 order u.held mid (suc x) order' c perm (subst (λ k. order' ≡ k ∷ drop 1 order') next front) gone) is
 
   -- an object that is held is out with the seat
   pub is_out : (h : Held) → Contains now.held h → Contains order h.object

@@ -89,6 +89,9 @@ abbrev pub paid_back : PassView → ℕ → Row → PassView
 paid_back p x row = after p (left (paid (view_of p) (held_at (x + 1) p.own.held) x (slot.Row row)) (suc x) false)
 
 -- what is asked of an attempt that is dropped
+abbrev pub MayAbortAs : Shelf → View → Tx → Why → Type 0
+MayAbortAs s v tx (Changed var read found) = (q : ℕ) × MayChange s v tx var read found q
+MayAbortAs s v tx (Raised var) = (q : ℕ) × (m : ℕ) × (question : ℕ → Question) × ((setting : Setting) → MayRefuse setting s v tx var q m question)
+
 abbrev pub MayAbort : PassView → Tx → Why → Type 0
-MayAbort p tx (Changed var read found) = (q : ℕ) × MayChange (shelf_of p) (view_of p) tx var read found q
-MayAbort p tx (Raised var) = (q : ℕ) × (m : ℕ) × (question : ℕ → Question) × ((setting : Setting) → MayRefuse setting (shelf_of p) (view_of p) tx var q m question)
+MayAbort p tx why = MayAbortAs (shelf_of p) (view_of p) tx why

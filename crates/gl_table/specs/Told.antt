@@ -1,6 +1,7 @@
 -- What a step tells that changes nothing of a view but what it records.
-use Rattle.std.specs.Prelude.{◌≡◌, ℕ, suc, false, List}
+use Rattle.std.specs.Prelude.{◌≡◌, ℕ, suc, false, List, [], ◌∷◌}
 use Rattle.gl_rule.specs.declared.slot.Slot.{Slot}
+use Rattle.gl_rule.specs.declared.slot.Slot.TheVariants as slot
 use Rattle.gl_rule.specs.Commits.{paid}
 use Rattle.gl_rule.specs.Told.{Seat, Left}
 use Rattle.gl_rule.specs.View.{View, Held}
@@ -11,3 +12,8 @@ Kept v c w = w ≡ (v, c)
 -- a value that was owed was written back: the row of x, which was held as h, is y then
 abbrev pub PaidLeft : ℕ → Held → Slot → View → List (ℕ × Slot) → Seat → Type 0
 PaidLeft x h y v c w = Left (suc x) false (paid v h x y) c w
+
+-- what was put into the slot that was taken last
+abbrev pub head_slot : List (ℕ × Slot) → Slot
+head_slot [] = slot.Empty
+head_slot (x ∷ c) = x.1

@@ -7,7 +7,7 @@ ghost use Rattle.gl_model.specs.Entries.{Sync, seen};
 ghost use Rattle.gl_table.specs.CaughtUp.{caught_up, block_of};
 ghost use Rattle.gl_rule.specs.Fitting.{MayPublish, MayMark, MayOpen, MayStoreWord, MayRaise, MayTrim};
 ghost use Rattle.gl_table.specs.Ending.{ClosedTold};
-ghost use Rattle.gl_table.specs.Told.{Kept, PaidLeft};
+ghost use Rattle.gl_table.specs.Told.{Kept, PaidLeft, head_slot};
 ghost use Rattle.gl_rule.specs.Commits.{MayPay};
 ghost use Rattle.gl_table.specs.KeyOf.{key_of};
 ghost use Rattle.gl_state.specs.ListView.{ListView};
@@ -272,16 +272,14 @@ pub fn leave_paid<B: Told>(
     id: u8,
     mine: &Vec<Entry>,
     var: u16,
-    row: &Row,
 )
     requires table { OfTable seat.old.table_id board.now.table_id (key_of board.now.key) }
     requires ready { IsReady seat.old.me.0 id (map seen mine.now.items) }
-    requires told { (B.view ≡ caught_up seat.old.me.0 id (map seen mine.now.items)) × (B.object ≡ var) × (B.event.state ≡ slot.Row row.now) }
+    requires told { (B.view ≡ caught_up seat.old.me.0 id (map seen mine.now.items)) × (B.object ≡ var) × (B.event.state ≡ head_slot seat.old.me.1) }
     requires near { var < 1024 }
-    requires back { (c : List (ℕ × ASlot)) × (seat.old.me.1 ≡ (var + 1, slot.Row row.now) ∷ c) }
-    requires may { (taken : ARow) × (value : ℤ) × MayPay (caught_up seat.old.me.0 id (map seen mine.now.items)) B.held var taken value × (row.now ≡ record taken { value = value }) }
+    requires back { (row : ARow) × (c : List (ℕ × ASlot)) × (seat.old.me.1 ≡ (var + 1, slot.Row row) ∷ c) × ((taken : ARow) × (value : ℤ) × MayPay (caught_up seat.old.me.0 id (map seen mine.now.items)) B.held var taken value × (row ≡ record taken { value = value })) }
     ensures seat { (seat.new.table_id ≡ seat.old.table_id) × (seat.new.id ≡ seat.old.id) }
-    ensures left { PaidLeft var B.held (slot.Row row.now) (caught_up seat.old.me.0 id (map seen mine.now.items)) seat.old.me.1 seat.new.me }
+    ensures left { PaidLeft var B.held (head_slot seat.old.me.1) (caught_up seat.old.me.0 id (map seen mine.now.items)) seat.old.me.1 seat.new.me }
 {
     board.store::<Pays<B>>(seat, 3 * (var as usize + 1) + 1, 0);
 }

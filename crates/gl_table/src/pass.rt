@@ -1,7 +1,7 @@
 // What one thread brings to the table and takes from it.
 ghost use Rattle.std.specs.Prelude.{◌≡◌, map, ◌||◌, ℕ, ◌<◌, ◌≤◌, ◌+◌, true, false, suc, Contains, OnOk, OnErr, IfOk, IfErr};
 ghost use Rattle.gl_model.specs.declared.limits.TheConstants.{THREADS};
-ghost use Rattle.gl_model.specs.Entries.{Over, Plain};
+ghost use Rattle.gl_model.specs.Entries.{Abort, Over, Plain};
 ghost use Rattle.gl_rule.specs.Adding.{MayCache};
 ghost use Rattle.gl_rule.specs.Lives.{Ended, life_of};
 ghost use Rattle.gl_model.specs.declared.row.Row.{Row as ARow};
@@ -15,7 +15,7 @@ ghost use Rattle.gl_table.specs.Lowering.{lowered_pass};
 ghost use Rattle.gl_rule.specs.Objects.{objects};
 ghost use Rattle.gl_table.specs.OfTable.{OfTable};
 ghost use Rattle.gl_table.specs.PassView.{view_of, shelf_of, after, after_adding};
-ghost use Rattle.gl_table.specs.Putting.{MayPutBack, held_at};
+ghost use Rattle.gl_table.specs.Putting.{MayAbort, MayPutBack, held_at};
 ghost use Rattle.gl_rule.specs.Taken.{TakenTold};
 ghost use Rattle.gl_rule.specs.View.{Hold, Stop, took, refused, left, saw_tail, saw, saw_floor, raised};
 
@@ -23,7 +23,7 @@ use crate::hold::bring;
 use crate::moves::{
     Board, Seat, leave_turn, load_floor, load_hold, load_stop, load_tail, raise_first, raise_floor, set_word, take_turn,
 };
-use gl_model::{Ending, Entry, Row};
+use gl_model::{Ending, Entry, Row, Tx, Why};
 use gl_rule::Slot;
 use std::alloc::AllocError;
 use std::marker::{Brand, Model};
@@ -115,6 +115,16 @@ impl Pass {
         ensures { self.new ≡ after_adding self.old (Over ending) }
     {
         self.mine.push_reserved(Entry::Over(ending));
+    }
+
+    /// Ends an attempt that is dropped, with its entry.
+    pub fn abort(&mut self, tx: Box<Tx>, why: Why)
+        requires may { MayAbort self.old tx.value why }
+        requires spare { 0 < self.old.spare }
+        ensures { self.new ≡ after_adding self.old (Abort tx.value why) }
+    {
+        tx.keeps();
+        self.mine.push_reserved(Entry::Abort { tx, why });
     }
 
     /// Repeats its last access of the variable, whose number is `nth`.

@@ -7,7 +7,7 @@ ghost use Rattle.gl_model.specs.declared.row.Row.{Row as ARow};
 ghost use Rattle.gl_rule.specs.Fitting.{MayRaise, MayTrim};
 ghost use Rattle.gl_table.specs.Lowering.{lowered_pass};
 ghost use Rattle.gl_table.specs.PassView.{view_of, shelf_of, after};
-ghost use Rattle.gl_table.specs.Putting.{MayPutBack, MayPublishAct, MayMarkPlain, held_at, marked_plain, published_act};
+ghost use Rattle.gl_table.specs.Putting.{MayPutBack, MayPublishAct, MayMarkPlain, MayOpenOn, MayPayOn, held_at, marked_plain, opened, paid_back, published_act};
 ghost use Rattle.gl_rule.specs.Taken.{StateTold};
 ghost use Rattle.gl_rule.specs.View.{Hold, Stop, took, refused, left, saw_tail, saw, saw_floor, raised};
 ghost use Rattle.gl_rule.specs.declared.slot.Slot.TheVariants as slot;
@@ -17,7 +17,7 @@ use crate::pass::{
     Pass, lower, put_object, raise_hold, see_floor, see_hold, see_stop, see_tail, stop, take_object,
 };
 use crate::rule::Order;
-use crate::telling::{mark_plain, publish};
+use crate::telling::{mark_plain, open, publish, put_paid};
 use atomic_table::Table;
 use gl_model::{Act, Row};
 use gl_rule::{Know, Slot};
@@ -209,5 +209,26 @@ impl Shared {
         ensures { (n : ℕ) × (IsTrue result ↔ (n ≢ 0)) × (pass.new ≡ after pass.old (saw (view_of pass.old) (Stop n))) }
     {
         see_stop(&self.table.shared, pass) != 0
+    }
+
+    /// Draws a number on a row that the pass holds, for a look with the row's word, or, with None, for the end of an attempt. It waits
+    /// for the attempt's entry.
+    pub fn mark_open(&self, pass: &mut Pass, var: u16, look: Option<i64>) -> u64
+        requires table { pass.old.own.table ≡ self.now.id }
+        requires near { var < VARIABLES }
+        requires may { MayOpenOn pass.old var look }
+        ensures { pass.new ≡ opened pass.old var result look }
+    {
+        open(&self.table.shared, pass, var, look)
+    }
+
+    /// Puts a row back, whose word became the one that the pass owes it. It owes it no more then.
+    pub fn put_paid(&self, pass: &mut Pass, var: u16, row: KeptRow)
+        requires table { pass.old.own.table ≡ self.now.id }
+        requires near { var < VARIABLES }
+        requires may { MayPayOn pass.old var row }
+        ensures { pass.new ≡ paid_back pass.old var row }
+    {
+        put_paid(&self.table.shared, pass, var, row);
     }
 }
