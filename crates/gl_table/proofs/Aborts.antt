@@ -1,6 +1,6 @@
 -- An attempt that is dropped: what its entry makes of the pass.
-use Rattle.std.proofs.Common.{◌≡◌, ℕ, suc, ◌+◌, ◌<◌, List, [], ◌∷◌, ◌++◌, map, refl, sym, ap, subst, arith, ◌∙◌, true, ◌==◌, eq-eqb}
-use Rattle.std.specs.Prelude.{Contains, ℤ, if◌then◌else◌, Bool}
+use Rattle.std.proofs.Common.{◌≡◌, ℕ, suc, ◌<◌, List, [], ◌∷◌, ◌++◌, refl, ap, arith, ◌∙◌, true, ◌==◌, eq-eqb}
+use Rattle.std.specs.Prelude.{Contains, Bool}
 use Rattle.std.proofs.lemmas.List.Elements.{All-contains}
 use Rattle.atomic_table.specs.Table as table
 use Rattle.gl_model.specs.declared.limits.TheConstants.{VARIABLES}
@@ -8,19 +8,18 @@ use Rattle.gl_model.specs.declared.tx.Tx.{Tx}
 use Rattle.gl_model.specs.declared.tx.Why.{Why}
 use Rattle.gl_model.specs.declared.tx.Why.TheVariants.{Changed, Raised}
 use Rattle.gl_model.specs.Entries.{Entry, Abort}
-use Rattle.gl_model.specs.Kept.{IsEntryKept, IsTxKept, IsWhyKept}
-use Rattle.gl_model.specs.Machine.{Setting, trace_setting}
+use Rattle.gl_model.specs.Kept.{IsTxKept, IsWhyKept}
+use Rattle.gl_model.specs.Machine.{trace_setting}
 use Rattle.gl_model.specs.Records.{variables_of}
 use Rattle.gl_model.specs.Trace.{is_in}
-use Rattle.gl_draws.specs.Draws.{Draw, draw, Looked, Entered}
+use Rattle.gl_draws.specs.Draws.{draw, Looked, Entered}
 use Rattle.gl_rule.specs.declared.slot.Slot.{Slot}
 use Rattle.gl_rule.specs.Adding.{MayAdd}
-use Rattle.gl_rule.specs.Commits.{HeldRow, with_drew, dropped}
+use Rattle.gl_rule.specs.Commits.{with_drew, dropped}
 use Rattle.gl_rule.specs.Objects.{objects}
-use Rattle.gl_rule.specs.View.{View, Held, Shelf, shelf}
+use Rattle.gl_rule.specs.View.{View, Held, shelf}
 use Rattle.gl_table.specs.CaughtUp.{caught_up, first_marked, adds_one, or_zero, block_of}
 use Rattle.gl_table.specs.PassInside.{IsPass, AreOut}
-use Rattle.gl_table.specs.PassView.{PassView, view_of, shelf_of}
 use Rattle.gl_table.specs.Putting.{MayAbortAs}
 use Rattle.gl_table.proofs.Out as out
 use Rattle.gl_table.proofs.Passes.{pass_adds}

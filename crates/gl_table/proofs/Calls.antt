@@ -1,13 +1,13 @@
 -- What each call owes for its step.
 use Rattle.std.proofs.Common.{◌≡◌, ℕ, suc, max, ◌+◌, ◌*◌, ◌^◌, ◌%◌, ◌<◌, ◌≤◌, ◌==◌, List, [], ◌∷◌, length, sym, refl, subst, arith, ◌∙◌}
-use Rattle.std.specs.Prelude.{ℤ, Bool, false, Option, Contains}
+use Rattle.std.specs.Prelude.{pos, ℤ, Bool, false, Option, Contains}
 use prog.Atomic.{either}
 use Rattle.atomic_table.specs.Table as table
 use Rattle.gl_model.specs.declared.event.Act.{Act}
 use Rattle.gl_model.specs.declared.event.Event.TheVariants.{Act as Does}
 use Rattle.gl_model.specs.declared.row.Row.{Row}
 use Rattle.gl_model.specs.declared.row.Question.{Question}
-use Rattle.gl_model.specs.Entries.{Entry, Sync}
+use Rattle.gl_model.specs.Entries.{Entry, Commit, Sync}
 use Rattle.gl_model.specs.Machine.{Setting}
 use Rattle.gl_rule.specs.declared.slot.Slot.{Slot}
 use Rattle.gl_rule.specs.declared.slot.Slot.TheVariants as slot
@@ -21,13 +21,16 @@ use Rattle.gl_table.specs.Putting.{MayPutBack}
 use Rattle.gl_rule.specs.Rule.{Rule}
 use Rattle.gl_table.specs.Says.{EventSaid, MarkSaid}
 use Rattle.gl_rule.specs.Told.{Took, Left, SawTail, Saw, PutWord, PublishedAct, Marked, Opened, SawFloor, Raised, Lowered}
-use Rattle.gl_table.specs.Told.{Kept, PaidLeft}
+use Rattle.gl_table.specs.Told.{Kept, PaidLeft, PublishedTx}
+use Rattle.gl_table.specs.Committing.{commit_stamp}
+use Rattle.gl_model.specs.declared.tx.Tx.{Tx}
+use Rattle.gl_rule.proofs.Committing.{publishes_commit}
 use Rattle.gl_rule.proofs.Aborting.{record_first}
 use Rattle.gl_rule.proofs.Acting.{publishes_act}
 use Rattle.gl_rule.proofs.Loading.{loads_tail, loads_hold, loads_stop}
 use Rattle.gl_rule.proofs.Marking.{marks_plain, marks_open}
 use Rattle.gl_rule.proofs.Paying.{writes_back}
-use Rattle.gl_rule.specs.Commits.{MayPay, paid}
+use Rattle.gl_rule.specs.Commits.{MayCommit, MayPay, paid}
 use Rattle.gl_rule.proofs.Storing.{puts_word, sets_stop}
 use Rattle.gl_rule.proofs.Raising.{raises_hold, loads_floor}
 use Rattle.gl_rule.proofs.Lowering.{raises_low}
@@ -138,3 +141,13 @@ module _ (key : Key) (slots id : ℕ) (me : table.Me Slot View) (t : ℕ) (es : 
       (subst (λ q. table.Allows (Rule key) slots id me (3 * (x + 1) + 1) (λ _. 0) (λ _. PaidLeft x q z u me.1)) (sym held)
       (subst (λ q. table.Allows (Rule key) slots id me (3 * (x + 1) + 1) (λ _. 0) (λ _. PaidLeft x h q u me.1)) (sym state)
       (as_told (3 * (x + 1) + 1) (λ _. 0) (λ w _. PaidLeft x h (slot.Row row) w me.1) f)))
+
+  pub may_commit : (s : Shelf) (y : Slot) (z : Tx) (tx : Tx) (l' : ListView) → s ≡ shelf t es → y ≡ slot.List l' → z ≡ tx
+      → (h : Held) × (l : ListView) × MayPublish key (shelf t es) (caught_up me.0 t es) h l l' (λ n. Commit n tx) (commit_stamp t tx) (pos 0)
+      → (p : ℕ) × (m : ℕ) × (question : ℕ → Question) × MayCommit key.setting (shelf t es) (caught_up me.0 t es) tx p m question
+      → table.Allows (Rule key) slots id me 0 (λ n. (n + 1) % 2 ^ 64) (PublishedTx s z y u me.1)
+  may_commit s y z tx l' own state same (h, l, may) (p, m, question, commits) =
+      subst (λ q. table.Allows (Rule key) slots id me 0 (λ n. (n + 1) % 2 ^ 64) (PublishedTx q z y u me.1)) (sym own)
+      (subst (λ q. table.Allows (Rule key) slots id me 0 (λ n. (n + 1) % 2 ^ 64) (PublishedTx (shelf t es) z q u me.1)) (sym state)
+      (subst (λ q. table.Allows (Rule key) slots id me 0 (λ n. (n + 1) % 2 ^ 64) (PublishedTx (shelf t es) q (slot.List l') u me.1)) (sym same)
+      (as_told 0 (λ n. (n + 1) % 2 ^ 64) (λ w. PublishedTx (shelf t es) tx (slot.List l') w me.1) (publishes_commit key slots id (caught_up me.0 t es) me.1 (shelf t es) h l l' tx p m question refl commits may))))

@@ -1,10 +1,9 @@
 -- Whether a pass is done, from its last entry.
-use Rattle.std.proofs.Common.{◌≡◌, ℕ, zero, suc, ◌+◌, ◌-◌, ◌<◌, List, [], ◌∷◌, length, refl, sym, ap, ◌∙◌, arith, inl, inr, Bool, true, false, subst, map, get_or}
-use Rattle.std.specs.Prelude.{◌⊎◌}
+use Rattle.std.proofs.Common.{◌≡◌, suc, ◌-◌, ◌<◌, List, [], ◌∷◌, length, refl, ap, arith, inl, inr, Bool, true, subst, map, get_or}
 use Rattle.gl_model.specs.Entries.{Entry, Sync, Commit, Plain, Abort, Trim, Over}
 use Rattle.gl_model.specs.declared.record.Entry.{Entry as StoredEntry}
 use Rattle.gl_model.specs.Entries.{seen}
-use Rattle.gl_model.specs.Form.{At, IsOver}
+use Rattle.gl_model.specs.Form.{IsOver}
 use Rattle.gl_rule.specs.Closed.{EndsOver, IsDone}
 use Rattle.gl_table.specs.Doneness.{is_over, is_done}
 

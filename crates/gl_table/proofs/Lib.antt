@@ -11,3 +11,4 @@ pub mod Closings
 pub mod Doneness
 pub mod RightOf
 pub mod Aborts
+pub mod Commitments

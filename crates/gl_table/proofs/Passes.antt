@@ -129,19 +129,16 @@ module _ (me : table.Me Slot View) (t : ℕ) (mine : List Entry) (seen : ℕ) (o
       subst (λ x. IsPass x t mine n order quiet) (sym told.0)
       (is_pass (saw_tail now n) me.1 t mine n order quiet refl p.ready.named refl p.quiets p.unstored (out.out_mapped me.1 order now.held p.out (with_tail n) (λ h. refl)) (below_later seen n t mine (omega arith) p.below) p.kept)
 
-  -- an event is published, whose words are in the cell
-  pub pass_publishes : (ws : List ℕ) (act : Act) (value : ℤ) (y : Slot) (v : View) (c : List (ℕ × Slot)) (n : ℕ) (w : table.Me Slot View) (mine' : List Entry) → v ≡ record now { stored = ws } → c ≡ me.1 → mine' ≡ mine ++ Sync n act value ∷ [] → PublishedAct (shelf t mine) act value y v c n w
-      → IsEntryKept (Sync n act value) → IsPass w t mine' (n + 1) order quiet × (caught_up w.0 t mine' ≡ published now t mine (Sync n act value) n (record { thread = t; event = Does act }) y (λ g. g.drew)) × (now.seen ≤ n)
-  pass_publishes ws act value y v c n w mine' is gone more told range =
-      let e : Entry = Sync n act value in
-      let x : Stamp = record { thread = t; event = Does act } in
-      let drew : Held → Option Draw = λ g. g.drew in
+  -- an event is published, whose words are in the cell: its entry is e and its stamp x
+  pub pass_tells : (ws : List ℕ) (e : Entry) (x : Stamp) (drew : Held → Option Draw) (y : Slot) (v : View) (c : List (ℕ × Slot)) (n : ℕ) (w : table.Me Slot View) (mine' : List Entry) → v ≡ record now { stored = ws } → c ≡ me.1 → mine' ≡ mine ++ e ∷ [] → v.seen ≤ n → w ≡ (published v t mine e n x y drew, c)
+      → position_of e ≡ Some n → IsEntryKept e → IsPass w t mine' (n + 1) order quiet × (caught_up w.0 t mine' ≡ published now t mine e n x y drew) × (now.seen ≤ n)
+  pass_tells ws e x drew y v c n w mine' is gone more seen_at told place range =
       let u = published now t mine e n x y drew in
-      let a : w ≡ (u, me.1) = told.2 ∙ ap (λ (z : View). let r : table.Me Slot View = (published z t mine e n x y drew, c) in r) is ∙ ap (λ z. let r : table.Me Slot View = (u, z) in r) gone in
+      let a : w ≡ (u, me.1) = told ∙ ap (λ (z : View). let r : table.Me Slot View = (published z t mine e n x y drew, c) in r) is ∙ ap (λ z. let r : table.Me Slot View = (u, z) in r) gone in
       let next : n + 1 ≡ suc n = omega arith in
-      let later : now.seen ≤ n = subst (λ (z : View). z.seen ≤ n) is told.1 in
+      let later : now.seen ≤ n = subst (λ (z : View). z.seen ≤ n) is seen_at in
       let s = p.sees in
-      let below : AreBelow (n + 1) (shelf t (mine ++ e ∷ [])) = below_push (n + 1) t mine e (below_later seen (n + 1) t mine (omega arith) p.below) (λ q z. let same : n ≡ q = some_n n q z in omega arith) in
+      let below : AreBelow (n + 1) (shelf t (mine ++ e ∷ [])) = below_push (n + 1) t mine e (below_later seen (n + 1) t mine (omega arith) p.below) (λ q z. let same : n ≡ q = some_n n q (sym place ∙ z) in omega arith) in
       let b : IsPass (u, me.1) t (mine ++ e ∷ []) (n + 1) order quiet = is_pass u me.1 t (mine ++ e ∷ []) (n + 1) order quiet refl p.ready.named next p.quiets refl (out.out_mapped me.1 order now.held p.out (after_publish n y drew) (published_object n y drew)) below (All-push IsEntryKept mine e p.kept range) in (
         subst (λ l. IsPass w t l (n + 1) order quiet) (sym more) (subst (λ z. IsPass z t (mine ++ e ∷ []) (n + 1) order quiet) (sym a) b),
         ap (λ l. caught_up w.0 t l) more ∙ ap (λ (z : table.Me Slot View). caught_up z.0 t (mine ++ e ∷ [])) a ∙ settled u t (mine ++ e ∷ []) refl,
@@ -150,6 +147,11 @@ module _ (me : table.Me Slot View) (t : ℕ) (mine : List Entry) (seen : ℕ) (o
     where
       some_n : (a b : ℕ) → Some a ≡ Some b → a ≡ b
       some_n a b z = cc
+
+  -- an act
+  pub pass_publishes : (ws : List ℕ) (act : Act) (value : ℤ) (y : Slot) (v : View) (c : List (ℕ × Slot)) (n : ℕ) (w : table.Me Slot View) (mine' : List Entry) → v ≡ record now { stored = ws } → c ≡ me.1 → mine' ≡ mine ++ Sync n act value ∷ [] → PublishedAct (shelf t mine) act value y v c n w
+      → IsEntryKept (Sync n act value) → IsPass w t mine' (n + 1) order quiet × (caught_up w.0 t mine' ≡ published now t mine (Sync n act value) n (record { thread = t; event = Does act }) y (λ g. g.drew)) × (now.seen ≤ n)
+  pass_publishes ws act value y v c n w mine' is gone more told range = pass_tells ws (Sync n act value) (record { thread = t; event = Does act }) (λ g. g.drew) y v c n w mine' is gone more told.1 told.2 refl range
 
   -- a plain access is marked on the held object h
   pub pass_marks : (h : Held) (x b : ℕ) (write : Bool) (value : ℤ) (raised : Bool) (n : ℕ) (w : table.Me Slot View) (mine' : List Entry) → Contains now.held h → mine' ≡ mine ++ Plain x n false write value raised ∷ [] → Marked (shelf t mine) h x b write value raised now me.1 n w

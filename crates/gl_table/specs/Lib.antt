@@ -17,3 +17,4 @@ pub mod Told
 pub mod Lowering
 pub mod Doneness
 pub mod RightOf
+pub mod Committing

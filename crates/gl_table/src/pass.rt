@@ -21,7 +21,8 @@ ghost use Rattle.gl_rule.specs.View.{Hold, Stop, took, refused, left, saw_tail, 
 
 use crate::hold::bring;
 use crate::moves::{
-    Board, Seat, leave_turn, load_floor, load_hold, load_stop, load_tail, raise_first, raise_floor, set_word, take_turn,
+    Board, Seat, leave_turn, load_floor, load_hold, load_stop, load_tail, raise_first, raise_floor,
+    set_word, take_turn,
 };
 use gl_model::{Ending, Entry, Row, Tx, Why};
 use gl_rule::Slot;

@@ -21,6 +21,7 @@ impl TableRule<Slot, Know, Layout> for Order {
 pub trait Told {
     ghost use Rattle.std.specs.Prelude.{ℕ, ℤ, Bool, Option};
     ghost use Rattle.gl_model.specs.Machine.{Setting};
+    ghost use Rattle.gl_model.specs.declared.tx.Tx.{Tx};
     ghost use Rattle.gl_rule.specs.View.{View, Held};
     ghost use Rattle.gl_table.specs.Says.{EventSaid, MarkSaid};
     ghost use Rattle.gl_rule.specs.Objects.{Key};
@@ -44,13 +45,15 @@ pub trait Told {
 
     // the word of a look
     ghost look: { Option ℤ };
+
+    ghost tx: { Tx };
 }
 
 impl Told for Brand {
     ghost use Rattle.std.specs.Prelude.{[], false, None};
     ghost use Rattle.gl_model.specs.Machine.{trace_setting};
     ghost use Rattle.gl_rule.specs.View.{blank};
-    ghost use Rattle.gl_table.specs.Says.{no_event, no_key, no_mark, no_held};
+    ghost use Rattle.gl_table.specs.Says.{no_event, no_key, no_mark, no_held, no_tx};
 
     ghost view = { blank [] };
 
@@ -69,6 +72,8 @@ impl Told for Brand {
     ghost mark = { no_mark };
 
     ghost look = { None };
+
+    ghost tx = { no_tx };
 }
 
 pub struct Takes<B>(PhantomData<B>);
@@ -224,4 +229,12 @@ impl<B: Told> Play<Slot, Know> for Pays<B> {
     ghost use Rattle.gl_table.specs.Told.{PaidLeft};
 
     ghost then = { λ s v n w. PaidLeft B.object B.held B.event.state B.view v.1 w };
+}
+
+pub struct Commits<B>(PhantomData<B>);
+
+impl<B: Told> Play<Slot, Know> for Commits<B> {
+    ghost use Rattle.gl_table.specs.Told.{PublishedTx};
+
+    ghost then = { λ s v n w. PublishedTx B.event.shelf B.tx B.event.state B.view v.1 n w };
 }

@@ -5,6 +5,8 @@ ghost use Rattle.gl_segments.specs.Rings.{IsRing};
 ghost use Rattle.gl_rule.specs.Objects.{capacity, objects};
 ghost use Rattle.gl_model.specs.declared.row.Row.{Row as ARow};
 ghost use Rattle.gl_rule.specs.Fitting.{MayRaise, MayTrim};
+ghost use Rattle.gl_model.specs.Records.{variables_of};
+ghost use Rattle.gl_table.specs.Committing.{MayPublishTx, published_tx};
 ghost use Rattle.gl_table.specs.Lowering.{lowered_pass};
 ghost use Rattle.gl_table.specs.PassView.{view_of, shelf_of, after};
 ghost use Rattle.gl_table.specs.Putting.{MayPutBack, MayPublishAct, MayMarkPlain, MayOpenOn, MayPayOn, held_at, marked_plain, opened, paid_back, published_act};
@@ -17,9 +19,9 @@ use crate::pass::{
     Pass, lower, put_object, raise_hold, see_floor, see_hold, see_stop, see_tail, stop, take_object,
 };
 use crate::rule::Order;
-use crate::telling::{mark_plain, open, publish, put_paid};
+use crate::telling::{commit, mark_plain, open, publish, put_paid};
 use atomic_table::Table;
-use gl_model::{Act, Row};
+use gl_model::{Act, Row, Tx, VarSet};
 use gl_rule::{Know, Slot};
 use gl_segments::Ring;
 use gl_state::{KeptRow, ListState};
@@ -116,6 +118,32 @@ impl Shared {
             self.layout.ring.len(),
             act,
             value,
+            state,
+        )
+    }
+
+    /// Publishes the commit of an attempt, on these variables, and answers its position. The words of the event are stored in the cell of
+    /// the tail first. Nothing waits for its entry afterwards.
+    pub fn publish_commit(
+        &self,
+        pass: &mut Pass,
+        tx: Box<Tx>,
+        vars: &VarSet,
+        state: &ListState,
+    ) -> u64
+        requires table { pass.old.own.table ≡ self.now.id }
+        requires spare { 0 < pass.old.spare }
+        requires vars { vars.now ≡ variables_of tx.value }
+        requires may { MayPublishTx self.now.key pass.old tx.value state.now }
+        ensures published { pass.new ≡ published_tx pass.old tx.value result state.now }
+        ensures later { pass.old.seen ≤ result }
+    {
+        commit(
+            &self.table.shared,
+            pass,
+            self.layout.ring.len(),
+            tx,
+            vars,
             state,
         )
     }

@@ -2,7 +2,9 @@
 ghost use Rattle.std.specs.Prelude.{◌≡◌, ℕ, ◌≤◌, ◌<◌, ◌^◌, [], map, length};
 ghost use Rattle.gl_model.specs.declared.event.Event.TheVariants.{Act as Does};
 ghost use Rattle.gl_model.specs.Entries.{Sync, seen};
+ghost use Rattle.gl_model.specs.Records.{variables_of};
 ghost use Rattle.gl_table.specs.CaughtUp.{caught_up};
+ghost use Rattle.gl_table.specs.Committing.{MayPublishTx, published_tx};
 ghost use Rattle.gl_table.specs.KeyOf.{key_of};
 ghost use Rattle.gl_rule.specs.Objects.{capacity};
 ghost use Rattle.gl_table.specs.OfTable.{OfTable};
@@ -14,11 +16,11 @@ ghost use Rattle.gl_rule.specs.declared.slot.Slot.TheVariants as slot;
 
 use crate::hold::bring;
 use crate::moves::{
-    Board, Seat, draw_number, leave_paid, open_number, publish_act, put_word,
+    Board, Seat, draw_number, leave_paid, open_number, publish_act, publish_tx, put_word,
 };
-use crate::pack::pack;
+use crate::pack::{pack, pack_commit};
 use crate::pass::Pass;
-use gl_model::{Act, Entry};
+use gl_model::{Act, Entry, Tx, VarSet};
 use gl_rule::Slot;
 use gl_state::{KeptRow, ListState};
 use std::marker::Brand;
@@ -79,6 +81,39 @@ pub(crate) fn publish(
         act: *act,
         value,
     });
+    pass.seen = at + 1;
+    at
+}
+
+// Publishes a commit of these variables, by which the list's state became `state`.
+pub(crate) fn commit(
+    board: &Board,
+    pass: &mut Pass,
+    cells: u64,
+    tx: Box<Tx>,
+    vars: &VarSet,
+    state: &ListState,
+) -> u64
+    requires table { OfTable pass.old.own.table board.now.table_id (key_of board.now.key) }
+    requires cells { (cells ≡ capacity (key_of board.now.key)) × (cells < 2 ^ 32) }
+    requires spare { 0 < pass.old.spare }
+    requires vars { vars.now ≡ variables_of tx.value }
+    requires may { MayPublishTx (key_of board.now.key) pass.old tx.value state.now }
+    ensures published { pass.new ≡ published_tx pass.old tx.value result state.now }
+    ensures later { pass.old.seen ≤ result }
+{
+    let words = pack_commit(pass.id, vars);
+    put_words(
+        board,
+        &mut pass.seat,
+        pass.id,
+        &pass.mine,
+        (pass.seen % cells) as usize,
+        &words,
+    );
+    let at = publish_tx::<Brand>(board, &mut pass.seat, pass.id, &pass.mine, &tx, state);
+    tx.keeps();
+    pass.mine.push_reserved(Entry::Commit { at, tx });
     pass.seen = at + 1;
     at
 }

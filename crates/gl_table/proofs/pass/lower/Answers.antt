@@ -1,4 +1,4 @@
-use Rattle.std.proofs.Common.{map, ◌<◌, ◌≤◌, arith, true, false, refl, ap, ◌∙◌}
+use Rattle.std.proofs.Common.{map, arith, true, false, refl, ap, ◌∙◌}
 use Rattle.std.proofs.lemmas.Bool.{lt-ltb}
 use Rattle.std.proofs.lemmas.List.{map-append}
 use Rattle.gl_model.specs.Entries.{seen}

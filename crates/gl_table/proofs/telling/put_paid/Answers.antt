@@ -2,7 +2,6 @@ use Rattle.std.proofs.Common.{◌≡◌, ◌++◌, ◌+◌, suc, false, ℕ, Lis
 use Rattle.std.specs.Prelude.{Contains}
 use Rattle.std.proofs.Math.Seq.{take-append_seam}
 use Rattle.atomic_table.specs.Table as table
-use Rattle.gl_model.specs.declared.row.Row.{Row}
 use Rattle.gl_model.specs.Entries.{seen}
 use Rattle.gl_rule.specs.declared.slot.Slot.{Slot}
 use Rattle.gl_rule.specs.declared.slot.Slot.TheVariants as slot
@@ -26,9 +25,12 @@ leave_paid-requires-clause-back c =
     let m = subst (λ (p : PassView). MayPayOn p c.args.var c.args.row) (sym c.pass.view_is) c.requires.may in
     let mine = map seen c.pass.inside.mine.items in
     let e = c.exchange.ensures.3 in
-    let same = sym (ap (λ (m : table.Me Slot View). m.0) e ∙ c.bring.ensures.place.2) in
-    (c.args.row, table.rest c.bring.new.seat.me.1, ap (λ (m : table.Me Slot View). m.1) e,
-    (m.taken, m.value, subst (λ (v : View). MayPay (caught_up v c.pass.inside.id mine) (held_at (c.args.var + 1) (caught_up v c.pass.inside.id mine).held) c.args.var m.taken m.value) same m.may, m.is))
+    let same = sym (ap (λ (m : table.Me Slot View). m.0) e ∙ c.bring.ensures.place.2) in (
+      c.args.row,
+      table.rest c.bring.new.seat.me.1,
+      ap (λ (m : table.Me Slot View). m.1) e,
+      (m.taken, m.value, subst (λ (v : View). MayPay (caught_up v c.pass.inside.id mine) (held_at (c.args.var + 1) (caught_up v c.pass.inside.id mine).held) c.args.var m.taken m.value) same m.may, m.is),
+    )
 
 whole : (o m : List ℕ) (n : ℕ) → n ≡ length o → take n (o ++ m) ≡ o
 whole o m n e = ap (λ k. take k (o ++ m)) e ∙ take-append_seam o m
@@ -51,8 +53,8 @@ invariant_of-pass c =
     let y : Slot = slot.Row c.args.row in
     let front = ap (λ (q : table.Me Slot View). q.1) e in
     let is = c.leave_paid.ensures.left
-        ∙ ap (λ (q : table.Me Slot View). let r : table.Me Slot View = (left (paid (caught_up q.0 id mine) (F q.0) x (Rattle.gl_table.specs.Told.head_slot q.1)) (suc x) false, table.rest q.1) in r) e
-        ∙ ap (λ (v : View). let r : table.Me Slot View = (left (paid (caught_up v id mine) (F v) x y) (suc x) false, table.rest c.bring.new.seat.me.1) in r) c.bring.ensures.place.2 in
+    ∙ ap (λ (q : table.Me Slot View). let r : table.Me Slot View = (left (paid (caught_up q.0 id mine) (F q.0) x (Rattle.gl_table.specs.Told.head_slot q.1)) (suc x) false, table.rest q.1) in r) e
+    ∙ ap (λ (v : View). let r : table.Me Slot View = (left (paid (caught_up v id mine) (F v) x y) (suc x) false, table.rest c.bring.new.seat.me.1) in r) c.bring.ensures.place.2 in
     let cap = c.remove.ensures.capacity in
     let old = c.pass.invariant.room in
     let block = c.as_mut_slice.ensures in

@@ -1,4 +1,4 @@
-use Rattle.std.proofs.Common.{◌≡◌, map, true, sym, ap, subst, ◌∙◌}
+use Rattle.std.proofs.Common.{map, sym, subst, ◌∙◌}
 use Rattle.gl_model.specs.Entries.{seen}
 use Rattle.gl_rule.specs.Closed.{IsDone}
 use Rattle.gl_table.specs.PassView.{PassView}
