@@ -32,12 +32,12 @@ use Rattle.gl_lines.proofs.TracePlain.{block_here, placed}
 use Rattle.gl_lines.proofs.TraceSound.{sound_traced}
 use Rattle.gl_lines.proofs.VerdictLaw.{grow_law}
 use Rattle.gl_core.specs.declared.threads.Threads.{Threads}
-use Rattle.gl_core.specs.Moved.{IsRowMoved}
-use Rattle.gl_core.specs.Noted.{IsNoted}
+use Rattle.gl_draws.specs.Moved.{IsRowMoved}
+use Rattle.gl_judge.specs.Noted.{IsNoted}
 use Rattle.gl_core.specs.Rows.{row_of, asked_plain, asked_part, AreRowsMoved, AreNoted, PlainDone, CommitDone}
 use Rattle.gl_core.specs.Tracks.{Tracks, AreLeastHeld}
-use Rattle.gl_core.proofs.Notes.{noted_stands, plain_info, commit_info}
-use Rattle.gl_core.proofs.RowMoves.{row_moved}
+use Rattle.gl_judge.proofs.Notes.{noted_stands, plain_info, commit_info}
+use Rattle.gl_draws.proofs.MovedRows.{row_moved}
 use Rattle.gl_core.proofs.Steps.{line, Stepped, owned_held, tracks_same, followed_push}
 
 and_not_true : (b : Bool) → (b && not true) ≡ false

@@ -16,8 +16,8 @@ use Rattle.gl_model.specs.declared.row.Question.{Question}
 use Rattle.gl_model.specs.declared.row.Row.{Row}
 use Rattle.gl_model.specs.Trace.{Line}
 use Rattle.gl_core.specs.Cost.{ahead, ahead_of_reads, ahead_of_row, ahead_of_rows, IsPaid, made_by, infos_of, infos_made}
-use Rattle.gl_core.specs.Moved.{IsMoved}
-use Rattle.gl_core.specs.Noted.{IsNoted}
+use Rattle.gl_draws.specs.Moved.{IsMoved}
+use Rattle.gl_judge.specs.Noted.{IsNoted}
 use Rattle.gl_core.specs.Padding.{padded, row_with}
 
 -- an Info that was walked on

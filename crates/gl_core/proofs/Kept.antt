@@ -2,7 +2,7 @@
 use Rattle.std.proofs.Common.{◌≡◌, ℕ, ◌+◌, ◌-◌, ◌<◌, ◌≤◌, List, [], ◌∷◌, ◌++◌, length, take, drop, get_or, set, refl, sym, ◌∙◌, ap, subst, inl, inr, arith, Some, None, true, false, Bool}
 use Rattle.std.specs.Prelude.{Option, ◌↔◌, ◌⊎◌, IsTrue, slice_range, not}
 use Rattle.std.proofs.lemmas.Bool.{cases_lt}
-use Rattle.std.proofs.lemmas.List.{take-append-drop, length-drop, drop-drop, take_more, get_or-drop, get_or-set_same, get_or-set_other}
+use Rattle.std.proofs.lemmas.List.{length-drop, take_more, get_or-drop, get_or-set_same, get_or-set_other}
 use native.Mathlib.Decide.{ℕ_discrete}
 use Rattle.std.proofs.Math.Seq.{drop-length}
 use Rattle.gl_model.specs.declared.event.Stamp.{Stamp}
@@ -10,37 +10,13 @@ use Rattle.gl_model.specs.declared.event.Element.{Element}
 use Rattle.gl_model.specs.declared.event.Element.TheVariants.{Thread}
 use Rattle.gl_model.specs.declared.row.Info.{Info}
 use Rattle.gl_model.specs.Lockset.{Has}
-use Rattle.gl_model.specs.Locksets.{Elements, AfterAcquiring, After, AfterAll, IsOrderedOrExcepted}
+use Rattle.gl_model.specs.Locksets.{Elements, After, AfterAll, IsOrderedOrExcepted}
 use Rattle.gl_model.specs.declared.row.Question.{Question}
 use Rattle.gl_draws.specs.RowFacts.{read_of, set_after, Fails}
-use Rattle.gl_core.specs.Moved.{IsMoved, IsStepped, AreMoved}
-use Rattle.gl_core.proofs.Walked.{AfterAll-has, passes_greater}
-
-abbrev pub SameSets : Elements → Elements → Type 0
-SameSets S T = (y : Element) → S y ↔ T y
-
-acquiring_same : (S T : Elements) (s : Stamp) → SameSets S T → SameSets (AfterAcquiring S s) (AfterAcquiring T s)
-acquiring_same S T s same y = (λ h. elim h [ inl c ↦ inl ((same y).0 c) | inr c ↦ inr (c.0, (c.1.0, c.1.1, (same c.1.0).0 c.1.2)) ], λ h. elim h [ inl c ↦ inl ((same y).1 c) | inr c ↦ inr (c.0, (c.1.0, c.1.1, (same c.1.0).1 c.1.2)) ])
-
-after_same : (S T : Elements) (s : Stamp) → SameSets S T → SameSets (After S s) (After T s)
-after_same S T s same y =
-    let t = acquiring_same S T s same in
-    (λ h. elim h [ inl c ↦ inl ((t y).0 c) | inr c ↦ inr (c.0, (t (Thread s.thread)).0 c.1) ], λ h. elim h [ inl c ↦ inl ((t y).1 c) | inr c ↦ inr (c.0, (t (Thread s.thread)).1 c.1) ])
-
-pub all_same : (S T : Elements) (xs : List Stamp) → SameSets S T → SameSets (AfterAll S xs) (AfterAll T xs)
-all_same S T [] same = same
-all_same S T (s ∷ xs) same = all_same (After S s) (After T s) xs (after_same S T s same)
-
-pub all_append : (S : Elements) (xs ys : List Stamp) → AfterAll S (xs ++ ys) ≡ AfterAll (AfterAll S xs) ys
-all_append S [] ys = refl
-all_append S (x ∷ xs) ys = all_append (After S x) xs ys
-
--- nothing walked
-pub unmoved : (h : List Stamp) (i : Info) → i.pos ≤ length h → IsMoved h i i
-unmoved h i n =
-    let none : i.pos - i.pos ≡ 0 = omega arith in
-    let nothing : slice_range h i.pos i.pos ≡ [] = ap (λ j. take j (drop i.pos h)) none in
-    record { thread = refl; write = refl; commit = refl; held = refl; forward = omega arith; within = n; set = λ y. subst (λ xs. Has i.set y ↔ AfterAll (Has i.set) xs y) (sym nothing) (λ c. c, λ c. c) }
+use Rattle.gl_draws.specs.Moved.{IsMoved, AreMoved}
+use Rattle.gl_draws.proofs.MovedInfos.{AfterAll-has, passes_greater, set_after_moved}
+use Rattle.gl_laws.proofs.Walks.{After-same, AfterAll-append}
+use Rattle.gl_core.specs.Stepped.{IsStepped}
 
 -- one event more
 pub range_more : (h : List Stamp) (a p : ℕ) (s : Stamp) → a ≤ p → p < length h → s ≡ get_or h p s → slice_range h a (p + 1) ≡ slice_range h a p ++ s ∷ []
@@ -57,7 +33,7 @@ moved_more h old mid new s m n is step =
     let next = step.pos in
     let forward = m.forward in
     let S = AfterAll (Has old.set) (slice_range h old.pos mid.pos) in
-    let all : AfterAll (Has old.set) (slice_range h old.pos new.pos) ≡ After S s = ap (λ k. AfterAll (Has old.set) (slice_range h old.pos k)) next ∙ ap (AfterAll (Has old.set)) (range_more h old.pos mid.pos s forward n is) ∙ all_append (Has old.set) (slice_range h old.pos mid.pos) (s ∷ []) in
+    let all : AfterAll (Has old.set) (slice_range h old.pos new.pos) ≡ After S s = ap (λ k. AfterAll (Has old.set) (slice_range h old.pos k)) next ∙ ap (AfterAll (Has old.set)) (range_more h old.pos mid.pos s forward n is) ∙ AfterAll-append (Has old.set) (slice_range h old.pos mid.pos) (s ∷ []) in
     record {
       thread = step.thread ∙ m.thread;
       write = step.write ∙ m.write;
@@ -66,22 +42,9 @@ moved_more h old mid new s m n is step =
       forward = omega arith;
       within = omega arith;
       set = λ y.
-          let same = after_same (Has mid.set) S s m.set y in
+          let same = After-same (Has mid.set) S s m.set y in
           subst (λ (T : Elements). Has new.set y ↔ T y) (sym all) (λ c. same.0 ((step.set y).0 c), λ c. (step.set y).1 (same.1 c));
     }
-
--- the events from one position on are those up to another, and those from there on
-pub range_then_rest : (h : List Stamp) (a b : ℕ) → a ≤ b → drop a h ≡ slice_range h a b ++ drop b h
-range_then_rest h a b le =
-    let back : a + (b - a) ≡ b = omega arith in
-    sym (ap (λ xs. take (b - a) (drop a h) ++ xs) (sym (drop-drop (b - a) a h ∙ ap (λ k. drop k h) back)) ∙ take-append-drop (b - a) (drop a h))
-
--- a moved Info has the same lockset after all of the list
-pub set_after_moved : (h : List Stamp) (old new : Info) → IsMoved h old new → SameSets (set_after h new) (set_after h old)
-set_after_moved h old new m y =
-    let same = all_same (Has new.set) (AfterAll (Has old.set) (slice_range h old.pos new.pos)) (drop new.pos h) m.set y in
-    let e : AfterAll (Has old.set) (drop old.pos h) ≡ AfterAll (AfterAll (Has old.set) (slice_range h old.pos new.pos)) (drop new.pos h) = ap (AfterAll (Has old.set)) (range_then_rest h old.pos new.pos m.forward) ∙ all_append (Has old.set) (slice_range h old.pos new.pos) (drop new.pos h) in
-    subst (λ (S : Elements). set_after h new y ↔ S y) (sym e) same
 
 -- the test of an Info that was walked until it passed or to the end
 pub fails_walked : (h : List Stamp) (old new : Info) (u : ℕ) (variables : Option (List ℕ)) (b : Bool) → IsMoved h old new → ((new.pos ≡ length h) ⊎ Has new.set (Thread u)) → IsTrue b ↔ IsOrderedOrExcepted (Has new.set) u variables → IsTrue (not b) ↔ Fails h old u variables

@@ -15,13 +15,14 @@ use Rattle.gl_model.specs.declared.row.Row.{Row}
 use Rattle.gl_model.specs.Lockset.{Has}
 use Rattle.gl_draws.specs.RowFacts.{set_after, IsWithin}
 use Rattle.gl_core.specs.Known.{is_known, AreKnown, IsLeft}
-use Rattle.gl_core.specs.Moved.{IsMoved, AreMoved, IsRowMoved}
-use Rattle.gl_core.specs.Noted.{IsNoted}
+use Rattle.gl_draws.specs.Moved.{IsMoved, AreMoved, IsRowMoved}
+use Rattle.gl_judge.specs.Noted.{IsNoted}
 use Rattle.gl_core.specs.Rows.{row_of, PlainDone, CommitDone}
-use Rattle.gl_core.proofs.Walked.{AfterAll-has}
-use Rattle.gl_core.proofs.Kept.{all_append, set_after_moved}
+use Rattle.gl_draws.proofs.MovedInfos.{AfterAll-has}
+use Rattle.gl_laws.proofs.Walks.{AfterAll-append}
+use Rattle.gl_draws.proofs.MovedInfos.{set_after_moved}
 use Rattle.gl_core.proofs.Paddings.{written_back}
-use Rattle.gl_core.proofs.RowSets.{moved_within}
+use Rattle.gl_draws.proofs.MovedRows.{moved_within}
 
 -- of the last write of a row that was walked on
 moved_back : (h : List Stamp) (o n : Option Info) → AreMoved h o n → (j : Info) → n ≡ Some j → (i : Info) × (o ≡ Some i) × IsMoved h i j
@@ -41,7 +42,7 @@ drop_more (suc p) (s ∷ h) more' n = drop_more p h more' (omega arith)
 
 pub known_longer : (h more' : List Stamp) (kept : List Row) (known : List (List Bool)) → ((y : ℕ) → IsWithin (row_of kept y) (length h)) → AreKnown h kept known → AreKnown (h ++ more') kept known
 known_longer h more' kept known within all x t i is there =
-    rw (drop_more i.pos h more' ((within x).last_write i there), all_append (Has i.set) (drop i.pos h) more')
+    rw (drop_more i.pos h more' ((within x).last_write i there), AfterAll-append (Has i.set) (drop i.pos h) more')
     (AfterAll-has (set_after h i) more' (Thread t) (all x t i is there))
 
 pub known_plain : (h : List Stamp) (kept after : List Row) (known left : List (List Bool)) (q : Question) (x : ℕ) (judged : Judged) → AreKnown h kept known → PlainDone h (row_of kept x) q x judged (row_of after x) → ((y : ℕ) → (y ≡ x → ⊥) → row_of after y ≡ row_of kept y)

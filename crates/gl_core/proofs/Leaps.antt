@@ -10,10 +10,12 @@ use Rattle.gl_model.specs.declared.row.Info.{Info}
 use Rattle.gl_model.specs.Lockset.{Has}
 use Rattle.gl_model.specs.Locksets.{Elements, AfterAcquiring, After, AfterAll, IsOrderedOrExcepted}
 use Rattle.gl_draws.specs.RowFacts.{set_after}
-use Rattle.gl_core.specs.Moved.{IsStepped}
+use Rattle.gl_core.specs.Stepped.{IsStepped}
 use Rattle.gl_core.specs.Pairs.{IsBelow}
-use Rattle.gl_core.proofs.Walked.{AfterAll-has, passes_greater, take_rest}
-use Rattle.gl_core.proofs.Kept.{all_append, range_more}
+use Rattle.gl_draws.proofs.MovedInfos.{AfterAll-has, passes_greater}
+use Rattle.gl_judge.proofs.Walked.{take_rest}
+use Rattle.gl_laws.proofs.Walks.{AfterAll-append}
+use Rattle.gl_core.proofs.Kept.{range_more}
 
 abbrev pub IsPart : Elements → Elements → Type 0
 IsPart S T = (y : Element) → S y → T y
@@ -35,7 +37,7 @@ ranges h a b c one other =
 
 -- what was there before some events is there after them
 later : (S : Elements) (h : List Stamp) (a b c : ℕ) → a ≤ b → b ≤ c → (y : Element) → AfterAll S (slice_range h a b) y → AfterAll S (slice_range h a c) y
-later S h a b c one other y has = rw (ranges h a b c one other, all_append S (slice_range h a b) (slice_range h b c)) (AfterAll-has (AfterAll S (slice_range h a b)) (slice_range h b c) y has)
+later S h a b c one other y has = rw (ranges h a b c one other, AfterAll-append S (slice_range h a b) (slice_range h b c)) (AfterAll-has (AfterAll S (slice_range h a b)) (slice_range h b c) y has)
 
 -- nothing walked
 pub below_itself : (h : List Stamp) (i : Info) → i.pos ≤ length h → IsBelow h i i
@@ -52,7 +54,7 @@ leaped h first old mid new s below le n same is step =
     let from : first.pos ≤ mid.pos = omega arith in
     let S = AfterAll (Has first.set) (slice_range h first.pos mid.pos) in
     let part : IsPart (Has mid.set) S = (λ y has. later (Has first.set) h first.pos old.pos mid.pos below.forward le y (below.set y (subst (λ set. Has set y) same has))) in
-    let all : AfterAll (Has first.set) (slice_range h first.pos new.pos) ≡ After S s = ap (λ k. AfterAll (Has first.set) (slice_range h first.pos k)) next ∙ ap (AfterAll (Has first.set)) (range_more h first.pos mid.pos s from n is) ∙ all_append (Has first.set) (slice_range h first.pos mid.pos) (s ∷ []) in
+    let all : AfterAll (Has first.set) (slice_range h first.pos new.pos) ≡ After S s = ap (λ k. AfterAll (Has first.set) (slice_range h first.pos k)) next ∙ ap (AfterAll (Has first.set)) (range_more h first.pos mid.pos s from n is) ∙ AfterAll-append (Has first.set) (slice_range h first.pos mid.pos) (s ∷ []) in
     record {
       forward = omega arith;
       within = omega arith;

@@ -1,11 +1,7 @@
-pub mod Walked
 pub mod Leaps
-pub mod RowTests
 pub mod Kept
 pub mod Threading
-pub mod Owners
-pub mod RowMoves
-pub mod Notes
+pub mod Parts
 pub mod RowSets
 pub mod Unions
 pub mod LeastHeld

@@ -7,7 +7,7 @@ use Rattle.gl_model.specs.declared.limits.TheConstants.{THREADS}
 use Rattle.gl_model.specs.declared.row.Info.{Info}
 use Rattle.gl_model.specs.declared.row.Question.{Question}
 use Rattle.gl_draws.specs.RowFacts.{read_of, Fails, SomeFails}
-use Rattle.gl_core.specs.Moved.{AreMoved, IsRowMoved}
+use Rattle.gl_draws.specs.Moved.{AreMoved, IsRowMoved}
 use Rattle.gl_core.specs.Padding.{padded, row_with}
 use Rattle.gl_core.proofs.Threading.{replicate_at}
 

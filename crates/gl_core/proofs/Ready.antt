@@ -21,13 +21,13 @@ use Rattle.gl_model.specs.Trace.{is_in}
 use Rattle.gl_draws.specs.RowFacts.{read_of, IsWithin, SomeFails}
 use Rattle.gl_draws.proofs.EntryKinds.{is_in-contains, contains-is_in}
 use Rattle.gl_core.specs.declared.threads.Threads.{Threads}
-use Rattle.gl_core.specs.Noted.{IsNoted}
+use Rattle.gl_judge.specs.Noted.{IsNoted}
 use Rattle.gl_core.specs.Rows.{untouched, row_of, IsLeast, AreRowsMoved, AreNoted, PlainDone, CommitDone, with_act, with_commit, after_act}
-use Rattle.gl_core.specs.Moved.{IsRowMoved}
+use Rattle.gl_draws.specs.Moved.{IsRowMoved}
 use Rattle.gl_core.proofs.Paddings.{written_back}
 use Rattle.gl_core.specs.Tracks.{Tracks, IsWithinDepth, KeepsHeld}
 use Rattle.gl_core.specs.Follows.{AreFollowed, AreReady}
-use Rattle.gl_core.proofs.RowSets.{moved_within}
+use Rattle.gl_draws.proofs.MovedRows.{moved_within}
 use Rattle.gl_core.proofs.Threading.{replicate_at}
 
 within_more : (n m : ℕ) (r : Row) → n ≤ m → IsWithin r n → IsWithin r m

@@ -1,9 +1,7 @@
-pub mod Noted
 pub mod Padding
 pub mod Places
-pub mod Asked
-pub mod Standing
-pub mod Moved
+pub mod Stepped
+pub mod Parts
 pub mod Without
 pub mod Tracks
 pub mod Pairs

@@ -12,8 +12,8 @@ use Rattle.gl_model.specs.declared.row.Row.{Row}
 use Rattle.gl_model.specs.Trace.{is_in}
 use Rattle.gl_model.specs.TraceSteps.{Step, is_ended}
 use Rattle.gl_draws.specs.RowFacts.{SomeFails}
-use Rattle.gl_core.specs.Moved.{IsRowMoved}
-use Rattle.gl_core.specs.Noted.{IsNoted}
+use Rattle.gl_draws.specs.Moved.{IsRowMoved}
+use Rattle.gl_judge.specs.Noted.{IsNoted}
 
 -- a row of which no access was made
 abbrev pub untouched : Row

@@ -38,7 +38,7 @@ impl Events {
     ghost use Rattle.std.specs.Prelude.{◌≡◌, ◌<◌, ◌≤◌, ◌+◌, ◌^◌, ◌∷◌, ◌++◌, [], OnOk, All, length, slice_index_or};
     ghost use Rattle.gl_model.specs.declared.event.Stamp.{Stamp as AStamp};
     ghost use Rattle.gl_model.specs.Elements.{IsStampInRange};
-    ghost use Rattle.gl_core.specs.Moved.{IsStepped};
+    ghost use Rattle.gl_core.specs.Stepped.{IsStepped};
 
     // No event.
     pub fn new(alloc: Global) -> Events

@@ -6,12 +6,13 @@ ghost use Rattle.gl_model.specs.Elements.{IsStampInRange};
 ghost use Rattle.gl_model.specs.Lockset.{Has};
 ghost use Rattle.gl_draws.specs.RowFacts.{Fails};
 ghost use Rattle.gl_core.specs.Cost.{ahead, IsPaid};
-ghost use Rattle.gl_core.specs.Moved.{IsMoved, IsStepped};
+ghost use Rattle.gl_draws.specs.Moved.{IsMoved};
+ghost use Rattle.gl_core.specs.Stepped.{IsStepped};
 
 use crate::events::Events;
-use crate::judging::passes;
 use crate::pairs::few_pass;
 use crate::positions::Positions;
+use gl_judge::passes;
 use gl_model::{Element, Info, Question, Stamp};
 
 // Walks the Info over one event.

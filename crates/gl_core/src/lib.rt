@@ -4,21 +4,16 @@
 mod compact;
 mod detector;
 mod events;
-mod judging;
 mod keeping;
 mod known;
 mod lines;
-mod noting;
 mod pairs;
 mod positions;
 mod reads;
 mod threads;
-mod window;
 
 pub use detector::Detector;
-pub use judging::{Verdict, judge};
-pub use noting::note;
-pub use window::walk;
+pub use gl_judge::{Verdict, judge, note, walk};
 
 #[cfg(test)]
 mod tests;

@@ -7,15 +7,16 @@ ghost use Rattle.gl_model.specs.Rising.{AreVariables, with_one, with_all};
 ghost use Rattle.gl_model.specs.Trace.{is_in};
 ghost use Rattle.gl_draws.specs.RowFacts.{Fails, SomeFails, IsWithin};
 ghost use Rattle.gl_core.specs.Cost.{ahead_of_row, ahead_of_rows, made_by, IsPaid};
-ghost use Rattle.gl_core.specs.Moved.{IsRowMoved};
-ghost use Rattle.gl_core.specs.Noted.{IsNoted, part_of};
+ghost use Rattle.gl_draws.specs.Moved.{IsRowMoved};
+ghost use Rattle.gl_judge.specs.Noted.{IsNoted};
+ghost use Rattle.gl_core.specs.Parts.{part_of};
 ghost use Rattle.gl_core.specs.Rows.{row_of, asked_plain, asked_part, AreRowsMoved, IsLeast, lower_of, AreNoted, with_act, after_act, PlainDone, CommitDone};
 
 use crate::compact::KeptRow;
 use crate::events::Events;
-use crate::noting::new_info;
 use crate::positions::Positions;
 use crate::reads::Spares;
+use gl_judge::new_info;
 use gl_model::{Act, Event, Held, Info, Judged, Question, Stamp, VarSet};
 use std::alloc::{AllocError, Global};
 

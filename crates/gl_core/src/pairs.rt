@@ -7,8 +7,8 @@ ghost use Rattle.gl_draws.specs.RowFacts.{set_after};
 ghost use Rattle.gl_core.specs.Pairs.{IsBelow};
 
 use crate::events::Events;
-use crate::judging::passes;
 use crate::positions::Positions;
+use gl_judge::passes;
 use gl_model::{Element, Info, Question};
 
 // The positions that are left of those from one on.

@@ -5,7 +5,7 @@ ghost use Rattle.gl_model.specs.Elements.{IsStampInRange};
 ghost use Rattle.gl_model.specs.Locksets.{IsOrderedOrExcepted};
 ghost use Rattle.gl_draws.specs.RowFacts.{Fails, read_of, set_after};
 ghost use Rattle.gl_core.specs.Cost.{ahead, ahead_of_reads, IsPaid};
-ghost use Rattle.gl_core.specs.Moved.{AreMoved};
+ghost use Rattle.gl_draws.specs.Moved.{AreMoved};
 
 use crate::events::Events;
 use crate::keeping::{fails_behind_look, fails_on};

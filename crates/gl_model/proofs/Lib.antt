@@ -8,3 +8,4 @@ pub mod Pushed
 pub mod Parts
 pub mod Reported
 pub mod GrownLists
+pub mod Unions

@@ -1,6 +1,6 @@
-ghost use Rattle.std.specs.Prelude.{◌≡◌, ℕ, ◌<◌, ◌≤◌, List, [], length, take, All, IsErr, IsTrue, OnOk, OnErr, ◌↔◌, Contains, slice_get};
+ghost use Rattle.std.specs.Prelude.{◌≡◌, ℕ, ◌<◌, ◌≤◌, List, [], length, take, All, IsErr, IsTrue, MatchOption, OnOk, OnErr, ◌↔◌, Contains, slice_get};
 ghost use Rattle.gl_model.specs.Kept.{AreVariables};
-ghost use Rattle.gl_model.specs.Rising.{with_one};
+ghost use Rattle.gl_model.specs.Rising.{with_one, with_all};
 
 use crate::limits::{TX_ROOM, TX_VARIABLES, VARIABLES};
 use crate::rising::{is_among, meet, place_among, put_among};
@@ -80,6 +80,20 @@ impl VarSet {
         put_among(&mut self.ids, len, i, var);
         self.len += 1;
         Ok(())
+    }
+
+    /// The variables of both, or `None` where there are more than a transaction may have.
+    pub fn union(self, other: &VarSet) -> Option<VarSet>
+        ensures { MatchOption result (TX_VARIABLES < length (with_all other.now self)) (λ all. (all ≡ with_all other.now self) × (length (with_all other.now self) ≤ TX_VARIABLES)) }
+    {
+        let mut all = self;
+        for var in other.ids() {
+            if all.insert(*var).is_err() {
+                return None;
+            }
+        }
+        all.keeps();
+        Some(all)
     }
 
     /// Whether the variable is in it.

@@ -94,6 +94,13 @@ stands_held setting w hold zero (slot.Row r) s = absurd s
 stands_held setting w hold (suc x) slot.Empty s = absurd s
 stands_held setting w hold (suc x) (slot.List l) s = absurd s
 
+-- what is said of a held object's hold goes on where the hold stays
+pub floor_moves : (hold hold' : ℕ → ℕ) (h : Held) → (h.object ≢ 0 → hold' h.object ≡ hold h.object) → FloorFits hold h → FloorFits hold' h
+floor_moves hold hold' h same f = record {
+  exact = λ n e. let q = f.exact n e in (same q.1 ∙ q.0, q.1);
+  named = λ row i is has none nz. subst (λ m. m ≤ i.pos) (sym (same nz)) (f.named row i is has none nz);
+}
+
 -- a word that is no hold and no cell changes: of a view only its turns can change
 pub fits_board : (key : Key) (b b' : Board) (w : World) (holder' : ℕ → ℕ) (j : ℕ) (v : View) → SameHolds b b' → SameCells b b' → TurnsFit b'.turn holder' j v → Fits key b w j v → Fits key b' (record w { holder = holder' }) j v
 fits_board key b b' w holder' j v holds cells turns f =
@@ -113,7 +120,7 @@ fits_board key b b' w holder' j v holds cells turns f =
         loaded = f.knowledge.loaded;
       };
       ring = record {
-        floors = both_map O (FloorFits b.hold) (FloorFits b'.hold) v.held (λ h a t n e. (named h a ∙ (t n e).0, (t n e).1)) turns.held f.ring.floors;
+        floors = both_map O (FloorFits b.hold) (FloorFits b'.hold) v.held (λ h a t. floor_moves b.hold b'.hold h (λ nz. named h a) t) turns.held f.ring.floors;
         stored = λ i near. cells (length w.log) i ∙ f.ring.stored i near;
         few = f.ring.few;
         by_holder = f.ring.by_holder;

@@ -28,3 +28,4 @@ pub mod Storing
 pub mod Trimming
 pub mod Turning
 pub mod Words
+pub mod Safety

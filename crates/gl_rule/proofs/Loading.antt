@@ -41,6 +41,10 @@ tail_new setting w hold (suc x) (slot.Row row) drew m is near up st = (omega ari
 tail_new setting w hold (suc x) slot.Empty drew m is near up st = absurd st
 tail_new setting w hold (suc x) (slot.List l) drew m is near up st = absurd st
 
+-- a tail that the list's holder has seen since it took the list is the tail
+pub tail_zero : (long seen : ℕ) (hold : ℕ → ℕ) (k n : ℕ) (y : Slot) → k ≡ 0 → TailFits long hold seen k y n → n ≡ long
+tail_zero long seen hold k n y e t = let a : TailFits long hold seen 0 y n = subst (λ z. TailFits long hold seen z y n) e t in a
+
 pub tail_later : (long : ℕ) (hold : ℕ → ℕ) (seen m k n : ℕ) (y : Slot) → seen ≤ m → TailFits long hold seen k y n → TailFits long hold m k y n
 tail_later long hold seen m zero n y le t = t
 tail_later long hold seen m (suc x) n (slot.Row row) le t = let a = t.0 in (omega arith, t.1, t.2)
@@ -141,7 +145,7 @@ walked key w s id p v H here may =
     let m : ℕ = b.hold 0 * key.cells in
     let low' : m ≤ b.hold (suc x) = low in
     let done : b.hold (suc x) ≤ p = elim may.3 [
-      | inl a ↦ (let f : FloorFits b.hold h = All-contains (FloorFits b.hold) v.held h mine.ring.floors may.1 in let e : b.hold (suc x) ≡ a.0 = ap b.hold (sym may.2.1) ∙ (f a.0 a.1).0 in let le = a.2 in omega arith)
+      | inl a ↦ (let f : FloorFits b.hold h = All-contains (FloorFits b.hold) v.held h mine.ring.floors may.1 in let e : b.hold (suc x) ≡ a.0 = ap b.hold (sym may.2.1) ∙ (f.exact a.0 a.1).0 in let le = a.2 in omega arith)
       | inr a ↦ (let st : HeldStands key.setting w b.hold h = All-contains (HeldStands key.setting w b.hold) v.held h mine.values.held may.1 in let q = (above_in key.setting w b.hold h.drew h.object x h.taken may.2.1 st a.0 a.2).at a.1 a.3 in let le = a.4 in omega arith)
     ] in
     let r : m ≤ p = omega arith in r

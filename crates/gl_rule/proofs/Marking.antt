@@ -55,7 +55,7 @@ use Rattle.gl_rule.proofs.Words.{still_long, count_here, count_else, count_turns
 use Rattle.gl_rule.proofs.HeldLists.{all_map, both_map, all_without, has_after, only_shelf, one_shelf}
 use Rattle.gl_rule.proofs.FittingLaws.{Facts, front_fits, infos_front, within_seen}
 use Rattle.gl_draws.proofs.Forming.{formed_push, counted_push, store_running}
-use Rattle.gl_rule.proofs.Frames.{machine_same, turns_kept, turns_same, tail_at, read_at}
+use Rattle.gl_rule.proofs.Frames.{machine_same, turns_kept, turns_same, tail_at, read_at, floor_moves}
 use Rattle.gl_rule.proofs.Publishing.{same_thread, trims_push}
 use Rattle.gl_rule.proofs.Raising.{row_in, row_tail}
 use Rattle.gl_rule.proofs.RingFrames.{ring_same}
@@ -198,7 +198,7 @@ draws_number key slots id v c s h x taken p what s' drawn' one may shows st rule
         loaded = mine.knowledge.loaded;
       };
       ring = record {
-        floors = All-cons (FloorFits b'.hold) h' (without k v.held) (λ a e. let q = (All-contains (FloorFits b.hold) v.held h mine.ring.floors may.held) a e in (holds k near ∙ q.0, q.1)) (lift (FloorFits b.hold) (FloorFits b'.hold) (λ g ne a t i e. (holds g.object a.named ∙ (t i e).0, (t i e).1)) mine.ring.floors);
+        floors = All-cons (FloorFits b'.hold) h' (without k v.held) (floor_moves b.hold b'.hold h (λ nz. holds k near) (All-contains (FloorFits b.hold) v.held h mine.ring.floors may.held)) (lift (FloorFits b.hold) (FloorFits b'.hold) (λ g ne a t. floor_moves b.hold b'.hold g (λ nz. holds g.object a.named) t) mine.ring.floors);
         stored = λ i q. cells (length w.log) i ∙ mine.ring.stored i q;
         few = mine.ring.few;
         by_holder = elim mine.ring.by_holder [ inl z ↦ inl z | inr o ↦ inr (has_after 0 v h h' refl o) ];
@@ -266,7 +266,7 @@ draws_number key slots id v c s h x taken p what s' drawn' one may shows st rule
                   reads = all_map (ReadFits b.hold) (ReadFits b'.hold) o.reads (read_at b.hold b'.hold (λ g q. let e = holds g q in omega arith)) f.knowledge.reads;
                   loaded = f.knowledge.loaded;
                 };
-                ring = record { floors = both_map P (FloorFits b.hold) (FloorFits b'.hold) o.held (λ g a t i e. (holds g.object a.named ∙ (t i e).0, (t i e).1)) f.turns.held f.ring.floors; stored = λ i q. cells (length w.log) i ∙ f.ring.stored i q; few = f.ring.few; by_holder = f.ring.by_holder; lows = f.ring.lows };
+                ring = record { floors = both_map P (FloorFits b.hold) (FloorFits b'.hold) o.held (λ g a t. floor_moves b.hold b'.hold g (λ nz. holds g.object a.named) t) f.turns.held f.ring.floors; stored = λ i q. cells (length w.log) i ∙ f.ring.stored i q; few = f.ring.few; by_holder = f.ring.by_holder; lows = f.ring.lows };
                 quiet = f.quiet;
                 carries = f.carries;
                 owed = owed_others w.draws draws' o.owed o.shelves

@@ -32,7 +32,7 @@ use Rattle.gl_rule.proofs.Each.{each_set}
 use Rattle.gl_rule.proofs.Words.{still_long, hold_here, hold_else, hold_turns, hold_counts, hold_cells, SameTurns, SameCounts, SameCells}
 use Rattle.gl_rule.proofs.HeldLists.{all_map, both_map, all_without, has_after, only_shelf}
 use Rattle.gl_rule.proofs.FittingLaws.{Facts, front_fits, put_stands, within_seen}
-use Rattle.gl_rule.proofs.Frames.{machine_same, turns_kept, turns_same, stands_at, held_at, tail_at, read_at, reviews, loads_word}
+use Rattle.gl_rule.proofs.Frames.{machine_same, turns_kept, turns_same, stands_at, held_at, tail_at, read_at, reviews, loads_word, floor_moves}
 
 held_at' : (setting : Setting) (w : World) (hold hold' : ℕ → ℕ) (drew : Option Draw) (k : ℕ) (y : Slot) → (k ≢ 0 → hold' k ≡ hold k) → StandsHeld setting w hold drew k y → StandsHeld setting w hold' drew k y
 held_at' setting w hold hold' drew zero (slot.List l) e s = s
@@ -77,7 +77,7 @@ fits_holds key b b' w trims' j v turns cells same up lows f =
         loaded = f.knowledge.loaded;
       };
       ring = record {
-        floors = both_map O (FloorFits b.hold) (FloorFits b'.hold) v.held (λ h a t n e. let q = t n e in (same h a q.1 ∙ q.0, q.1)) f.turns.held f.ring.floors;
+        floors = both_map O (FloorFits b.hold) (FloorFits b'.hold) v.held (λ h a t. floor_moves b.hold b'.hold h (same h a) t) f.turns.held f.ring.floors;
         stored = λ i q. cells (length w.log) i ∙ f.ring.stored i q;
         few = f.ring.few;
         by_holder = f.ring.by_holder;
@@ -155,7 +155,7 @@ raises_hold key slots id v c s h x taken row to one may st rule long here fits =
     let new : RowStands key.setting w.log x (w.draws x) row = subst (λ d. RowStands key.setting w.log x (with_draw d (w.draws x)) row) may.first put in
     let within : IsWithin row v.seen = raised_within key.setting w.seat id s v b.hold h x taken row w.log (w.draws x) may.right facts old.0 tails' in
     let low : b.hold k ≤ to = elim may.from [
-      | inl a ↦ (let f : FloorFits b.hold h = All-contains (FloorFits b.hold) v.held h mine.ring.floors may.held in let e = (f a.0 a.1).0 in let le = a.2 in omega arith)
+      | inl a ↦ (let f : FloorFits b.hold h = All-contains (FloorFits b.hold) v.held h mine.ring.floors may.held in let e = (f.exact a.0 a.1).0 in let le = a.2 in omega arith)
       | inr a ↦ (let q : b.hold (suc x) ≤ a.0.pos = old.1.at a.0 a.1 in let e : b.hold k ≡ b.hold (suc x) = ap b.hold may.object in let le = a.2 in omega arith)
     ] in
     let b' = board cap (set st.words (3 * k + 2) to) in
@@ -196,7 +196,7 @@ raises_hold key slots id v c s h x taken row to one may st rule long here fits =
         loaded = mine.knowledge.loaded;
       };
       ring = record {
-        floors = All-cons (FloorFits b'.hold) g' (without k v.held) (λ n e. (hit ∙ some_is to n e, λ z. not_zero (sym z))) (lift (FloorFits b.hold) (FloorFits b'.hold) (λ g ne p t n e. (other g.object ne ∙ (t n e).0, (t n e).1)) mine.ring.floors);
+        floors = All-cons (FloorFits b'.hold) g' (without k v.held) (record { exact = λ n e. (hit ∙ some_is to n e, λ z. not_zero (sym z)); named = λ r i is has none nz. absurd (cc) }) (lift (FloorFits b.hold) (FloorFits b'.hold) (λ g ne p t. floor_moves b.hold b'.hold g (λ nz. other g.object ne) t) mine.ring.floors);
         stored = λ i q. cells (length w.log) i ∙ mine.ring.stored i q;
         few = mine.ring.few;
         by_holder = elim mine.ring.by_holder [ inl z ↦ inl z | inr o ↦ inr (has_after 0 v h g' refl o) ];
@@ -266,7 +266,7 @@ loads_floor key slots id v c h has nz st rule long here fits =
       values = record { held = cons S (All-contains S v.held h mine.values.held has) mine.values.held };
       numbers = record { shelves = mine.numbers.shelves };
       knowledge = record { seen = mine.knowledge.seen; own = mine.knowledge.own; known = mine.knowledge.known; tails = cons T (All-contains T v.held h mine.knowledge.tails has) mine.knowledge.tails; reads = All-push (ReadFits b.hold) v.reads (Hold k n) mine.knowledge.reads (turn.named, omega arith); loaded = mine.knowledge.loaded };
-      ring = record { floors = cons (FloorFits b.hold) (λ m e. (some_is n m e, nz)) mine.ring.floors; stored = mine.ring.stored; few = mine.ring.few; by_holder = elim mine.ring.by_holder [ inl z ↦ inl z | inr o ↦ inr (has_after 0 v h g' refl o) ]; lows = mine.ring.lows };
+      ring = record { floors = cons (FloorFits b.hold) (record { exact = λ m e. (some_is n m e, nz); named = λ r i is has none z. absurd (cc) }) mine.ring.floors; stored = mine.ring.stored; few = mine.ring.few; by_holder = elim mine.ring.by_holder [ inl z ↦ inl z | inr o ↦ inr (has_after 0 v h g' refl o) ]; lows = mine.ring.lows };
       quiet = record { none_live = mine.quiet.none_live };
       carries = record { shelves = mine.carries.shelves };
       owed = mine.owed;

@@ -20,7 +20,7 @@ use Rattle.gl_rule.specs.Fitting.{SaysQuiet}
 use Rattle.gl_rule.specs.Rule.{Fits}
 use Rattle.gl_rule.proofs.Words.{SameHolds, SameCells}
 use Rattle.gl_rule.proofs.HeldLists.{all_map, all_without, in_without}
-use Rattle.gl_rule.proofs.Frames.{held_at, tail_at, read_at}
+use Rattle.gl_rule.proofs.Frames.{held_at, tail_at, read_at, floor_moves}
 
 pub ring_same : (key : Key) (b b' : Board) (log : List Stamp) → b'.hold 0 ≡ b.hold 0 → SameHolds b b' → SameCells b b' → RingHolds (capacity key) (b.hold 0 * key.cells) b log → RingHolds (capacity key) (b'.hold 0 * key.cells) b' log
 ring_same key b b' log low holds cells r = subst (λ n. RingHolds (capacity key) (n * key.cells) b' log) (sym low) (record {
@@ -57,7 +57,7 @@ fits_without key b b' w j k v holds cells moves f =
     }
   where
     floors : All (FloorFits b'.hold) (without k v.held)
-    floors = all_without (λ g. HeldOne b.turn w.holder j v.shelves g × FloorFits b.hold g) (FloorFits b'.hold) k v.held (λ g ne p n e. (holds g.object p.0.named ∙ (p.1 n e).0, (p.1 n e).1)) (Rattle.gl_rule.proofs.HeldLists.both_map (HeldOne b.turn w.holder j v.shelves) (FloorFits b.hold) (λ g. HeldOne b.turn w.holder j v.shelves g × FloorFits b.hold g) v.held (λ g a c. (a, c)) f.turns.held f.ring.floors)
+    floors = all_without (λ g. HeldOne b.turn w.holder j v.shelves g × FloorFits b.hold g) (FloorFits b'.hold) k v.held (λ g ne p. floor_moves b.hold b'.hold g (λ nz. holds g.object p.0.named) p.1) (Rattle.gl_rule.proofs.HeldLists.both_map (HeldOne b.turn w.holder j v.shelves) (FloorFits b.hold) (λ g. HeldOne b.turn w.holder j v.shelves g × FloorFits b.hold g) v.held (λ g a c. (a, c)) f.turns.held f.ring.floors)
 
     not_zero : (k == 0) ≡ false → k ≢ 0
     not_zero e z = let t : (k == 0) ≡ true = eq-eqb k 0 z in let c : true ≡ false = sym t ∙ e in absurd (cc)

@@ -9,14 +9,16 @@ use prog.Atomic.{either}
 use Rattle.atomic_table.specs.Table as table
 use Rattle.atomic_table.proofs.Lists.{set_here, set_else, exchanged}
 use Rattle.gl_model.specs.declared.limits.TheConstants.{THREADS}
-use Rattle.gl_model.specs.Machine.{with_at}
+use Rattle.gl_model.specs.declared.row.Info.{Info}
+use Rattle.gl_model.specs.declared.row.Row.{Row}
+use Rattle.gl_model.specs.Machine.{Setting, with_at}
 use Rattle.gl_draws.proofs.DrawTies.{with_here, with_else}
 use Rattle.gl_rule.specs.declared.slot.Slot.{Slot}
 use Rattle.gl_rule.specs.Objects.{Key, Board, board, capacity, objects}
 use Rattle.gl_rule.specs.View.{View, Held, Shelf, HasObject, Busy, Taken, new_held, took, refused, left, without}
 use Rattle.gl_rule.specs.Turns.{HeldOne}
 use Rattle.gl_rule.specs.Positions.{ShelfFits}
-use Rattle.gl_rule.specs.Values.{Stands, HeldStands}
+use Rattle.gl_rule.specs.Values.{InRow, Stands, HeldStands}
 use Rattle.gl_rule.specs.Knowledge.{TailsFit, ReadFits}
 use Rattle.gl_rule.specs.Ring.{FloorFits}
 use Rattle.gl_rule.specs.Fitting.{MayLeave, SaysQuiet}
@@ -31,6 +33,14 @@ use Rattle.gl_rule.proofs.HeldLists.{all_map, in_cons, in_without, only_shelf}
 use Rattle.gl_rule.proofs.Frames.{machine_same, turns_step, stands_at, stands_same, stands_held, fits_board, fits_saw, reviews, loads_word}
 use Rattle.gl_rule.proofs.FittingLaws.{leave_stands}
 
+-- no Info of a row at home lies below its hold
+home_above : (setting : Setting) (w : World) (hold : ℕ → ℕ) (k : ℕ) (y : Slot) (row : Row) (i : Info) → y ≡ slot.Row row → k ≢ 0 → Stands setting w hold k y → InRow row i → hold k ≤ i.pos
+home_above setting w hold zero y row i is nz st has = absurd (nz refl)
+home_above setting w hold (suc x) (slot.Row r) row i is nz st has = let same : r ≡ row = cc in st.1.at i (subst (λ z. InRow z i) (sym same) has)
+home_above setting w hold (suc x) (slot.List l) row i is nz st has = absurd st
+home_above setting w hold (suc x) slot.Empty row i is nz st has = absurd st
+
+-- the object that was at home is what is told
 taken_told : (key : Key) (w : World) (id : ℕ) (v : View) (s : Shelf) (hold : ℕ → ℕ) (b : Board) {views : List View} → Whole key b w views → v.shelves ≡ s ∷ [] → ShelfFits w.log w.seat id s → Fits key b w id v → (k : ℕ) (y : Slot) → Stands key.setting w hold k y → TakenTold key.setting v k y
 taken_told key w id v s hold b whole one f mine zero (slot.List l) st = record { log = w.log; now = w.now; allowed = whole.machine.allowed; is = st; shelf = s; one = one; named = f.named; own = f.events; later = mine.knowledge.seen; few = whole.positions.few }
 taken_told key w id v s hold b whole one f mine zero slot.Empty st = absurd st
@@ -121,7 +131,7 @@ takes_turn key slots id k v c s near one st rule long here fits =
                   loaded = still.knowledge.loaded;
                 };
                 ring = record {
-                  floors = All-cons (FloorFits b'.hold) h v.held (λ m e. absurd (cc)) still.ring.floors;
+                  floors = All-cons (FloorFits b'.hold) h v.held (record { exact = λ m e. absurd (cc); named = λ row i is has none nz. subst (λ m. m ≤ i.pos) (sym (holds k near)) (home_above key.setting w b.hold k y row i is nz stands has) }) still.ring.floors;
                   stored = still.ring.stored;
                   few = still.ring.few;
                   by_holder = elim still.ring.by_holder [ inl e ↦ inl e | inr o ↦ inr (o.0, in_cons h v.held o.0 o.1, o.2) ];

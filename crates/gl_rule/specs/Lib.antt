@@ -21,6 +21,7 @@ pub mod Opened
 pub mod Closed
 pub mod Laws
 pub mod Steps
+pub mod Safe
 pub mod Told
 pub mod Taken
 pub mod Lives

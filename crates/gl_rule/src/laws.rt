@@ -2,6 +2,7 @@
 #![tactic(auto)]
 
 ghost use Rattle.gl_rule.specs.Laws.{ClosedIsLawful, ClosedIsTrimmed};
+ghost use Rattle.gl_rule.specs.Safe.{TablesAreSafe, OverwritesUnnamed};
 ghost use Rattle.gl_rule.specs.Steps.{TakesTurn, LeavesTurn, WritesBack, LoadsTail, LoadsHold, LoadsFloor, LoadsStop, LoadsCell, LoadsEvent, StoresWord, SetsStop, RaisesHold, RaisesLow, PublishesAct, PublishesCommit, MarksPlain, MarksOpen, RecordsAdded, Begins, EntersSeat, SplitsSeat, JoinsSeats};
 
 /// Taking an object's turn, leaving it, and leaving it with a value that was owed.
@@ -49,6 +50,13 @@ pub fn seats_keep_the_rule()
     ensures enters { EntersSeat }
     ensures splits { SplitsSeat }
     ensures joins { JoinsSeats }
+{}
+
+/// No cell is given again while somebody may still walk from its event: the table is safe, and the event whose cell the
+/// next one takes lies in a segment below that of each position that is named.
+pub fn tables_are_safe()
+    ensures safe { TablesAreSafe }
+    ensures overwrites { OverwritesUnnamed }
 {}
 
 /// Where one pass has the lists of all threads, each of them done, and holds nothing, the record of these lists is

@@ -10,12 +10,5 @@ pub fn both(reads: VarSet, writes: &VarSet) -> Option<VarSet>
     ensures { MatchOption result (nat_lt TX_VARIABLES (length (with_all writes.now reads)) ≡ true)
         (λ all. (all ≡ with_all writes.now reads) × (nat_lt TX_VARIABLES (length (with_all writes.now reads)) ≡ false)) }
 {
-    let mut all = reads;
-    for var in writes.ids() {
-        if all.insert(*var).is_err() {
-            return None;
-        }
-    }
-    all.keeps();
-    Some(all)
+    reads.union(writes)
 }

@@ -1,4 +1,4 @@
-use Rattle.gl_core.proofs.Walked.{passes_before}
+use Rattle.gl_judge.proofs.Walked.{passes_before}
 use Rattle.gl_core.proofs.Kept.{fails_walked}
 use Rattle.gl_core.proofs.Costs.{paid_walk}
 use Rattle.gl_core.proofs.keeping.fails_on.Goals as goal

@@ -1,5 +1,5 @@
 use Rattle.std.proofs.Common.{◌≡◌}
-use Rattle.gl_core.specs.Moved.{IsMoved}
+use Rattle.gl_draws.specs.Moved.{IsMoved}
 use Rattle.gl_core.proofs.keeping.walk_on.Given as goal
 
 abbrev pub invariant-loop-at : goal.invariant-loop-at

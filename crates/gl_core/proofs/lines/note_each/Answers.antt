@@ -1,8 +1,8 @@
 use Rattle.std.proofs.Common.{◌<◌, length, get_or, arith, refl}
 use Rattle.std.proofs.lemmas.List.{get_or_default}
 use Rattle.gl_core.proofs.Costs.{noted_more}
-use Rattle.gl_core.proofs.Notes.{part_new}
-use Rattle.gl_core.specs.Noted.{IsNoted}
+use Rattle.gl_core.proofs.Parts.{part_new}
+use Rattle.gl_judge.specs.Noted.{IsNoted}
 use Rattle.gl_core.specs.Rows.{asked_part}
 use Rattle.gl_core.proofs.RowSets.{var_below, noted_more as noted_more_rows, each_more}
 use Rattle.gl_core.proofs.lines.note_each.Goals as goal

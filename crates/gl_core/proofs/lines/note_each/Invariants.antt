@@ -1,7 +1,7 @@
 use Rattle.std.proofs.Common.{◌≡◌, ℕ, ◌+◌, ◌*◌, ◌≤◌, length, take}
 use Rattle.std.specs.Prelude.{◌⊎◌}
 use Rattle.gl_core.specs.Cost.{ahead_of_rows}
-use Rattle.gl_core.specs.Noted.{IsNoted}
+use Rattle.gl_judge.specs.Noted.{IsNoted}
 use Rattle.gl_core.specs.Rows.{row_of, asked_part, AreNoted}
 use Rattle.gl_core.proofs.lines.note_each.Given as goal
 

@@ -2,7 +2,7 @@ use Rattle.std.proofs.Common.{drop, subst, sym}
 use Rattle.std.specs.Prelude.{IsTrue}
 use Rattle.gl_model.specs.Lockset.{Has}
 use Rattle.gl_draws.specs.RowFacts.{set_after}
-use Rattle.gl_core.proofs.Walked.{AfterAll-has, passes_greater}
+use Rattle.gl_draws.proofs.MovedInfos.{AfterAll-has, passes_greater}
 use Rattle.gl_core.proofs.pairs.few_pass.Goals as goal
 
 pub returns-then-passes : goal.returns-then-passes

@@ -3,7 +3,7 @@ use Rattle.std.proofs.lemmas.List.{get_or_default}
 use Rattle.std.specs.Prelude.{Option, ◌↔◌, IsTrue}
 use Rattle.gl_model.specs.declared.row.Info.{Info}
 use Rattle.gl_draws.specs.RowFacts.{read_of, Fails}
-use Rattle.gl_core.specs.Moved.{AreMoved}
+use Rattle.gl_draws.specs.Moved.{AreMoved}
 use Rattle.gl_core.proofs.Kept.{moved_set, later_set, passed_set}
 use Rattle.gl_core.specs.Cost.{ahead}
 use Rattle.gl_core.proofs.Costs.{paid_set}

@@ -2,7 +2,7 @@ use Rattle.std.proofs.Common.{◌≡◌, ℕ, ◌<◌, ◌≤◌, Some}
 use Rattle.gl_model.specs.declared.row.Info.{Info}
 use Rattle.gl_draws.specs.RowFacts.{Fails, read_of}
 use Rattle.gl_core.specs.Cost.{ahead_of_reads, IsPaid}
-use Rattle.gl_core.specs.Moved.{AreMoved}
+use Rattle.gl_draws.specs.Moved.{AreMoved}
 use Rattle.gl_core.proofs.reads.some_fails_on.Given as goal
 
 abbrev pub invariant-loop-t : goal.invariant-loop-t

@@ -3,7 +3,7 @@ use Rattle.std.specs.Prelude.{Option, ◌↔◌, IsTrue}
 use Rattle.gl_model.specs.declared.row.Info.{Info}
 use Rattle.gl_model.specs.declared.row.Row.{Row}
 use Rattle.gl_draws.specs.RowFacts.{read_of, SomeFails, IsWithin}
-use Rattle.gl_core.specs.Moved.{AreMoved, IsRowMoved}
+use Rattle.gl_draws.specs.Moved.{AreMoved, IsRowMoved}
 use Rattle.gl_core.specs.Padding.{row_with}
 use Rattle.gl_core.proofs.Paddings.{read_padded, written_back, row_fields_moved, ReadFails, by_reads}
 use Rattle.gl_core.specs.Cost.{ahead_of_reads, ahead_of_row, IsPaid}

@@ -4,11 +4,11 @@ use Rattle.gl_model.specs.declared.row.Info.{Info}
 use Rattle.gl_model.specs.declared.row.Row.{Row}
 use Rattle.gl_draws.specs.RowFacts.{read_of, SomeFails, IsWithin}
 use Rattle.gl_core.specs.Cost.{ahead_of_reads, ahead_of_row, IsPaid}
-use Rattle.gl_core.specs.Moved.{AreMoved, IsRowMoved}
+use Rattle.gl_draws.specs.Moved.{AreMoved, IsRowMoved}
 use Rattle.gl_core.specs.Padding.{row_with}
 use Rattle.gl_core.proofs.Costs.{paid_reads}
 use Rattle.gl_core.proofs.Paddings.{read_padded, written_back, row_fields_moved, ReadFails, WriteFails, by_reads}
-use Rattle.gl_core.proofs.RowSets.{option_unmoved}
+use Rattle.gl_draws.proofs.MovedRows.{option_unmoved}
 use Rattle.gl_core.proofs.compact.KeptRow.reads_fail.Goals as goal
 
 pub some_fails_on-requires-clause-within : goal.some_fails_on-requires-clause-within

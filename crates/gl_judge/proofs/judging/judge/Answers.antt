@@ -1,0 +1,13 @@
+use Rattle.std.proofs.Common.{refl}
+use Rattle.gl_judge.proofs.RowTests.{judged}
+use Rattle.gl_judge.proofs.judging.judge.Goals as goal
+
+pub returns-then-some_conflict_fails-clause-racy : goal.returns-then-some_conflict_fails-clause-racy
+returns-then-some_conflict_fails-clause-racy c = λ setting h x ds f e s a.
+    let k = judged setting h x ds c.args.row.now c.args.q.now s f a c.some_conflict_fails.result (c.some_conflict_fails.ensures h e) in
+    (λ r. k.0 c.if-some_conflict_fails.true, λ r. refl)
+
+pub returns-else-some_conflict_fails-clause-racy : goal.returns-else-some_conflict_fails-clause-racy
+returns-else-some_conflict_fails-clause-racy c = λ setting h x ds f e s a.
+    let k = judged setting h x ds c.args.row.now c.args.q.now s f a c.some_conflict_fails.result (c.some_conflict_fails.ensures h e) in
+    (λ r. absurd (cc), λ r. let t = k.1 r in let n = c.if-some_conflict_fails.false in absurd (cc))
