@@ -1,148 +1,228 @@
 -- A line more: what the detector keeps follows it, and what it said of it is right.
-use Rattle.std.proofs.Common.{◌≡◌, ℕ, List, [], ◌∷◌, ◌++◌, refl, sym, ◌∙◌, ap, subst, Ok, Err, Some, None, true, false, Bool, eq-eqb, append_assoc}
-use Rattle.std.specs.Prelude.{Result, ◌||◌, IfOk, slice_index_or, if◌then◌else◌}
-use Rattle.std.proofs.lemmas.Bool.{eqb-true}
+use Rattle.std.proofs.Common.{◌≡◌, ℕ, ◌+◌, ◌<◌, ◌≤◌, List, [], ◌∷◌, ◌++◌, length, refl, sym, ◌∙◌, ap, subst, arith, Some, None, true, false, Bool, not}
+use Rattle.std.specs.Prelude.{◌||◌, ◌&&◌, ◌↔◌, Option, Contains, slice_index_or, if◌then◌else◌}
+use Rattle.std.specs.List.{find}
+use Rattle.std.proofs.lemmas.Bool.{ltb-false}
+use native.Mathlib.Decide.{ℕ_discrete}
 use Rattle.gl_model.specs.declared.event.Act.{Act}
-use Rattle.gl_model.specs.declared.event.Act.TheVariants.{Begin, End, Acq, Rel, VRead, VWrite, Fork, Join, Alloc, Print, Input, Fail}
-use Rattle.gl_model.specs.declared.event.Event.TheVariants.{Act as Does}
+use Rattle.gl_model.specs.declared.event.Act.TheVariants.{Join}
+use Rattle.gl_model.specs.declared.event.Event.TheVariants.{Commit as Commits}
 use Rattle.gl_model.specs.declared.event.Stamp.{Stamp}
+use Rattle.gl_model.specs.declared.event.Element.TheVariants.{Thread}
+use Rattle.gl_model.specs.declared.limits.TheConstants.{THREADS, TX_VARIABLES}
 use Rattle.gl_model.specs.declared.row.Item.{Item}
-use Rattle.gl_model.specs.declared.row.Item.TheVariants.{Act as Acts}
+use Rattle.gl_model.specs.declared.row.Item.TheVariants.{Act as Acts, Access, Commit as CommitsOn}
 use Rattle.gl_model.specs.declared.row.Judged.{Judged}
-use Rattle.gl_model.specs.declared.row.Judged.TheVariants.{NoAccess}
-use Rattle.gl_model.specs.declared.row.Row.{Row}
-use Rattle.gl_model.specs.Infos.{AreLeastOwned}
-use Rattle.gl_model.specs.Machine.{State, Free, Owned, trace_setting}
-use Rattle.gl_model.specs.Trace.{Line, AreVerdicts}
-use Rattle.gl_model.specs.TraceSteps.{Step, Hold, item_joins, item_leaves, is_ended, holder, is_held_by}
-use Rattle.gl_draws.specs.Draws.{Draw}
-use Rattle.gl_draws.specs.RowFacts.{RowStands}
-use Rattle.gl_lines.specs.Traced.{Traced, with_event, with_last, after_act as traced_act, after_line, traced}
-use Rattle.gl_lines.specs.TraceStates.{steps_of, AreSound, IsStateOf, monitor_of}
-use Rattle.gl_draws.proofs.RowGrowth.{row_grows}
-use Rattle.gl_lines.proofs.TraceLawProofs.{sound_front}
-use Rattle.gl_lines.proofs.TraceMachine.{or_false, ended_push, holder_push}
+use Rattle.gl_model.specs.declared.row.Judged.TheVariants.{NoAccess, Performed, Raised}
+use Rattle.gl_model.specs.Machine.{State, Running, trace_setting, with_at}
+use Rattle.gl_model.specs.Records.{Writes}
+use Rattle.gl_model.specs.Rising.{Rises, with_all}
+use Rattle.gl_model.specs.Trace.{Line, AreVerdicts, is_in}
+use Rattle.gl_model.specs.TraceSteps.{item_joins, act_joins, is_ended, is_running, is_too_wide, item_fault}
+use Rattle.gl_draws.specs.Draws.{Entered, Looked, Draw, draw}
+use Rattle.gl_draws.specs.NextRaces.{IsRacyNext}
+use Rattle.gl_lines.specs.TraceLaws.{IsJudgedBy}
+use Rattle.gl_lines.specs.Traced.{Traced, block_of, touches, with_look, with_own, plain_entry, commit_entry, refused_entry, entered, after_act as traced_act, after_item, after_line, traced}
+use Rattle.gl_lines.specs.TraceStates.{steps_of, AreSound}
+use Rattle.gl_draws.specs.Verdicts.{DrawsHold}
+use Rattle.gl_draws.proofs.EntryKinds.{is_in-contains, contains-is_in}
+use Rattle.gl_lines.proofs.LineSets.{is_in-touches, its_writes}
+use Rattle.gl_lines.proofs.RowNotes.{act_more}
+use Rattle.gl_lines.proofs.TraceEvents.{IsRecorded}
+use Rattle.gl_lines.proofs.TraceLawProofs.{sound_front, last_clean, last_runs, hold_law}
+use Rattle.gl_lines.proofs.TraceMachine.{or_false, ended_push, clean_parts, runs, with_at-here, with_at-else}
+use Rattle.gl_lines.proofs.TracePlain.{block_here}
 use Rattle.gl_lines.proofs.TraceSound.{traced_push, steps_push, sound_traced}
-use Rattle.gl_lines.proofs.VerdictLaw.{grow_law}
-use Rattle.gl_core.specs.declared.threads.Threads.{Threads}
-use Rattle.gl_core.specs.Rows.{untouched, row_of, asked_plain, with_act, joins_ended, after_act}
-use Rattle.gl_core.specs.Tracks.{Tracks, AreLeastHeld}
+use Rattle.gl_lines.proofs.VerdictLaw.{entry_writes, races_law}
+use Rattle.gl_clocks.specs.Clocks.{Clocks, clocks, taken}
+use Rattle.gl_clocks.proofs.Own.{own_law}
+use Rattle.gl_core.specs.Marks.{Marks, latest_fails}
+use Rattle.gl_core.specs.declared.tables.Tables.{Tables}
 use Rattle.gl_core.specs.Follows.{AreFollowed}
-
-pub if_ok_map : {A B : Type 0} (r : Result A B) (P Q : A → Type 0) → IfOk r P → ((a : A) → P a → Q a) → IfOk r Q
-if_ok_map (Ok a) P Q k f = f a k
-if_ok_map (Err e) P Q k f = tt
+use Rattle.gl_core.specs.Latests.{latest_of, part_fails, noted, plain_epoch, PlainDone}
+use Rattle.gl_core.specs.Lines.{commit_epoch, CommitDone, ClocksDone}
+use Rattle.gl_core.specs.Stands.{IsEpochOf, LatestStands}
+use Rattle.gl_core.specs.TablesView.{clocks_in, AreClocksOf}
+use Rattle.gl_core.proofs.FindFirst.{find_none, find_first}
+use Rattle.gl_core.proofs.Grown.{stays, noted_stands}
+use Rattle.gl_core.proofs.Telling.{tell_law}
 
 abbrev pub line : ℕ → Item → Judged → Line
 line t item judged = record { thread = t; item = item; judged = judged }
 
-abbrev pub Stepped : ℕ → Item → Judged → List Stamp → List Row → Threads → List Stamp → List Row → Threads → Type 0
-Stepped t item judged h kept seen h' kept' seen' =
-    (lines : List Line) → AreSound (lines ++ line t item judged ∷ []) → AreVerdicts lines → AreFollowed lines h kept seen →
-    AreVerdicts (lines ++ line t item judged ∷ []) × AreFollowed (lines ++ line t item judged ∷ []) h' kept' seen'
-
--- the monitors that are held are those that are owned
-held_parts : (t : ℕ) (hold : Hold) → is_held_by t hold ≡ true → (d : ℕ) × (monitor_of hold ≡ Owned t d)
-held_parts t None e = absurd (cc)
-held_parts t (Some (owner, depth)) e = (depth, ap (λ (o : ℕ). Owned o depth) (sym (eqb-true t owner e)))
-
-owner_is : (owner depth t d : ℕ) → Owned owner depth ≡ Owned t d → t ≡ owner
-owner_is owner depth t d e = cc
-
-held_back : (t : ℕ) (hold : Hold) → (d : ℕ) × (monitor_of hold ≡ Owned t d) → is_held_by t hold ≡ true
-held_back t None w = absurd (let k : Free ≡ Owned t w.0 = w.1 in cc)
-held_back t (Some (owner, depth)) w = eq-eqb t owner (owner_is owner depth t w.0 w.1)
-
-pub owned_held : (steps : List Step) (now : State) (seen : Threads) (t : ℕ) (held : List ℕ) → Tracks steps seen → IsStateOf steps now → AreLeastHeld (λ m. slice_index_or seen.holders m None) t held → AreLeastOwned now t held
-owned_held steps now seen t held k st l = record {
-  rising = l.rising;
-  owned = λ o c. let p = held_parts t (slice_index_or seen.holders o None) (l.owned o c) in (p.0, st.monitors o ∙ ap monitor_of (sym (k.holders o)) ∙ p.1);
-  at_most_four = l.few;
-  least = λ o w. l.least o (held_back t (slice_index_or seen.holders o None) (w.0, ap monitor_of (k.holders o) ∙ sym (st.monitors o) ∙ w.1));
-}
-
-pub tracks_same : (steps : List Step) (t : ℕ) (item : Item) (seen : Threads) → Tracks steps seen → ((u : ℕ) → item_joins u item ≡ false) → ((m : ℕ) (hold : Hold) → item_leaves m t item hold ≡ hold) → Tracks (steps ++ (t, item) ∷ []) seen
-tracks_same steps t item seen k joins leaves = record {
-  ended = λ u. k.ended u ∙ sym (ended_push steps (t, item) u ∙ ap (λ b. is_ended steps u || b) (joins u) ∙ or_false (is_ended steps u));
-  holders = λ m. k.holders m ∙ sym (holder_push steps (t, item) m ∙ leaves m (holder m steps));
-}
+abbrev pub Stepped : ℕ → Item → Judged → Tables → List Marks → List Bool → Tables → List Marks → List Bool → Type 0
+Stepped t item judged T kept over T' kept' over' =
+    (lines : List Line) → AreSound (lines ++ line t item judged ∷ []) → AreVerdicts lines → AreFollowed lines T kept over →
+    AreVerdicts (lines ++ line t item judged ∷ []) × AreFollowed (lines ++ line t item judged ∷ []) T' kept' over'
 
 -- one line more
-pub followed_push : (lines : List Line) (l : Line) (h : List Stamp) (kept : List Row) (seen : Threads) → h ≡ (after_line l (traced lines)).history → ((y : ℕ) → RowStands trace_setting (after_line l (traced lines)).history y ((after_line l (traced lines)).draws y) (row_of kept y)) → Tracks (steps_of lines ++ (l.thread, l.item) ∷ []) seen → AreFollowed (lines ++ l ∷ []) h kept seen
-followed_push lines l h kept seen e rows th = record {
-  events = e ∙ ap (λ (s : Traced). s.history) (sym (traced_push lines l));
-  rows = λ y. subst (λ (s : Traced). RowStands trace_setting s.history y (s.draws y) (row_of kept y)) (sym (traced_push lines l)) (rows y);
-  threads = subst (λ ss. Tracks ss seen) (sym (steps_push lines l)) th;
+followed_push : (lines : List Line) (l : Line) (T : Tables) (kept : List Marks) (over : List Bool) → AreClocksOf (after_line l (traced lines)).history T → ((y : ℕ) → LatestStands y ((after_line l (traced lines)).draws y) (latest_of kept y)) → ((u : ℕ) → slice_index_or over u false ≡ (is_ended (steps_of lines) u || item_joins u l.item)) → AreFollowed (lines ++ l ∷ []) T kept over
+followed_push lines l T kept over clocks stands ended = record {
+  clocks = subst (λ (s : Traced). AreClocksOf s.history T) (sym (traced_push lines l)) clocks;
+  latests = λ y. subst (λ (s : Traced). LatestStands y (s.draws y) (latest_of kept y)) (sym (traced_push lines l)) (stands y);
+  ended = λ u. ended u ∙ sym (ended_push (steps_of lines) (l.thread, l.item) u) ∙ ap (λ ss. is_ended ss u) (sym (steps_push lines l));
 }
 
--- an act
-act_history : (t : ℕ) (act : Act) (s : Traced) (steps : List Step) → ((u : ℕ) → s.tracing.ended u ≡ is_ended steps u) → (traced_act t act s).history ≡ after_act (joins_ended steps act) s.history t act
-act_history t (Begin f) s steps e = refl
-act_history t End s steps e = refl
-act_history t (Acq o) s steps e = refl
-act_history t (Rel o) s steps e = refl
-act_history t (VRead v) s steps e = refl
-act_history t (VWrite v) s steps e = refl
-act_history t (Fork u f) s steps e = refl
-act_history t (Join u) s steps e = here (s.tracing.ended u) ∙ ap (λ b. if b then with_act s.history t (Join u) else with_act (with_act s.history u End) t (Join u)) (e u)
-  where
-    here : (b : Bool) → (if b then with_event t (Join u) s else with_event t (Join u) (with_last u s)).history ≡ (if b then with_act s.history t (Join u) else with_act (with_act s.history u End) t (Join u))
-    here true = refl
-    here false = refl
-act_history t (Alloc c) s steps e = refl
-act_history t Print s steps e = refl
-act_history t Input s steps e = refl
-act_history t (Fail k) s steps e = refl
-
-act_draws : (t : ℕ) (act : Act) (s : Traced) → (traced_act t act s).draws ≡ s.draws
-act_draws t (Begin f) s = refl
-act_draws t End s = refl
-act_draws t (Acq o) s = refl
-act_draws t (Rel o) s = refl
-act_draws t (VRead v) s = refl
-act_draws t (VWrite v) s = refl
-act_draws t (Fork u f) s = refl
-act_draws t (Join u) s = here (s.tracing.ended u)
-  where
-    here : (b : Bool) → (if b then with_event t (Join u) s else with_event t (Join u) (with_last u s)).draws ≡ s.draws
-    here true = refl
-    here false = refl
-act_draws t (Alloc c) s = refl
-act_draws t Print s = refl
-act_draws t Input s = refl
-act_draws t (Fail k) s = refl
-
-two_acts : (h : List Stamp) (t u : ℕ) (a b : Act) → (more : List Stamp) × (with_act (with_act h t a) u b ≡ h ++ more)
-two_acts h t u a b = (record { thread = t; event = Does a } ∷ (record { thread = u; event = Does b } ∷ []), append_assoc h (record { thread = t; event = Does a } ∷ []) (record { thread = u; event = Does b } ∷ []))
-
-pub act_more : (over : Bool) (h : List Stamp) (t : ℕ) (act : Act) → (more : List Stamp) × (after_act over h t act ≡ h ++ more)
-act_more over h t (Begin f) = (record { thread = t; event = Does (Begin f) } ∷ [], refl)
-act_more over h t End = (record { thread = t; event = Does End } ∷ [], refl)
-act_more over h t (Acq o) = (record { thread = t; event = Does (Acq o) } ∷ [], refl)
-act_more over h t (Rel o) = (record { thread = t; event = Does (Rel o) } ∷ [], refl)
-act_more over h t (VRead v) = (record { thread = t; event = Does (VRead v) } ∷ [], refl)
-act_more over h t (VWrite v) = (record { thread = t; event = Does (VWrite v) } ∷ [], refl)
-act_more over h t (Fork u f) = two_acts h t u (Fork u f) (Begin f)
-act_more true h t (Join u) = (record { thread = t; event = Does (Join u) } ∷ [], refl)
-act_more false h t (Join u) = two_acts h u t End (Join u)
-act_more over h t (Alloc c) = (record { thread = t; event = Does (Alloc c) } ∷ [], refl)
-act_more over h t Print = (record { thread = t; event = Does Print } ∷ [], refl)
-act_more over h t Input = (record { thread = t; event = Does Input } ∷ [], refl)
-act_more over h t (Fail k) = (record { thread = t; event = Does (Fail k) } ∷ [], refl)
-
-pub stepped_act : (t : ℕ) (act : Act) (h h' : List Stamp) (kept kept' : List Row) (seen seen' : Threads) → kept' ≡ kept → ((steps : List Step) → Tracks steps seen → h' ≡ after_act (joins_ended steps act) h t act) → ((steps : List Step) → Tracks steps seen → Tracks (steps ++ (t, Acts act) ∷ []) seen') → Stepped t (Acts act) NoAccess h kept seen h' kept' seen'
-stepped_act t act h h' kept kept' seen seen' same events threads lines sound right f =
+pub stepped_act : (t : ℕ) (act : Act) (T T' : Tables) (kept kept' : List Marks) (over over' : List Bool) (joined : Bool) → kept' ≡ kept → ((u : ℕ) → act ≡ Join u → joined ≡ slice_index_or over u false) →
+    ((s : Traced) → AreClocksOf s.history T → ((u : ℕ) → act ≡ Join u → joined ≡ s.tracing.ended u) → AreClocksOf (traced_act t act s).history T') → ((u : ℕ) → slice_index_or over' u false ≡ (slice_index_or over u false || act_joins u act)) →
+    Stepped t (Acts act) NoAccess T kept over T' kept' over'
+stepped_act t act T T' kept kept' over over' joined same joins events ends lines sound right f =
     let l = line t (Acts act) NoAccess in
     let s = traced lines in
     let k = sound_traced lines (sound_front lines l sound) in
-    let steps = steps_of lines in
-    let eh : h' ≡ after_act (joins_ended steps act) s.history t act = events steps f.threads ∙ ap (λ z. after_act (joins_ended steps act) z t act) f.events in
-    let ah = act_history t act s steps k.1.ended in
-    let m = act_more (joins_ended steps act) s.history t act in
-    let grown : (y : ℕ) → RowStands trace_setting (traced_act t act s).history y ((traced_act t act s).draws y) (row_of kept' y) = (λ y.
-    subst (λ (z : List Stamp). RowStands trace_setting z y ((traced_act t act s).draws y) (row_of kept' y)) (sym (ah ∙ m.1))
-    (subst (λ (ds : ℕ → List Draw). RowStands trace_setting (s.history ++ m.0) y (ds y) (row_of kept' y)) (sym (act_draws t act s))
-    (subst (λ (rows : List Row). RowStands trace_setting (s.history ++ m.0) y (s.draws y) (row_of rows y)) (sym same) (row_grows trace_setting s.history m.0 y (s.draws y) (row_of kept y) (f.rows y))))) in (
-      grow_law lines l sound right (λ y. untouched) (λ y. asked_plain t false []) (λ y a. absurd a) (λ y a. absurd a) refl,
-      followed_push lines l h' kept' seen' (eh ∙ sym ah) grown (threads steps f.threads),
+    let e : AreClocksOf (traced_act t act s).history T' = events s f.clocks (λ u is. joins u is ∙ f.ended u ∙ sym (k.1.ended u)) in
+    let stands : (y : ℕ) → LatestStands y ((traced_act t act s).draws y) (latest_of kept' y) = (λ y. subst (λ (ds : ℕ → List Draw). LatestStands y (ds y) (latest_of kept' y)) (sym (act_more t act s).2) (subst (λ (ls : List Marks). LatestStands y (s.draws y) (latest_of ls y)) (sym same) (f.latests y))) in
+    (races_law lines l sound right refl, followed_push lines l T' kept' over' e stands (λ u. ends u ∙ ap (λ b. b || act_joins u act) (f.ended u)))
+
+and_not_true : (b : Bool) → (b && not true) ≡ false
+and_not_true true = refl
+and_not_true false = refl
+
+and_not_false : (b : Bool) → (b && not false) ≡ b
+and_not_false true = refl
+and_not_false false = refl
+
+not_first : (a b : Bool) → (if a then true else b) ≡ false → a ≡ false
+not_first true b e = absurd (cc)
+not_first false b e = refl
+
+-- the clocks of the tables are those of the events
+same_clocks : (h : List Stamp) (T : Tables) → AreClocksOf h T → clocks_in T ≡ clocks h
+same_clocks h T are = λ i y u. are.clocks y u i
+
+module _ (s : Traced) (now : State) (r : IsRecorded s now) (t : ℕ) (near : t < THREADS) (running : now.threads t ≡ Running) (all : (y : ℕ) → DrawsHold s.history y (s.draws y)) (T : Tables) (are : AreClocksOf s.history T) (kept kept' : List Marks) (stands : (y : ℕ) → LatestStands y (s.draws y) (latest_of kept y)) where
+  -- what the thread knows of itself
+  own_is : clocks_in T (Thread t) t ≡ block_of t s + 2
+  own_is = let b = block_here s now r t running in are.clocks (Thread t) t ∙ own_law s.history t (block_of t s) b.event b.here b.own b.upto
+
+  -- a plain access of x
+  module _ (x : ℕ) (write : Bool) (others : (y : ℕ) → (y ≡ x → ⊥) → latest_of kept' y ≡ latest_of kept y) where
+    abbrev D : Bool → Draw
+    D raised = draw t (block_of t s) (Entered (plain_entry x write raised s))
+
+    each : (raised : Bool) → LatestStands x (D raised ∷ s.draws x) (latest_of kept' x) → (y : ℕ) → LatestStands y (with_at s.draws x (D raised ∷ s.draws x) y) (latest_of kept' y)
+    each raised here y = elim (ℕ_discrete y x) [
+      | yes e ↦ subst (λ z. LatestStands z (with_at s.draws x (D raised ∷ s.draws x) z) (latest_of kept' z)) (sym e) (subst (λ ds. LatestStands x ds (latest_of kept' x)) (sym (with_at-here s.draws x (D raised ∷ s.draws x))) here)
+      | no o ↦ subst (λ ds. LatestStands y ds (latest_of kept' y)) (sym (with_at-else s.draws x y (D raised ∷ s.draws x) o)) (subst (λ l. LatestStands y (s.draws y) l) (sym (others y o)) (stands y))
+    ]
+
+    epoch : IsEpochOf (plain_epoch t (clocks_in T (Thread t) t)) (D false)
+    epoch = record { thread = refl; mark = (let o = own_is in omega arith); commit = refl }
+
+    pub plain_stands : (judged : Judged) → PlainDone (clocks_in T (Thread t)) (latest_of kept x) t x write judged (latest_of kept' x) → (y : ℕ) → LatestStands y ((after_item t (Access x write) judged s).draws y) (latest_of kept' y)
+    plain_stands NoAccess d = absurd d
+    plain_stands Performed d = each false (subst (LatestStands x (D false ∷ s.draws x)) (sym d.1) (noted_stands x (s.draws x) (latest_of kept x) (stands x) (D false) near (plain_epoch t (clocks_in T (Thread t) t)) epoch write (and_not_false write) (and_not_false (not write))))
+    plain_stands (Raised var) d = each true (subst (LatestStands x (D true ∷ s.draws x)) (sym d.2) (stays x (s.draws x) (latest_of kept x) (stands x) (D true) (and_not_true write) (and_not_true (not write))))
+
+    tells : (raised : Bool) → (latest_fails (clocks_in T (Thread t)) false write (latest_of kept x) ≡ true) ↔ IsRacyNext s.history x (s.draws x) t None (plain_entry x write raised s)
+    tells raised = subst (λ (C : Clocks). (latest_fails (C (Thread t)) false write (latest_of kept x) ≡ true) ↔ IsRacyNext s.history x (s.draws x) t None (plain_entry x write raised s)) (sym (same_clocks s.history T are))
+        (tell_law trace_setting s.history now r.allowed t running x (s.draws x) (all x) (latest_of kept x) (stands x) None write (plain_entry x write raised s) tt (λ e. (refl, e), λ w. w.1))
+
+    pub plain_judged : (judged : Judged) → PlainDone (clocks_in T (Thread t)) (latest_of kept x) t x write judged (latest_of kept' x) → IsJudgedBy (λ y. IsRacyNext s.history y (s.draws y) t None (entered (Access x write) judged s)) (Access x write) judged
+    plain_judged NoAccess d = d
+    plain_judged Performed d = λ y a racy.
+        let g = (tells false).1 (subst (λ z. IsRacyNext s.history z (s.draws z) t None (plain_entry x write false s)) (sym a) racy) in
+        let e = d.0 in cc
+    plain_judged (Raised var) d = (
+      sym d.0,
+      subst (λ z. IsRacyNext s.history z (s.draws z) t None (plain_entry x write true s)) (sym d.0) ((tells true).0 d.1),
+      λ y less a racy. let e = d.0 in omega arith,
+    )
+
+  -- a commit
+  module _ (reads writes : List ℕ) where
+    abbrev C : Draw
+    C = draw t s.tracing.next (Entered (commit_entry reads writes s))
+
+    abbrev looked : ℕ → List Draw
+    looked y = with_look (is_in y reads) t (block_of t s) (s.draws y)
+
+    look_stands : (y : ℕ) (b : Bool) → LatestStands y (with_look b t (block_of t s) (s.draws y)) (latest_of kept y)
+    look_stands y true = stays y (s.draws y) (latest_of kept y) (stands y) (draw t (block_of t s) (Looked (Rattle.std.specs.Prelude.pos 0))) refl refl
+    look_stands y false = stands y
+
+    next_is : T.next ≡ s.tracing.next
+    next_is = are.next ∙ sym r.next
+
+    commit_is : IsEpochOf (commit_epoch t T.next) C
+    commit_is = record { thread = refl; mark = ap (λ n. n + 1) next_is; commit = refl }
+
+    touched : (y : ℕ) → LatestStands y (C ∷ looked y) (noted (is_in y writes) (commit_epoch t T.next) (latest_of kept y))
+    touched y = noted_stands y (looked y) (latest_of kept y) (look_stands y (is_in y reads)) C near (commit_epoch t T.next) commit_is (is_in y writes) (ap (is_in y) (its_writes reads writes s.tracing.numbers)) (ap (λ ws. not (is_in y ws)) (its_writes reads writes s.tracing.numbers))
+
+    by_touch : (y : ℕ) (b : Bool) → touches reads writes y ≡ b → LatestStands y (with_own b t s.tracing.next (commit_entry reads writes s) (looked y)) (if b then noted (is_in y writes) (commit_epoch t T.next) (latest_of kept y) else latest_of kept y)
+    by_touch y true e = touched y
+    by_touch y false e = look_stands y (is_in y reads)
+
+    refused : (var y : ℕ) (b : Bool) → LatestStands y (with_own b t (block_of t s) (refused_entry reads writes var s) (looked y)) (latest_of kept y)
+    refused var y true = stays y (looked y) (latest_of kept y) (look_stands y (is_in y reads)) (draw t (block_of t s) (Entered (refused_entry reads writes var s))) refl refl
+    refused var y false = look_stands y (is_in y reads)
+
+    abbrev Done : Judged → Type 0
+    Done judged = CommitDone (taken (clocks_in T) (record { thread = t; event = Commits (with_all writes reads) })) kept t T.next (with_all writes reads) writes judged kept'
+
+    pub commit_stands : (judged : Judged) → CommitDone (taken (clocks_in T) (record { thread = t; event = Commits (with_all writes reads) })) kept t T.next (with_all writes reads) writes judged kept' → (y : ℕ) → LatestStands y ((after_item t (CommitsOn reads writes) judged s).draws y) (latest_of kept' y)
+    commit_stands NoAccess d y = absurd d
+    commit_stands Performed d y =
+        let same : is_in y (with_all writes reads) ≡ touches reads writes y = is_in-touches reads writes y in
+        subst (LatestStands y (with_own (touches reads writes y) t s.tracing.next (commit_entry reads writes s) (looked y))) (sym (d.1 y ∙ ap (λ b. if b then noted (is_in y writes) (commit_epoch t T.next) (latest_of kept y) else latest_of kept y) same)) (by_touch y (touches reads writes y) refl)
+    commit_stands (Raised var) d y = subst (λ ls. LatestStands y (with_own (touches reads writes y) t (block_of t s) (refused_entry reads writes var s) (looked y)) (latest_of ls y)) (sym d.1) (refused var y (touches reads writes y))
+
+    part_writes : (judged : Judged) (y : ℕ) → Contains (with_all writes reads) y → (is_in y writes ≡ true) ↔ Writes (entered (CommitsOn reads writes) judged s) y
+    part_writes judged y c =
+        let w = entry_writes s now r t running (CommitsOn reads writes) judged y c in
+        (λ i. w.1 (is_in-contains y writes i), λ x. contains-is_in y writes (w.0 x))
+
+    abbrev fails_on : ℕ → Bool
+    fails_on = part_fails (taken (clocks_in T) (record { thread = t; event = Commits (with_all writes reads) })) writes kept
+
+    tells_part : (judged : Judged) (y : ℕ) → Contains (with_all writes reads) y → (fails_on y ≡ true) ↔ IsRacyNext s.history y (s.draws y) t (Some (with_all writes reads)) (entered (CommitsOn reads writes) judged s)
+    tells_part judged y c = subst (λ (D : Clocks). (part_fails (taken D (record { thread = t; event = Commits (with_all writes reads) })) writes kept y ≡ true) ↔ IsRacyNext s.history y (s.draws y) t (Some (with_all writes reads)) (entered (CommitsOn reads writes) judged s)) (sym (same_clocks s.history T are))
+        (tell_law trace_setting s.history now r.allowed t running y (s.draws y) (all y) (latest_of kept y) (stands y) (Some (with_all writes reads)) (is_in y writes) (entered (CommitsOn reads writes) judged s) c (part_writes judged y c))
+
+    pub commit_judged : (judged : Judged) → Rises (with_all writes reads) → CommitDone (taken (clocks_in T) (record { thread = t; event = Commits (with_all writes reads) })) kept t T.next (with_all writes reads) writes judged kept' → IsJudgedBy (λ y. IsRacyNext s.history y (s.draws y) t (Some (with_all writes reads)) (entered (CommitsOn reads writes) judged s)) (CommitsOn reads writes) judged
+    commit_judged NoAccess rising d = d
+    commit_judged Performed rising d = λ y c racy. find_none fails_on (with_all writes reads) d.0 y (contains-is_in y (with_all writes reads) c) ((tells_part Performed y c).1 racy)
+    commit_judged (Raised var) rising d =
+        let first = find_first fails_on (with_all writes reads) var rising d.0 in
+        let c = is_in-contains var (with_all writes reads) first.0 in
+        (c, (tells_part (Raised var) var c).0 first.1, λ y less k racy. first.2 y less (contains-is_in y (with_all writes reads) k) ((tells_part (Raised var) y k).1 racy))
+
+    pub commit_clocks : (T' : Tables) (judged : Judged) → ClocksDone T t (with_all writes reads) judged T' → AreClocksOf (after_item t (CommitsOn reads writes) judged s).history T'
+    commit_clocks T' NoAccess d = absurd d
+    commit_clocks T' Performed d = d s.history are
+    commit_clocks T' (Raised var) d = subst (AreClocksOf s.history) (sym d) are
+
+plain_clocks : (t x : ℕ) (write : Bool) (judged : Judged) (s : Traced) (T : Tables) → AreClocksOf s.history T → AreClocksOf (after_item t (Access x write) judged s).history T
+plain_clocks t x write NoAccess s T are = are
+plain_clocks t x write Performed s T are = are
+plain_clocks t x write (Raised var) s T are = are
+
+pub stepped_plain : (t x : ℕ) (write : Bool) (judged : Judged) (T T' : Tables) (kept kept' : List Marks) (over over' : List Bool) → t < THREADS → T' ≡ T → over' ≡ over → ((y : ℕ) → (y ≡ x → ⊥) → latest_of kept' y ≡ latest_of kept y) →
+    PlainDone (clocks_in T (Thread t)) (latest_of kept x) t x write judged (latest_of kept' x) → Stepped t (Access x write) judged T kept over T' kept' over'
+stepped_plain t x write judged T T' kept kept' over over' near same_tables same_over others done lines sound right f =
+    let l = line t (Access x write) judged in
+    let s = traced lines in
+    let k = sound_traced lines (sound_front lines l sound) in
+    let running = runs (steps_of lines) k.0 k.1.state t (last_runs lines l sound) in
+    let all = hold_law lines (sound_front lines l sound) right in (
+      races_law lines l sound right (plain_judged s k.0 k.1.recorded t near running all T f.clocks kept kept' f.latests x write others judged done),
+      followed_push lines l T' kept' over' (subst (AreClocksOf (after_item t (Access x write) judged s).history) (sym same_tables) (plain_clocks t x write judged s T f.clocks))
+          (plain_stands s k.0 k.1.recorded t near running all T f.clocks kept kept' f.latests x write others judged done) (λ u. ap (λ bs. slice_index_or bs u false) same_over ∙ f.ended u ∙ sym (or_false (is_ended (steps_of lines) u))),
+    )
+
+pub stepped_commit : (t : ℕ) (reads writes : List ℕ) (judged : Judged) (T T' : Tables) (kept kept' : List Marks) (over over' : List Bool) → t < THREADS → over' ≡ over →
+    (length (with_all writes reads) ≤ TX_VARIABLES → Rises (with_all writes reads) × CommitDone (taken (clocks_in T) (record { thread = t; event = Commits (with_all writes reads) })) kept t T.next (with_all writes reads) writes judged kept' × ClocksDone T t (with_all writes reads) judged T') →
+    Stepped t (CommitsOn reads writes) judged T kept over T' kept' over'
+stepped_commit t reads writes judged T T' kept kept' over over' near same_over done lines sound right f =
+    let l = line t (CommitsOn reads writes) judged in
+    let s = traced lines in
+    let k = sound_traced lines (sound_front lines l sound) in
+    let running = runs (steps_of lines) k.0 k.1.state t (last_runs lines l sound) in
+    let all = hold_law lines (sound_front lines l sound) right in
+    let narrow = (clean_parts (is_too_wide (CommitsOn reads writes)) (is_running (steps_of lines) t) (item_fault (steps_of lines) t (CommitsOn reads writes)) (last_clean lines l sound)).0 in
+    let d = done (ltb-false TX_VARIABLES (length (with_all writes reads)) narrow) in (
+      races_law lines l sound right (commit_judged s k.0 k.1.recorded t near running all T f.clocks kept kept' f.latests reads writes judged d.0 d.1),
+      followed_push lines l T' kept' over' (commit_clocks s k.0 k.1.recorded t near running all T f.clocks kept kept' f.latests reads writes T' judged d.2)
+          (commit_stands s k.0 k.1.recorded t near running all T f.clocks kept kept' f.latests reads writes judged d.1) (λ u. ap (λ bs. slice_index_or bs u false) same_over ∙ f.ended u ∙ sym (or_false (is_ended (steps_of lines) u))),
     )

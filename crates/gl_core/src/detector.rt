@@ -1,190 +1,213 @@
-ghost use Rattle.std.specs.Prelude.{◌≡◌};
+ghost use Rattle.std.specs.Prelude.{◌≡◌, ℕ, ◌*◌, if◌then◌else◌, false, ◌||◌, length, slice_index_or};
+ghost use Rattle.gl_model.specs.declared.limits.TheConstants.{THREADS};
+ghost use Rattle.gl_model.specs.declared.event.Act.TheVariants.{Join};
+ghost use Rattle.gl_model.specs.Elements.{IsActInRange};
+ghost use Rattle.gl_model.specs.TraceSteps.{act_joins};
 
-use crate::compact::KeptRow;
-use crate::events::Events;
-use crate::known::{Known, judge_access};
-use crate::lines::{all_of, first_events, judge_commit, make_all_rows, make_rows, plain, push_act};
-use crate::positions::Positions;
-use crate::reads::Spares;
-use crate::threads::Threads;
-use gl_model::{Act, Item, Judged, VARIABLES, VarSet};
+use crate::commits::{first_race, make_latest, note_all};
+use crate::latest::Latest;
+use crate::tables::Tables;
+use gl_model::{Act, Item, Judged, THREADS, VARIABLES, VarSet};
 use gl_shortcut::Cuts;
 use std::alloc::{AllocError, Global};
 
-/// Judges the lines of a trace, one after another.
+/// Judges the lines of a trace, one after another, by vector clocks. It keeps no list of events and no set.
 #[derive(Drop)]
 pub struct Detector {
-    events: Events,
-    rows: Vec<KeptRow>,
-    threads: Threads,
-    known: Known,
-    positions: Positions,
-    spares: Spares,
-    walked: u64,
+    tables: Tables,
+    latests: Vec<Latest>,
+    ended: [bool; THREADS as usize],
+    ticks: u64,
+}
+
+// Whether the act joins a thread that has ended.
+fn joins_ended(ended: &[bool; THREADS as usize], act: Act) -> bool
+    requires { IsActInRange act }
+    ensures { (u : ℕ) → act ≡ Join u → result ≡ slice_index_or ended.now u false }
+{
+    match act {
+        Act::Join(other) => ended[other as usize],
+        Act::Begin(_)
+        | Act::End
+        | Act::Acq(_)
+        | Act::Rel(_)
+        | Act::VRead(_)
+        | Act::VWrite(_)
+        | Act::Fork { .. }
+        | Act::Alloc(_)
+        | Act::Print
+        | Act::Input
+        | Act::Fail(_) => false,
+    }
+}
+
+// Who is joined by the act has ended.
+fn end_joined(ended: &mut [bool; THREADS as usize], act: Act)
+    requires { IsActInRange act }
+    ensures { (u : ℕ) → slice_index_or ended.new u false ≡ (slice_index_or ended.old u false || act_joins u act) }
+{
+    match act {
+        Act::Join(other) => ended[other as usize] = true,
+        Act::Begin(_)
+        | Act::End
+        | Act::Acq(_)
+        | Act::Rel(_)
+        | Act::VRead(_)
+        | Act::VWrite(_)
+        | Act::Fork { .. }
+        | Act::Alloc(_)
+        | Act::Print
+        | Act::Input
+        | Act::Fail(_) => {}
+    }
+}
+
+// How many ticks of what is kept of a variable a plain access looks at, at most.
+fn ticks_of_access(write: bool) -> u64
+    ensures { result ≡ (if write then THREADS else 1) }
+{
+    if write { THREADS as u64 } else { 1 }
+}
+
+// How many ticks of what is kept of its variables a commit looks at, at most.
+fn ticks_of_parts(variables: &VarSet) -> u64
+    ensures { result ≡ THREADS * length variables.now }
+{
+    THREADS as u64 * variables.len() as u64
 }
 
 impl Detector {
-    ghost use Rattle.std.specs.Prelude.{◌≡◌, ◌<◌, ◌≤◌, ◌*◌, ◌∷◌, ◌++◌, [], ℕ, List, length, None, OnOk, OnErr, IfOk, slice_index_or};
+    ghost use Rattle.std.specs.Prelude.{◌≡◌, ◌+◌, ◌*◌, ◌^◌, ◌<◌, ◌≤◌, ℕ, [], length, IfOk, OnErr, IsErr};
     ghost use Rattle.gl_model.specs.declared.limits.TheConstants.{THREADS, VARIABLES, TX_VARIABLES};
-    ghost use Rattle.gl_model.specs.declared.row.Item.TheVariants.{Act as Acts, Access as Accessed, Commit as Commits};
+    ghost use Rattle.gl_model.specs.declared.event.Event.TheVariants.{Commit as Commits};
+    ghost use Rattle.gl_model.specs.declared.event.Element.TheVariants.{Thread};
+    ghost use Rattle.gl_model.specs.declared.row.Item.TheVariants.{Act as Acts, Access as Accesses, Commit as CommitsOn};
+    ghost use Rattle.gl_model.specs.declared.row.Judged.TheVariants.{NoAccess};
     ghost use Rattle.gl_model.specs.Elements.{IsActInRange};
-    ghost use Rattle.gl_model.specs.Rising.{with_all};
-    ghost use Rattle.gl_model.specs.TraceSteps.{Step, IsStep};
-    ghost use Rattle.gl_core.specs.Tracks.{Tracks, AreLeastHeld};
-    ghost use Rattle.gl_core.specs.Rows.{row_of, asked_plain, asked_part, PlainDone, CommitDone, joins_ended, after_act};
-    ghost use Rattle.gl_model.specs.Trace.{Line};
-    ghost use Rattle.gl_core.specs.Cost.{ahead_of_rows, made_by, infos_made, IsPaid};
-    ghost use Rattle.gl_core.specs.Follows.{Follows, IsReady, IsAsBefore, IsStepped, IsWithinCost, KeepsCost};
+    ghost use Rattle.gl_model.specs.Rising.{Rises, with_all};
+    ghost use Rattle.gl_model.specs.TraceSteps.{IsStep};
+    ghost use Rattle.gl_clocks.specs.Clocks.{taken};
+    ghost use Rattle.gl_core.specs.Latests.{latest_of, PlainDone};
+    ghost use Rattle.gl_core.specs.Lines.{CommitDone, ClocksDone};
+    ghost use Rattle.gl_core.specs.TablesView.{clocks_in};
+    ghost use Rattle.gl_core.specs.Follows.{Follows, IsReady, IsStepped, most_ticks};
 
     /// A detector before the first line: thread 0 has begun.
     pub fn new(alloc: Global) -> Result<Detector, AllocError>
         ensures ready { IfOk result IsReady }
         ensures follows { IfOk result (Follows []) }
-        ensures cost { IfOk result (IsWithinCost []) }
     {
-        let events = first_events(alloc)?;
-        let rows = Vec::with_capacity(alloc, VARIABLES as usize)?;
-        let mut positions = Positions::new(alloc)?;
-        positions.take(&events, 0);
+        let latests = Vec::with_capacity(alloc, VARIABLES as usize)?;
+        let mut tables = Tables::new(alloc)?;
+        let mut ticks = 0;
+        tables.take_act(0, Act::Begin(0), &mut ticks);
         Ok(Detector {
-            events,
-            rows,
-            threads: Threads::new(),
-            known: Known::new(alloc),
-            positions,
-            spares: Spares::new(alloc),
-            walked: 0,
+            tables,
+            latests,
+            ended: [false; THREADS as usize],
+            ticks,
         })
     }
 
-    /// Judges the next line, which a trace can have and which has no fault behind those before it. Each event is walked at most
-    /// once for each access that was noted. Without memory the detector is as before.
+    /// Judges the next line, which a trace can have and which has no fault behind those before it. It takes no memory: the error says
+    /// that no more events can be counted, and the detector is as before. How many ticks a line looks at and moves is bounded by its item alone.
     pub fn step(&mut self, thread: u8, item: &Item, _cuts: &Cuts) -> Result<Judged, AllocError>
         requires ready { IsReady self.old }
         requires step { IsStep (thread, item.now) }
         ensures ready { IsReady self.new }
         ensures right { IfOk result (λ judged. IsStepped thread item.now judged self.old self.new) }
-        ensures cost { IfOk result (λ judged. KeepsCost thread item.now judged self.old self.new) }
-        ensures err { OnErr result (IsAsBefore self.old self.new) }
+        ensures cost { self.new.ticks ≤ self.old.ticks + most_ticks item.now }
+        ensures full { IsErr result → 2 ^ 31 ≤ self.old.tables.next }
+        ensures err { OnErr result (self.new ≡ self.old) }
     {
+        if !self.tables.has_room() {
+            return Err(AllocError);
+        }
         match item {
             Item::Act(act) => {
-                self.act(thread, *act)?;
+                self.act(thread, *act);
                 Ok(Judged::NoAccess)
             }
-            Item::Access { var, write } => self.access(thread, *var, *write),
-            Item::Commit { reads, writes } => self.commit(thread, reads, writes),
+            Item::Access { var, write } => Ok(self.access(thread, *var, *write)),
+            Item::Commit { reads, writes } => Ok(self.commit(thread, reads, writes)),
         }
     }
 
-    /// How many events were walked so far, counted up to `u64::MAX`: at most all events for each access that was noted, where
-    /// the detector was given these lines.
-    pub fn walked(&self) -> u64
-        ensures count { result ≡ self.now.walked }
-        ensures cost { (lines : List Line) → IsWithinCost lines self.now → result ≤ infos_made lines * length self.now.events.stamps }
+    /// How many ticks of clocks and of what is kept of variables were looked at or moved so far, counted up to `u64::MAX`.
+    pub fn ticks(&self) -> u64
+        ensures { result ≡ self.now.ticks }
     {
-        self.walked
+        self.ticks
     }
 
-    fn act(&mut self, thread: u8, act: Act) -> Result<(), AllocError>
+    fn act(&mut self, thread: u8, act: Act)
         requires ready { IsReady self.old }
         requires thread { thread < THREADS }
         requires act { IsActInRange act }
+        requires room { self.old.tables.next + 3 < 2 ^ 32 }
         ensures ready { IsReady self.new }
-        ensures rows { self.new.rows.items ≡ self.old.rows.items }
-        ensures walked { self.new.walked ≡ self.old.walked }
-        ensures longer { length self.old.events.stamps ≤ length self.new.events.stamps }
-        ensures events { OnOk result ((steps : List Step) → Tracks steps self.old.threads → self.new.events.stamps ≡ after_act (joins_ended steps act) self.old.events.stamps thread act) }
-        ensures threads { OnOk result ((steps : List Step) → Tracks steps self.old.threads → Tracks (steps ++ (thread, Acts act) ∷ []) self.new.threads) }
-        ensures err { OnErr result (IsAsBefore self.old self.new) }
+        ensures right { IsStepped thread (Acts act) NoAccess self.old self.new }
+        ensures cost { self.new.ticks ≤ self.old.ticks + 6 * THREADS }
     {
-        self.events.reserve(2)?;
-        let over = self.is_over(act);
-        let before = self.events.len();
-        push_act(&mut self.events, thread, act, over);
-        self.positions.take(&self.events, before);
-        self.threads.take(thread, &act);
-        Ok(())
+        let over = joins_ended(&self.ended, act);
+        self.tables.take_line(thread, act, over, &mut self.ticks);
+        end_joined(&mut self.ended, act);
     }
 
-    // Whether the act joins a thread that has ended.
-    fn is_over(&self, act: Act) -> bool
-        requires { IsActInRange act }
-        ensures { (steps : List Step) → Tracks steps self.now.threads → result ≡ joins_ended steps act }
-    {
-        match act {
-            Act::Join(other) => self.threads.has_ended(other),
-            Act::Begin(_)
-            | Act::End
-            | Act::Acq(_)
-            | Act::Rel(_)
-            | Act::VRead(_)
-            | Act::VWrite(_)
-            | Act::Fork { .. }
-            | Act::Alloc(_)
-            | Act::Print
-            | Act::Input
-            | Act::Fail(_) => false,
-        }
-    }
-
-    fn access(&mut self, thread: u8, var: u16, write: bool) -> Result<Judged, AllocError>
+    fn access(&mut self, thread: u8, var: u16, write: bool) -> Judged
         requires ready { IsReady self.old }
         requires thread { thread < THREADS }
         requires var { var < VARIABLES }
         ensures ready { IsReady self.new }
-        ensures events { self.new.events.stamps ≡ self.old.events.stamps }
-        ensures threads { self.new.threads ≡ self.old.threads }
-        ensures others { (y : ℕ) → (y ≡ var → ⊥) → row_of self.new.rows.items y ≡ row_of self.old.rows.items y }
-        ensures cost { IfOk result (λ judged. IsPaid self.old.events.stamps (made_by judged 1) self.old.walked self.new.walked (ahead_of_rows self.old.rows.items) (ahead_of_rows self.new.rows.items)) }
-        ensures done { IfOk result (λ judged. (held : List ℕ) × AreLeastHeld (λ m. slice_index_or self.old.threads.holders m None) thread held × PlainDone self.old.events.stamps (row_of self.old.rows.items var) (asked_plain thread write held) var judged (row_of self.new.rows.items var)) }
-        ensures err { OnErr result (IsAsBefore self.old self.new) }
+        ensures tables { self.new.tables ≡ self.old.tables }
+        ensures ended { self.new.ended ≡ self.old.ended }
+        ensures cost { self.new.ticks ≤ self.old.ticks + most_ticks (Accesses var write) }
+        ensures others { (y : ℕ) → (y ≡ var → ⊥) → latest_of self.new.latests.items y ≡ latest_of self.old.latests.items y }
+        ensures done { PlainDone (clocks_in self.old.tables (Thread thread)) (latest_of self.old.latests.items var) thread var write result (latest_of self.new.latests.items var) }
     {
-        make_rows(&mut self.rows, var)?;
-        self.known.make(var)?;
-        self.spares.make(1)?;
-        let q = plain(thread, write, self.threads.held(thread));
-        Ok(judge_access(
-            &mut self.rows,
-            &mut self.known,
-            &self.positions,
-            var,
-            &q,
-            &self.events,
-            &mut self.spares,
-            &mut self.walked,
-        ))
+        make_latest(&mut self.latests, var);
+        self.ticks = self.ticks.saturating_add(ticks_of_access(write));
+        self.latests[var as usize].access(self.tables.known(thread), thread, var, write)
     }
 
-    fn commit(&mut self, thread: u8, reads: &VarSet, writes: &VarSet) -> Result<Judged, AllocError>
+    // A commit of more variables than a transaction may have is no line of a trace, and nothing is done.
+    fn commit(&mut self, thread: u8, reads: &VarSet, writes: &VarSet) -> Judged
         requires ready { IsReady self.old }
         requires thread { thread < THREADS }
+        requires room { self.old.tables.next + 3 < 2 ^ 32 }
         ensures ready { IsReady self.new }
-        ensures threads { self.new.threads ≡ self.old.threads }
-        ensures longer { length self.old.events.stamps ≤ length self.new.events.stamps }
-        ensures cost { IfOk result (λ judged. length (with_all writes.now reads.now) ≤ TX_VARIABLES → IsPaid self.old.events.stamps (made_by judged (length (with_all writes.now reads.now))) self.old.walked self.new.walked (ahead_of_rows self.old.rows.items) (ahead_of_rows self.new.rows.items)) }
-        ensures done { IfOk result (λ judged. (held : List ℕ) × (variables : List ℕ) × AreLeastHeld (λ m. slice_index_or self.old.threads.holders m None) thread held × (length (with_all writes.now reads.now) ≤ TX_VARIABLES → variables ≡ with_all writes.now reads.now) × CommitDone self.old.events.stamps self.old.rows.items thread variables (asked_part thread variables writes.now held) judged self.new.events.stamps self.new.rows.items) }
-        ensures err { OnErr result (IsAsBefore self.old self.new) }
+        ensures ended { self.new.ended ≡ self.old.ended }
+        ensures cost { self.new.ticks ≤ self.old.ticks + most_ticks (CommitsOn reads.now writes.now) }
+        ensures done { length (with_all writes.now reads.now) ≤ TX_VARIABLES → Rises (with_all writes.now reads.now) × CommitDone (taken (clocks_in self.old.tables) (record { thread = thread; event = Commits (with_all writes.now reads.now) })) self.old.latests.items thread self.old.tables.next (with_all writes.now reads.now) writes.now result self.new.latests.items × ClocksDone self.old.tables thread (with_all writes.now reads.now) result self.new.tables }
     {
-        self.events.reserve(1)?;
-        let variables = all_of(reads, writes);
-        make_all_rows(&mut self.rows, &variables)?;
-        self.spares.make(variables.ids().len())?;
-        let held = self.threads.held(thread);
-        let before = self.events.len();
-        let judged = judge_commit(
-            &mut self.rows,
-            &mut self.events,
-            &self.positions,
-            thread,
-            held,
-            &variables,
-            writes,
-            &mut self.spares,
-            &mut self.walked,
-        );
-        self.positions.take(&self.events, before);
-        self.known.forget_all(&variables);
-        Ok(judged)
+        match (*reads).union(writes) {
+            Some(variables) => self.commit_on(thread, &variables, writes),
+            None => Judged::NoAccess,
+        }
+    }
+
+    // A commit on these variables.
+    fn commit_on(&mut self, thread: u8, variables: &VarSet, writes: &VarSet) -> Judged
+        requires ready { IsReady self.old }
+        requires thread { thread < THREADS }
+        requires room { self.old.tables.next + 3 < 2 ^ 32 }
+        ensures ready { IsReady self.new }
+        ensures ended { self.new.ended ≡ self.old.ended }
+        ensures rising { Rises variables.now }
+        ensures cost { self.new.ticks ≤ self.old.ticks + THREADS * (3 * length variables.now + 1) }
+        ensures commit { CommitDone (taken (clocks_in self.old.tables) (record { thread = thread; event = Commits variables.now })) self.old.latests.items thread self.old.tables.next variables.now writes.now result self.new.latests.items }
+        ensures clocks { ClocksDone self.old.tables thread variables.now result self.new.tables }
+    {
+        variables.keeps();
+        self.ticks = self.ticks.saturating_add(ticks_of_parts(variables));
+        let known = self.tables.acquired_all(thread, variables, &mut self.ticks);
+        if let Some(var) = first_race(&self.latests, &known, variables, writes) {
+            return Judged::Raised { var };
+        }
+        let epoch = self.tables.commit_epoch(thread);
+        self.tables
+            .take_commit(thread, variables, &known, &mut self.ticks);
+        note_all(&mut self.latests, variables, writes, &epoch);
+        Judged::Performed
     }
 }

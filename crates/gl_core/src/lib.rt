@@ -1,19 +1,18 @@
-//! Races by lazily walked locksets: the walk, the judgement over a row, and the detector of a whole trace.
+//! Races by vector clocks: a detector of a whole trace that keeps no list of events and no set. The judge of a row, by locksets, is that of
+//! gl_judge.
 #![tactic(auto)]
 
-mod compact;
+mod commits;
 mod detector;
-mod events;
-mod keeping;
-mod known;
-mod lines;
-mod pairs;
-mod positions;
-mod reads;
-mod threads;
+mod latest;
+mod laws;
+mod tables;
 
 pub use detector::Detector;
 pub use gl_judge::{Verdict, judge, note, walk};
+pub use latest::{Epoch, Latest};
+pub use laws::epochs_are_enough;
+pub use tables::Tables;
 
 #[cfg(test)]
 mod tests;

@@ -29,3 +29,4 @@ pub mod Trimming
 pub mod Turning
 pub mod Words
 pub mod Safety
+pub mod Agreeing

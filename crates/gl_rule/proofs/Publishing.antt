@@ -97,9 +97,11 @@ may_live state (Does (Fail k)) value m (inr e) = cc
 may_live state (Commits xs) value m (inl e) = cc
 may_live state (Commits xs) value m (inr e) = cc
 
+-- where no thread is live there is no step
 pub quiet_no_step : (setting : Setting) (now new : State) (x : Stamp) (value : ℤ) → IsQuiet now → Step setting now x value new → ⊥
 quiet_no_step setting now new x value q s = may_live (now.threads x.thread) x.event value s.may (q x.thread)
 
+-- an event has five words
 pub packed_long : (x : Stamp) → length (packed x) ≡ 5
 packed_long x = by x.event
   where
@@ -107,6 +109,7 @@ packed_long x = by x.event
     by (Does act) = refl
     by (Commits xs) = refl
 
+-- an event is no Trim
 pub no_trim : (e : Entry) (n : ℕ) → position_of e ≡ Some n → IsTrim e → ⊥
 no_trim (Sync a b c) n e t = t
 no_trim (Commit a b) n e t = t
@@ -115,6 +118,7 @@ no_trim (Abort a b) n e t = t
 no_trim (Trim low) n e t = cc
 no_trim (Over a) n e t = t
 
+-- nor an abort
 pub no_abort : (e : Entry) (n : ℕ) → position_of e ≡ Some n → (tx : _) (a : _) → e ≡ Abort tx a → ⊥
 no_abort e n p tx a is = let q : position_of (Abort tx a) ≡ Some n = subst (λ z. position_of z ≡ Some n) is p in cc
 
@@ -128,6 +132,7 @@ trims_push trims t es e not k = record {
 shelf_is : (P : Shelf → Type 0) (s : Shelf) → P s → P (shelf s.thread s.marked)
 shelf_is P s p = p
 
+-- the one shelf of a view has one thread
 pub same_thread : (v : View) (a b : Shelf) → v.shelves ≡ a ∷ [] → v.shelves ≡ b ∷ [] → a.thread ≡ b.thread
 same_thread v a b e f = let same : a ∷ [] ≡ b ∷ [] = sym e ∙ f in head a b same
   where
@@ -271,6 +276,7 @@ module _ (key : Key) (slots id : ℕ) (v : View) (c : List (ℕ × Slot)) (s : S
     pub draws : ℕ → List Draw
     pub change : Change key (board (capacity key) st.words) w (world_after w x new value draws) id v s (entry (length w.log)) (drew (length w.log))
 
+  -- publishing an event keeps the rule, where its draws are changed as is asked
   pub publishes : ((w : World) (st : table.State Slot View) (new : State) → Holds key w st → get_elem? st.views id ≡ some v → may.tail ≡ length w.log → Step key.setting w.now x value new → Draws' w st new)
       → table.Allows (Rule key) slots id (v, c) 0 (λ n. (n + 1) % 2 ^ 64) (Published s entry x (slot.List l') drew v c)
   publishes draws_of st rule long here fits =

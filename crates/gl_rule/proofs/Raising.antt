@@ -40,6 +40,7 @@ held_at' setting w hold hold' drew zero slot.Empty e s = absurd s
 held_at' setting w hold hold' drew zero (slot.Row r) e s = absurd s
 held_at' setting w hold hold' drew (suc x) y e s = held_at setting w hold hold' drew (suc x) y (e (λ z. omega arith)) s
 
+-- a value at home stands by its own hold alone, and the list's by none
 pub stands_at' : (setting : Setting) (w : World) (hold hold' : ℕ → ℕ) (k : ℕ) (y : Slot) → (k ≢ 0 → hold' k ≡ hold k) → Stands setting w hold k y → Stands setting w hold' k y
 stands_at' setting w hold hold' zero (slot.List l) e s = s
 stands_at' setting w hold hold' zero slot.Empty e s = absurd s
@@ -50,6 +51,7 @@ tail_at' : (long seen : ℕ) (hold hold' : ℕ → ℕ) (k n : ℕ) (y : Slot) �
 tail_at' long seen hold hold' zero n y e s = s
 tail_at' long seen hold hold' (suc x) n y e s = tail_at long seen hold hold' (suc x) n y (e (λ z. omega arith)) s
 
+-- Trims change no held value
 pub trim_held : (setting : Setting) (w : World) (trims' : List (ℕ × ℕ)) (hold : ℕ → ℕ) (drew : Option Draw) (k : ℕ) (y : Slot) → StandsHeld setting w hold drew k y → StandsHeld setting (record w { trims = trims' }) hold drew k y
 trim_held setting w trims' hold drew zero (slot.List l) s = s
 trim_held setting w trims' hold drew (suc x) (slot.Row row) s = (record { before = s.0.before; draws_are = s.0.draws_are; stands = s.0.stands }, s.1)
@@ -89,6 +91,7 @@ fits_holds key b b' w trims' j v turns cells same up lows f =
       owed = f.owed;
     }
 
+-- nor one at home
 pub trim_home : (setting : Setting) (w : World) (trims' : List (ℕ × ℕ)) (hold : ℕ → ℕ) (k : ℕ) (y : Slot) → Stands setting w hold k y → Stands setting (record w { trims = trims' }) hold k y
 trim_home setting w trims' hold zero (slot.List l) s = s
 trim_home setting w trims' hold (suc x) (slot.Row row) s = s
@@ -97,19 +100,23 @@ trim_home setting w trims' hold zero (slot.Row r) s = absurd s
 trim_home setting w trims' hold (suc x) slot.Empty s = absurd s
 trim_home setting w trims' hold (suc x) (slot.List l) s = absurd s
 
+-- what a held row on which nothing was drawn says
 pub row_in : (setting : Setting) (w : World) (hold : ℕ → ℕ) (k x : ℕ) (y : Slot) (drew : Option Draw) (row : Row) → k ≡ suc x → y ≡ slot.Row row → drew ≡ None → StandsHeld setting w hold drew k y → RowStands setting w.log x (w.draws x) row × IsAbove row (hold (suc x))
 row_in setting w hold k x y drew row e is none st =
     let s : StandsHeld setting w hold None (suc x) (slot.Row row) = subst (λ z. StandsHeld setting w hold z (suc x) (slot.Row row)) none (subst (λ z. StandsHeld setting w hold drew (suc x) z) is (subst (λ z. StandsHeld setting w hold drew z y) e st)) in
     (subst (λ ds. RowStands setting w.log x ds row) (sym s.0.draws_are) s.0.stands, s.1)
 
+-- and what makes it so
 pub in_row : (setting : Setting) (w : World) (hold : ℕ → ℕ) (k x : ℕ) (drew : Option Draw) (row : Row) → k ≡ suc x → drew ≡ None → RowStands setting w.log x (w.draws x) row × IsAbove row (hold (suc x)) → StandsHeld setting w hold drew k (slot.Row row)
 in_row setting w hold k x drew row e none st =
     let a : StandsHeld setting w hold None (suc x) (slot.Row row) = (record { before = w.draws x; draws_are = refl; stands = st.0 }, st.1) in
     subst (λ z. StandsHeld setting w hold z k (slot.Row row)) (sym none) (subst (λ z. StandsHeld setting w hold None z (slot.Row row)) (sym e) a)
 
+-- what a tail says of a held row
 pub row_tail : (long : ℕ) (hold : ℕ → ℕ) (seen k x n : ℕ) (y : Slot) (row : Row) → k ≡ suc x → y ≡ slot.Row row → TailFits long hold seen k y n → (n ≤ seen) × IsWithin row n × (hold (suc x) ≤ n)
 row_tail long hold seen k x n y row e is t = let a : TailFits long hold seen (suc x) (slot.Row row) n = subst (λ z. TailFits long hold seen (suc x) z n) is (subst (λ z. TailFits long hold seen z y n) e t) in a
 
+-- and what makes it so
 pub tail_row : (long : ℕ) (hold : ℕ → ℕ) (seen k x n : ℕ) (row : Row) → k ≡ suc x → (n ≤ seen) × IsWithin row n × (hold (suc x) ≤ n) → TailFits long hold seen k (slot.Row row) n
 tail_row long hold seen k x n row e t = subst (λ z. TailFits long hold seen z (slot.Row row) n) (sym e) (let a : TailFits long hold seen (suc x) (slot.Row row) n = t in a)
 
@@ -130,6 +137,7 @@ raised_within setting seat j s v hold h x taken row log ds right f st tails =
         let st' = right.follows l fits ds (row_front setting l more x ds taken within p.1) in
         subst (IsWithin row) long (stands_within setting l x (with_draw h.drew ds) row st')
 
+-- raising a row's hold keeps the rule
 pub raises_hold : (key : Key) (slots id : ℕ) (v : View) (c : List (ℕ × Slot)) (s : Shelf) (h : Held) (x : ℕ) (taken row : Row) (to : ℕ) → v.shelves ≡ s ∷ [] → MayRaise key.setting s v h x taken row to
     → table.Allows (Rule key) slots id (v, c) (3 * h.object + 2) (λ _. to) (λ _. Raised h (slot.Row row) to v c)
 raises_hold key slots id v c s h x taken row to one may st rule long here fits =

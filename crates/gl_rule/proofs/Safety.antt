@@ -64,14 +64,17 @@ module _ (key : Key) (s : table.State Slot View) (rule : Rule key s) where
       subst (λ k. b.hold k ≤ p) is (first_named b.hold h.object p h.first h.floor (λ z. let q : suc x ≡ 0 = sym is ∙ z in absurd (omega arith)) fl i above)
 
   pub safe : (log : List _) × IsSafe key b s log
-  safe = (rule.0.log, record {
-    tail = rule.1.whole.positions.count;
-    low = λ x near. (rule.1.whole.ring.holds x near).0;
-    holds = λ x near. (rule.1.whole.ring.holds x near).1;
-    named = named;
-    cells = rule.1.whole.ring.cells;
-    room = rule.1.whole.ring.room;
-  })
+  safe = (
+    rule.0.log,
+    record {
+      tail = rule.1.whole.positions.count;
+      low = λ x near. (rule.1.whole.ring.holds x near).0;
+      holds = λ x near. (rule.1.whole.ring.holds x near).1;
+      named = named;
+      cells = rule.1.whole.ring.cells;
+      room = rule.1.whole.ring.room;
+    },
+  )
 
   -- the event whose cell is taken lies in a segment below all that is named
   pub overwrites : (id : ℕ) (v : View) (h : Held) (tail : ℕ) → 0 < key.cells → get_elem? s.views id ≡ home.some v → MayStoreWord key v h tail → capacity key ≤ tail → (x p : ℕ) → x < VARIABLES → IsNamed b s (suc x) p

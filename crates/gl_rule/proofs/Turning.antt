@@ -49,6 +49,7 @@ taken_told key w id v s hold b whole one f mine (suc x) (slot.Row row) st = tt
 taken_told key w id v s hold b whole one f mine (suc x) slot.Empty st = absurd st
 taken_told key w id v s hold b whole one f mine (suc x) (slot.List l) st = absurd st
 
+-- taking a turn keeps the rule
 pub takes_turn : (key : Key) (slots id k : ℕ) (v : View) (c : List (ℕ × Slot)) (s : Shelf) → k < objects → v.shelves ≡ s ∷ []
     → table.Allows (Rule key) slots id (v, c) (3 * k + 1) (λ n. either (n == 0) (s.thread + 1) n) (Took key.setting k v c)
 takes_turn key slots id k v c s near one st rule long here fits =
@@ -150,6 +151,7 @@ takes_turn key slots id k v c s near one st rule long here fits =
     let r : Rule key (record { words = st.words; homes = st.homes; views = set st.views id (refused v k (n - 1)) }) = (w, reviews key w st id v (refused v k (n - 1)) here (λ g o. o) H (fits_saw key b w id v (Busy k (n - 1)) tt mine)) in
     (refused v k (n - 1), table.keeps, tt, loads_word key st id (3 * k + 1) (refused v k (n - 1)) r, inr (busy, H.whole.turns.named k near, refl)))
 
+-- putting an object back keeps the rule
 pub leaves_turn : (key : Key) (slots id : ℕ) (v : View) (c : List (ℕ × Slot)) (s : Shelf) (h : Held) (y : Slot) (q : Bool) → objects ≤ slots → v.shelves ≡ s ∷ [] → Contains v.held h → MayLeave key.setting s v h y → (q ≡ true → SaysQuiet h.object h.taken)
     → table.Allows (Rule key) slots id (v, (h.object, y) ∷ c) (3 * h.object + 1) (λ _. 0) (λ _. Left h.object q v ((h.object, y) ∷ c))
 leaves_turn key slots id v c s h y q many one has may quiet st rule long here fits =

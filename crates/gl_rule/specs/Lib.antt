@@ -22,6 +22,7 @@ pub mod Closed
 pub mod Laws
 pub mod Steps
 pub mod Safe
+pub mod Agreeing
 pub mod Told
 pub mod Taken
 pub mod Lives

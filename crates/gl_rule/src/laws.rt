@@ -1,6 +1,7 @@
 //! The rule of the table: each kind of step keeps it, tables begin with it, and what it says of a table at the end.
 #![tactic(auto)]
 
+ghost use Rattle.gl_rule.specs.Agreeing.{KnownEventsAgree, KnownSetsAgree, KnownTestsAgree, OwnPlainStands, OwnCommitStands};
 ghost use Rattle.gl_rule.specs.Laws.{ClosedIsLawful, ClosedIsTrimmed};
 ghost use Rattle.gl_rule.specs.Safe.{TablesAreSafe, OverwritesUnnamed};
 ghost use Rattle.gl_rule.specs.Steps.{TakesTurn, LeavesTurn, WritesBack, LoadsTail, LoadsHold, LoadsFloor, LoadsStop, LoadsCell, LoadsEvent, StoresWord, SetsStop, RaisesHold, RaisesLow, PublishesAct, PublishesCommit, MarksPlain, MarksOpen, RecordsAdded, Begins, EntersSeat, SplitsSeat, JoinsSeats};
@@ -50,6 +51,17 @@ pub fn seats_keep_the_rule()
     ensures enters { EntersSeat }
     ensures splits { SplitsSeat }
     ensures joins { JoinsSeats }
+{}
+
+/// What a pass is asked of each list of events that it cannot tell from the table's, it can know: these lists agree on the
+/// events that it knows, so on the sets of Infos and on the tests over them; and an Info that it gives for an access of its
+/// own stands for that over each of them.
+pub fn fitting_lists_agree()
+    ensures events { KnownEventsAgree }
+    ensures sets { KnownSetsAgree }
+    ensures tests { KnownTestsAgree }
+    ensures plain { OwnPlainStands }
+    ensures commit { OwnCommitStands }
 {}
 
 /// No cell is given again while somebody may still walk from its event: the table is safe, and the event whose cell the

@@ -1,0 +1,87 @@
+// A commit over what is kept of its variables.
+ghost use Rattle.std.specs.Prelude.{◌≡◌, ℕ, ◌<◌, ◌≤◌, ◌==◌, length, find, if◌then◌else◌, vec_capacity};
+ghost use Rattle.gl_model.specs.declared.limits.TheConstants.{THREADS, VARIABLES};
+ghost use Rattle.gl_model.specs.Trace.{is_in};
+ghost use Rattle.gl_core.specs.Cells.{at};
+ghost use Rattle.gl_core.specs.Latests.{latest_of, part_fails, noted};
+
+use crate::latest::{Epoch, Latest};
+use gl_model::{THREADS, VarSet};
+
+// The threads as a length.
+const ALL: usize = THREADS as usize;
+
+// Whether a commit with these writes writes the variable.
+fn writes_to(writes: &VarSet, var: u16) -> bool
+    ensures { result ≡ is_in var writes.now }
+{
+    writes.has(var)
+}
+
+// Whether a commit is racy on the variable.
+fn fails_on(latests: &[Latest], known: &[u32; ALL], writes: &VarSet, var: u16) -> bool
+    ensures { result ≡ part_fails (at known.now) writes.now latests.now var }
+{
+    match latests.get(var as usize) {
+        Some(latest) => latest.fails(known, true, writes_to(writes, var)),
+        None => false,
+    }
+}
+
+// The first variable on which a commit is racy.
+pub(crate) fn first_race(
+    latests: &[Latest],
+    known: &[u32; ALL],
+    variables: &VarSet,
+    writes: &VarSet,
+) -> Option<u16>
+    ensures { result ≡ find (part_fails (at known.now) writes.now latests.now) variables.now }
+{
+    variables
+        .ids()
+        .iter()
+        .copied()
+        .find(|var| fails_on(latests, known, writes, *var))
+}
+
+// What is kept of the variable has its place.
+pub(crate) fn make_latest(latests: &mut Vec<Latest>, var: u16)
+    requires within { var < VARIABLES }
+    requires room { VARIABLES ≤ vec_capacity latests.old }
+    ensures same { (y : ℕ) → latest_of latests.new.items y ≡ latest_of latests.old.items y }
+    ensures there { var < length latests.new.items }
+    ensures room { VARIABLES ≤ vec_capacity latests.new }
+{
+    while latests.len() <= var as usize {
+        latests.push_reserved(Latest::untouched());
+    }
+}
+
+// Notes a commit on one variable.
+fn note_one(latests: &mut Vec<Latest>, var: u16, write: bool, epoch: &Epoch)
+    requires thread { epoch.now.thread < THREADS }
+    requires within { var < VARIABLES }
+    requires room { VARIABLES ≤ vec_capacity latests.old }
+    ensures noted { (y : ℕ) → latest_of latests.new.items y ≡ (if y == var then noted write epoch.now (latest_of latests.old.items y) else latest_of latests.old.items y) }
+    ensures room { VARIABLES ≤ vec_capacity latests.new }
+{
+    make_latest(latests, var);
+    latests[var as usize].note(epoch, write);
+}
+
+// Notes a commit on each of its variables.
+pub(crate) fn note_all(
+    latests: &mut Vec<Latest>,
+    variables: &VarSet,
+    writes: &VarSet,
+    epoch: &Epoch,
+)
+    requires thread { epoch.now.thread < THREADS }
+    requires room { VARIABLES ≤ vec_capacity latests.old }
+    ensures noted { (y : ℕ) → latest_of latests.new.items y ≡ (if is_in y variables.now then noted (is_in y writes.now) epoch.now (latest_of latests.old.items y) else latest_of latests.old.items y) }
+    ensures room { VARIABLES ≤ vec_capacity latests.new }
+{
+    for var in variables.ids() {
+        note_one(latests, *var, writes_to(writes, *var), epoch);
+    }
+}
