@@ -1,5 +1,5 @@
 -- Inside an attempt a machine asks to go on, for reads, writes and the attempt's end alone, and never ends.
-use Rattle.std.proofs.Common.{◌≡◌, ℕ, ℤ, pos, negsuc, ◌+◌, ◌≤◌, Bool, true, false, ◌&&◌, ◌||◌, not, ◌==◌, nat_lt, if◌then◌else◌, List, [], ◌∷◌, Option, Some, None, refl, ◌∙◌, ap, arith, length, is_some}
+use Rattle.std.proofs.Common.{◌≡◌, ℕ, ℤ, pos, negsuc, ◌+◌, ◌≤◌, Bool, true, false, ◌&&◌, not, ◌==◌, nat_lt, if◌then◌else◌, List, [], ◌∷◌, Option, Some, None, refl, ◌∙◌, ap, arith, length, is_some}
 use Rattle.gl_model.specs.declared.limits.TheConstants.{THREADS}
 use Rattle.gl_bytecode.specs.declared.ask.Ask.{Ask}
 use Rattle.gl_bytecode.specs.declared.ask.Ask.TheVariants.{Go, Begin, End, Over as AskOver, Read, Write, VRead, VWrite, Enter as AskEnter, Exit as AskExit, Fork as AskFork, Join as AskJoin, Alloc, Print as AskPrint, Input as AskInput, TxBegin, TxEnd}

@@ -13,6 +13,7 @@ mod limits;
 mod object;
 mod parts;
 mod program;
+mod stated;
 #[cfg(test)]
 mod tests;
 mod validator;
@@ -31,4 +32,5 @@ pub use limits::{
 pub use object::{CLASS_UNIT, Fields, Object, VARIABLE_UNIT, VOLATILE_UNIT};
 pub use parts::Parts;
 pub use program::Program;
+pub use stated::{codes_are_stated, kinds_are_stated, limits_are_stated, units_are_stated};
 pub use validator::validate;
