@@ -170,6 +170,13 @@ impl<'a> Line<'a> {
         self.number
     }
 
+    /// The bytes of the line.
+    pub fn text(&self) -> &'a [u8]
+        ensures { result.now ≡ self.now.text }
+    {
+        self.text
+    }
+
     /// Whether the line has a byte that no line may have.
     pub fn bad(&self) -> bool
         ensures { result ≡ is_bad self.now.text }

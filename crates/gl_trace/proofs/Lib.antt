@@ -1,3 +1,4 @@
 pub mod IdsLemmas
 pub mod TraceLemmas
 pub mod TracerLemmas
+pub mod QuickLemmas

@@ -1,5 +1,5 @@
 // A whole trace text, line by line.
-ghost use Rattle.std.specs.Prelude.{◌≡◌, ◌≤◌, ◌<◌, IfOk, IfErr, IfSome, List, None, Some, Ok};
+ghost use Rattle.std.specs.Prelude.{◌≡◌, ◌≤◌, ◌<◌, IfOk, IfErr, IfSome, MatchResult, List, None, Some, Ok, Err};
 ghost use Rattle.std.proofs.Props.{props};
 ghost use Rattle.gl_text.specs.Text.{words};
 ghost use Rattle.gl_model.specs.TraceSteps.{Step, IsStep};
@@ -13,6 +13,7 @@ ghost use Rattle.gl_trace.specs.declared.limits.TheConstants.{TRACE_LINES};
 use crate::kept::Trace;
 use crate::limits::{TRACE_BYTES, TRACE_LINES};
 use crate::phrase::said_by;
+use crate::quick::quick_line;
 use crate::standing::Standing;
 use gl_model::{Act, Item, StepFault};
 use gl_text::kinds::{
@@ -36,6 +37,18 @@ fn kind(fault: StepFault) -> u8
     }
 }
 
+// What the words of a line say: of a line of the usual form it is told in one pass.
+fn said_of(line: &Line<'_>, item: &mut Item) -> Result<Option<u8>, u8>
+    ensures value { MatchResult result (λ o. said (words line.now.text) ≡ Ok (step_with item.new o)) (λ kind. said (words line.now.text) ≡ Err kind) }
+    ensures range { IfOk result (λ o. IfSome o (λ t. IsStep (t, item.new))) }
+    ensures set { IfOk result (λ o. IfSome o (λ t. IsItemKept item.new)) }
+{
+    match quick_line(line.text(), item) {
+        Some(thread) => Ok(Some(thread)),
+        None => said_by(line.words(), item),
+    }
+}
+
 // What a line says, behind the steps so far: its thread is answered, and its item is written to its place.
 fn read_line(line: &Line<'_>, standing: &Standing, item: &mut Item) -> Result<Option<u8>, u8>
     ensures fault { (steps : List Step) → Tracks steps standing.now → IfErr result (λ kind. line_fault steps line.now.number line.now.text ≡ Some kind) }
@@ -51,7 +64,7 @@ fn read_line(line: &Line<'_>, standing: &Standing, item: &mut Item) -> Result<Op
     if line.number() > TRACE_LINES {
         return Err(TOO_MANY_LINES);
     }
-    match said_by(line.words(), item)? {
+    match said_of(line, item)? {
         None => Ok(None),
         Some(thread) => match standing.fault(thread, item) {
             None => Ok(Some(thread)),
