@@ -10,7 +10,7 @@ ghost use Rattle.gl_trace.specs.Form.{form_of, most_of};
 ghost use Rattle.gl_trace.specs.Ids.{operand_of};
 ghost use Rattle.gl_trace.specs.Kept.{IsItemKept};
 ghost use Rattle.gl_trace.specs.Phrase.{said};
-ghost use Rattle.gl_trace.specs.Quick.{IsWord, Begins};
+ghost use Rattle.gl_trace.specs.Quick.{Begins, IsFirstLine};
 ghost use Rattle.gl_trace.specs.declared.form.Form.TheVariants.{One};
 
 use crate::form::Verb;
@@ -36,40 +36,28 @@ fn digits(text: &[u8]) -> (usize, u32)
     (text.len(), value)
 }
 
-// What follows so many bytes and a space.
-fn after_space(text: &[u8], count: usize) -> Option<&[u8]>
+// What follows so many bytes and the byte that stops them.
+fn after_stop(text: &[u8], count: usize, stop: u8) -> Option<&[u8]>
     requires { count ≤ length text.now }
-    ensures { IfSome result (λ rest. drop count text.now ≡ 32 ∷ rest.now) }
+    ensures { IfSome result (λ rest. drop count text.now ≡ stop ∷ rest.now) }
 {
     match &text[count..] {
-        [b' ', rest @ ..] => Some(rest),
+        [b, rest @ ..] if *b == stop => Some(rest),
         _ => None,
     }
 }
 
-// A number up to a limit and the space behind it, at the front of a text, and what follows.
-fn number_before(text: &[u8], most: u16) -> Option<(u16, &[u8])>
-    ensures value { IfSome result (λ x. (word : List ℕ) × Begins text.now word x.1.now × (operand_of most word ≡ Ok x.0)) }
+// A number up to a limit and the byte that stops it, at the front of a text, and what follows.
+fn number_before(text: &[u8], most: u16, stop: u8) -> Option<(u16, &[u8])>
+    ensures value { IfSome result (λ x. (word : List ℕ) × Begins text.now word stop x.1.now × (operand_of most word ≡ Ok x.0)) }
     ensures bound { IfSome result (λ x. x.0 ≤ most) }
 {
     let (count, value) = digits(text);
     if count == 0 || value > u32::from(most) {
         return None;
     }
-    let rest = after_space(text, count)?;
+    let rest = after_stop(text, count, stop)?;
     Some((value as u16, rest))
-}
-
-// The number that a text is, up to a limit.
-fn last_number(text: &[u8], most: u16) -> Option<u16>
-    ensures value { IfSome result (λ n. IsWord text.now × (operand_of most text.now ≡ Ok n)) }
-    ensures bound { IfSome result (λ n. n ≤ most) }
-{
-    let (count, value) = digits(text);
-    if count == 0 || count < text.len() || value > u32::from(most) {
-        return None;
-    }
-    Some(value as u16)
 }
 
 // What follows two bytes and a space at the front of a text.
@@ -104,7 +92,7 @@ fn after_four(text: &[u8], a: u8, b: u8, c: u8, d: u8) -> Option<&[u8]>
 
 // The word that tells an access and the space behind it, at the front of a text, and what follows.
 fn access_before(text: &[u8]) -> Option<(Verb, &[u8])>
-    ensures { IfSome result (λ x. (word : List ℕ) × Begins text.now word x.1.now × (form_of word ≡ Ok (One x.0))) }
+    ensures { IfSome result (λ x. (word : List ℕ) × Begins text.now word 32 x.1.now × (form_of word ≡ Ok (One x.0))) }
 {
     if let Some(rest) = after_two(text, b'r', b'd') {
         return Some((Verb::Read, rest));
@@ -115,7 +103,7 @@ fn access_before(text: &[u8]) -> Option<(Verb, &[u8])>
 
 // The same for a monitor.
 fn monitor_before(text: &[u8]) -> Option<(Verb, &[u8])>
-    ensures { IfSome result (λ x. (word : List ℕ) × Begins text.now word x.1.now × (form_of word ≡ Ok (One x.0))) }
+    ensures { IfSome result (λ x. (word : List ℕ) × Begins text.now word 32 x.1.now × (form_of word ≡ Ok (One x.0))) }
 {
     if let Some(rest) = after_three(text, b'a', b'c', b'q') {
         return Some((Verb::Acquire, rest));
@@ -126,7 +114,7 @@ fn monitor_before(text: &[u8]) -> Option<(Verb, &[u8])>
 
 // The same for a volatile.
 fn volatile_before(text: &[u8]) -> Option<(Verb, &[u8])>
-    ensures { IfSome result (λ x. (word : List ℕ) × Begins text.now word x.1.now × (form_of word ≡ Ok (One x.0))) }
+    ensures { IfSome result (λ x. (word : List ℕ) × Begins text.now word 32 x.1.now × (form_of word ≡ Ok (One x.0))) }
 {
     if let Some(rest) = after_two(text, b'v', b'r') {
         return Some((Verb::VolatileRead, rest));
@@ -137,7 +125,7 @@ fn volatile_before(text: &[u8]) -> Option<(Verb, &[u8])>
 
 // The same for another thread.
 fn thread_before(text: &[u8]) -> Option<(Verb, &[u8])>
-    ensures { IfSome result (λ x. (word : List ℕ) × Begins text.now word x.1.now × (form_of word ≡ Ok (One x.0))) }
+    ensures { IfSome result (λ x. (word : List ℕ) × Begins text.now word 32 x.1.now × (form_of word ≡ Ok (One x.0))) }
 {
     if let Some(rest) = after_four(text, b'f', b'o', b'r', b'k') {
         return Some((Verb::Fork, rest));
@@ -148,7 +136,7 @@ fn thread_before(text: &[u8]) -> Option<(Verb, &[u8])>
 
 // The word that tells a line with one operand and the space behind it, at the front of a text, and what follows.
 fn verb_before(text: &[u8]) -> Option<(Verb, &[u8])>
-    ensures { IfSome result (λ x. (word : List ℕ) × Begins text.now word x.1.now × (form_of word ≡ Ok (One x.0))) }
+    ensures { IfSome result (λ x. (word : List ℕ) × Begins text.now word 32 x.1.now × (form_of word ≡ Ok (One x.0))) }
 {
     if let Some(told) = access_before(text) {
         return Some(told);
@@ -162,15 +150,16 @@ fn verb_before(text: &[u8]) -> Option<(Verb, &[u8])>
     thread_before(text)
 }
 
-/// What a line of the usual form says: its thread is answered, and its item is written to its place. `None` says nothing of the line.
-pub fn quick_line(text: &[u8], item: &mut Item) -> Option<u8>
-    ensures said { IfSome result (λ t. said (words text.now) ≡ Ok (Some (t, item.new))) }
-    ensures range { IfSome result (λ t. IsStep (t, item.new)) }
-    ensures set { IfSome result (λ t. IsItemKept item.new) }
+/// What the first line of a text says, where it is of the usual form and ends with a line feed: its thread and what is behind it are answered,
+/// and its item is written to its place. `None` says nothing of the line.
+pub fn quick_line<'a>(text: &'a [u8], item: &mut Item) -> Option<(u8, &'a [u8])>
+    ensures said { IfSome result (λ x. (line : List ℕ) × IsFirstLine text.now line x.1.now × (said (words line) ≡ Ok (Some (x.0, item.new)))) }
+    ensures range { IfSome result (λ x. IsStep (x.0, item.new)) }
+    ensures set { IfSome result (λ x. IsItemKept item.new) }
 {
-    let (thread, rest) = number_before(text, u16::from(THREADS) - 1)?;
+    let (thread, rest) = number_before(text, u16::from(THREADS) - 1, b' ')?;
     let (verb, last) = verb_before(rest)?;
-    let operand = last_number(last, verb.most())?;
+    let (operand, behind) = number_before(last, verb.most(), b'\n')?;
     *item = verb.with(operand);
-    Some(thread as u8)
+    Some((thread as u8, behind))
 }

@@ -1,5 +1,5 @@
 // A whole trace text, line by line.
-ghost use Rattle.std.specs.Prelude.{◌≡◌, ◌≤◌, ◌<◌, IfOk, IfErr, IfSome, MatchResult, List, None, Some, Ok, Err};
+ghost use Rattle.std.specs.Prelude.{◌≡◌, ◌≤◌, ◌<◌, IfOk, IfErr, IfSome, List, None, Some, Ok};
 ghost use Rattle.std.proofs.Props.{props};
 ghost use Rattle.gl_text.specs.Text.{words};
 ghost use Rattle.gl_model.specs.TraceSteps.{Step, IsStep};
@@ -37,18 +37,6 @@ fn kind(fault: StepFault) -> u8
     }
 }
 
-// What the words of a line say: of a line of the usual form it is told in one pass.
-fn said_of(line: &Line<'_>, item: &mut Item) -> Result<Option<u8>, u8>
-    ensures value { MatchResult result (λ o. said (words line.now.text) ≡ Ok (step_with item.new o)) (λ kind. said (words line.now.text) ≡ Err kind) }
-    ensures range { IfOk result (λ o. IfSome o (λ t. IsStep (t, item.new))) }
-    ensures set { IfOk result (λ o. IfSome o (λ t. IsItemKept item.new)) }
-{
-    match quick_line(line.text(), item) {
-        Some(thread) => Ok(Some(thread)),
-        None => said_by(line.words(), item),
-    }
-}
-
 // What a line says, behind the steps so far: its thread is answered, and its item is written to its place.
 fn read_line(line: &Line<'_>, standing: &Standing, item: &mut Item) -> Result<Option<u8>, u8>
     ensures fault { (steps : List Step) → Tracks steps standing.now → IfErr result (λ kind. line_fault steps line.now.number line.now.text ≡ Some kind) }
@@ -64,7 +52,7 @@ fn read_line(line: &Line<'_>, standing: &Standing, item: &mut Item) -> Result<Op
     if line.number() > TRACE_LINES {
         return Err(TOO_MANY_LINES);
     }
-    match said_of(line, item)? {
+    match said_by(line.words(), item)? {
         None => Ok(None),
         Some(thread) => match standing.fault(thread, item) {
             None => Ok(Some(thread)),
@@ -105,9 +93,25 @@ impl<'a> TraceReader<'a> {
         })
     }
 
-    /// Reads the next line that says something: answers its number and its thread, and writes what it says to `item`. `None` at the end
-    /// of a text without a fault; else its first fault, behind which nothing is to be read. Then nothing is said of `item`.
-    pub fn next_line(&mut self, item: &mut Item) -> Result<Option<(u32, u8)>, TextFault>
+    // Reads the next line where it is of the usual form and has no fault; else nothing is read, and nothing said of it or of `item`.
+    fn quick_next(&mut self, item: &mut Item) -> Option<(u32, u8)>
+        ensures line { (text : List ℕ) (made : List TraceLine) → IsReadTo text made self.old → IfSome result (λ x. IsReadTo text (made ++ (x.0, x.1, item.new) ∷ []) self.new) }
+        ensures none { result ≡ None → self.new ≡ self.old }
+        ensures range { IfSome result (λ x. IsStep (x.1, item.new)) }
+        ensures shorter { IfSome result (λ x. length self.new.lines.left < length self.old.lines.left) }
+    {
+        let (thread, rest) = quick_line(self.lines.rest(), item)?;
+        let number = self.lines.given() + 1;
+        if number > TRACE_LINES || self.standing.fault(thread, item).is_some() {
+            return None;
+        }
+        self.lines.skip_to(rest);
+        self.standing.take(thread, item);
+        Some((number, thread))
+    }
+
+    // Reads lines until one says something or has a fault, or none is left.
+    fn full_next(&mut self, item: &mut Item) -> Result<Option<(u32, u8)>, TextFault>
         ensures line { (text : List ℕ) (made : List TraceLine) → IsReadTo text made self.old → IfOk result (λ o. MatchOption o (IsTrace text made) (λ x. IsReadTo text (made ++ (x.0, x.1, item.new) ∷ []) self.new)) }
         ensures fault { (text : List ℕ) (made : List TraceLine) → IsReadTo text made self.old → IfErr result (λ f. IsFirstFault text f.line f.kind) }
         ensures range { IfOk result (λ o. IfSome o (λ x. IsStep (x.1, item.new))) }
@@ -125,6 +129,20 @@ impl<'a> TraceReader<'a> {
             }
         }
         Ok(None)
+    }
+
+    /// Reads the next line that says something: answers its number and its thread, and writes what it says to `item`. `None` at the end
+    /// of a text without a fault; else its first fault, behind which nothing is to be read. Then nothing is said of `item`.
+    pub fn next_line(&mut self, item: &mut Item) -> Result<Option<(u32, u8)>, TextFault>
+        ensures line { (text : List ℕ) (made : List TraceLine) → IsReadTo text made self.old → IfOk result (λ o. MatchOption o (IsTrace text made) (λ x. IsReadTo text (made ++ (x.0, x.1, item.new) ∷ []) self.new)) }
+        ensures fault { (text : List ℕ) (made : List TraceLine) → IsReadTo text made self.old → IfErr result (λ f. IsFirstFault text f.line f.kind) }
+        ensures range { IfOk result (λ o. IfSome o (λ x. IsStep (x.1, item.new))) }
+        ensures shorter { IfOk result (λ o. IfSome o (λ x. length self.new.lines.left < length self.old.lines.left)) }
+    {
+        match self.quick_next(item) {
+            Some(read) => Ok(Some(read)),
+            None => self.full_next(item),
+        }
     }
 }
 
