@@ -1,6 +1,6 @@
 // Reading all that there is, and writing all of a text.
-ghost use Rattle.std.specs.Prelude.{◌≡◌, ◌<◌, ◌≤◌, ◌^◌, ℕ, length, take, vec_len, IfOk, OnOk, OnErr, IfSome, IsErrOf};
-ghost use Rattle.std.specs.Io.KnownBytes.{Appends, IsAtEnd};
+ghost use Rattle.std.specs.Prelude.{◌≡◌, ◌<◌, ◌≤◌, ◌^◌, ℕ, List, length, take, vec_len, IfOk, OnOk, OnErr, IfSome, IsErrOf};
+ghost use Rattle.std.specs.Io.KnownBytes.{Appends, Consumes, IsAtEnd};
 ghost use Rattle.gl_io.specs.Faults.{HasCause, Rose};
 ghost use Rattle.gl_io.specs.Whole.{FaultsBy, IsTaken};
 
@@ -21,13 +21,16 @@ pub enum ReadStop {
 // The bytes that are read at once.
 const PIECE: usize = 4096;
 
-/// Reads all that is left, unless that is more than `most` bytes. It takes its memory before it reads.
+/// Reads all that is left, unless that is more than `most` bytes: then it stops behind more than `most` of them. It takes its memory
+/// before it reads.
 pub fn read_all<S: Source>(alloc: Global, source: &mut S, most: usize) -> Result<Vec<u8>, ReadStop>
     ensures fault { FaultsBy (S.faults source.old) (S.faults source.new) result }
     ensures ok { IfOk result (λ v. IsTaken (S.left source.old) v.items) }
+    ensures taken { IfOk result (λ v. Consumes (S.left source.old) (S.left source.new) v.items) }
     ensures end { OnOk result (IsAtEnd (S.left source.new)) }
     ensures short { IfOk result (λ v. vec_len v ≤ most) }
     ensures too_long { IsErrOf result ReadStop.TooLong → IfSome (S.left source.old) (λ xs. most < length xs) }
+    ensures over { IsErrOf result ReadStop.TooLong → (bytes : List ℕ) × (most < length bytes) × Consumes (S.left source.old) (S.left source.new) bytes }
     ensures memory { (e : AllocError) → IsErrOf result (ReadStop.Memory e) → source.new ≡ source.old }
 {
     let mut out = Vec::with_capacity(alloc, most).map_err(ReadStop::Memory)?;

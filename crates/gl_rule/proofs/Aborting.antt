@@ -182,6 +182,7 @@ module _ (key : Key) (w : World) (st : table.State Slot View) (id : ℕ) (v : Vi
           let z : with_at (w.until y) (length (w.draws y) - 1) m k ≡ w.until y k = with_else (w.until y) (length (w.draws y) - 1) k m apart in
           rw c z
 
+  -- so is one that was refused for a race
   pub refused_becomes : Becomes key w s v tx (Raised var) (variables_of tx) p may.drop (Entered (Abort tx (Raised var))) (judged_at w.until w.draws (variables_of tx) m)
   refused_becomes = record {
     right = λ y c ds is stands. tt;

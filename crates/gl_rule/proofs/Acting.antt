@@ -36,6 +36,7 @@ numbers_push draws drawn s e none no_draw k =
       runs = λ o has. absurd (let l = has.1 in omega arith);
     }
 
+-- publishing an act keeps the rule
 pub publishes_act : (key : Key) (slots id : ℕ) (v : View) (c : List (ℕ × Slot)) (s : Shelf) (h : Held) (l l' : ListView) (act : Act) (value : ℤ) → v.shelves ≡ s ∷ [] → v.drawn ≡ [] → MayPublish key s v h l l' (λ n. Sync n act value) (record { thread = s.thread; event = Does act }) value
     → table.Allows (Rule key) slots id (v, c) 0 (λ n. (n + 1) % 2 ^ 64) (Published s (λ n. Sync n act value) (record { thread = s.thread; event = Does act }) (slot.List l') (λ n g. g.drew) v c)
 publishes_act key slots id v c s h l l' act value one none may =

@@ -55,6 +55,7 @@ in_rest x y v (o ∷ os) ne (suc k, l, e) = here (ℕ_discrete o.0 x) (in_rest x
     here (yes s) r = let b : (o.0 == x) ≡ true = eq-eqb o.0 x s in rw b r
     here (no s) r = let b : (o.0 == x) ≡ false = ne_eqb o.0 x s in rw b (in_cons o (filter (λ (o : ℕ × ℤ). not (o.0 == x)) os) (y, v) r)
 
+-- what is left of the owed words without x was owed, and is not of x
 pub rest_in : (x y : ℕ) (v : ℤ) (owed : List (ℕ × ℤ)) → Contains (filter (λ (o : ℕ × ℤ). not (o.0 == x)) owed) (y, v) → Contains owed (y, v) × (y ≢ x)
 rest_in x y v [] c = absurd (let l = c.1 in omega arith)
 rest_in x y v (o ∷ os) c = here (ℕ_discrete o.0 x) (λ q. rest_in x y v os q)
@@ -234,6 +235,7 @@ module _ (key : Key) (w : World) (st : table.State Slot View) (id : ℕ) (v : Vi
             | no ne ↦ at_else y n a (λ b c. ne b) at own''
           ])
 
+-- recording a cached access keeps the rule
 pub caches : (key : Key) (w : World) (st : table.State Slot View) (id : ℕ) (v : View) (s : Shelf) (x k : ℕ) (write : Bool) (value : ℤ) → v.shelves ≡ s ∷ [] → MayCache s v x k write value → Holds key w st → get_elem? st.views id ≡ some v
     → Holds key w (record { words = st.words; homes = st.homes; views = set st.views id (cached_in v s.thread s.marked x k write value) })
 caches key w st id v s x k write value one may H here =

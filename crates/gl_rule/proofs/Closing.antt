@@ -109,6 +109,7 @@ module _ (key : Key) (w : World) (st : table.State Slot View) (id : ℕ) (v : Vi
   draws_of : (s : Shelf) → Contains v.shelves s → ShelfDraws w.draws [] s
   draws_of s c = subst (λ d. ShelfDraws w.draws d s) none (All-contains (ShelfDraws w.draws v.drawn) v.shelves s mine.numbers.shelves c)
 
+  -- each list has its thread's events
   pub events : (t : ℕ) → AreEvents w.log t (R t)
   events = by_thread (λ t l. AreEvents w.log t l) (λ s c. (fits_of s c).events) (λ t far. record {
     listed = λ i p e ev a q r. absurd (cc);

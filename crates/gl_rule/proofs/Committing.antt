@@ -60,23 +60,29 @@ use Rattle.gl_draws.proofs.Forming.{counted_push}
 use Rattle.gl_rule.proofs.Publishing.{publishes}
 use Rattle.gl_rule.proofs.Raising.{row_tail}
 
+-- equal lists have equal rests
 pub cons_tail : (a c : Draw) (xs ys : List Draw) → a ∷ xs ≡ c ∷ ys → xs ≡ ys
 cons_tail a c xs ys e = cc
 
+-- a choice whose test is true
 pub the_then : (q : Bool) (a c : Option Draw) → q ≡ true → (if q then a else c) ≡ a
 the_then q a c e = rw e refl
 
+-- a choice whose test is false
 pub the_else : (q : Bool) (a c : Option Draw) → q ≡ false → (if q then a else c) ≡ c
 the_else q a c e = rw e refl
 
+-- an open number waits for no look
 pub still_open : (w : What) (o : Option ℤ) → w ≡ Open → IsStill w o → o ≡ None
 still_open w o e s = let z : IsStill Open o = subst (λ a. IsStill a o) e s in z
 
+-- a number that waits for the end of an attempt is open
 pub still_none : (w : What) → IsStill w None → w ≡ Open
 still_none (Looked v) s = absurd (cc)
 still_none Open s = refl
 still_none (Entered e) s = absurd s
 
+-- and one that waits with a look is not
 pub still_some : (w : What) (v : ℤ) → IsStill w (Some v) → w ≡ Open → ⊥
 still_some w v s e = let z : IsStill Open (Some v) = subst (λ a. IsStill a (Some v)) e s in let q : Some v ≡ None = z in cc
 
@@ -114,6 +120,7 @@ module _ (key : Key) (w : World) (b : Board) (id : ℕ) (v : View) (s : Shelf) (
   named_in : (y k : ℕ) → Contains tx.numbers (record { var = y; nth = k }) → is_in y ys ≡ true
   named_in y k c = contains-is_in y ys (subst (λ l. Contains l y) may.names.variables (map_contains (λ n. n.var) tx.numbers (record { var = y; nth = k }) c))
 
+  -- the numbers that wait are those of the transaction
   pub are_of : AreOf w.draws s.thread p (length w.log) tx s.marked v.drawn
   are_of = record {
     heads = λ y c. let r = open_row y c in (r.0, r.1, number_of y r.0 r.1);
@@ -166,6 +173,7 @@ module _ (key : Key) (w : World) (b : Board) (id : ℕ) (v : View) (s : Shelf) (
       by false c = ap length (after_out y c)
       by true c = let r = open_row y c in ap length (after_in y c r.0 r.1) ∙ sym (ap length r.1)
 
+  -- the counters count the draws after the commit as before
   pub numbers_after : (count : ℕ → ℕ) → NumbersHold count w.draws → NumbersHold count after
   numbers_after count k = record { counts = λ y near. k.counts y near ∙ sym (same_length y); threads = λ y f among. among_after y f among; few = λ y u. subst (λ z. z ≤ 2 ^ 51 + 2) (sym (same_count u y)) (k.few y u) }
     where
@@ -201,6 +209,7 @@ module _ (key : Key) (w : World) (b : Board) (id : ℕ) (v : View) (s : Shelf) (
       let q = may.asks y in
       commit_holds key.setting l more fit.now fit.allowed s.thread running (length (l ++ more)) refl tx y (open_row y c).0 all (may.rows y c).row (f.stands y c) (within y c) (question y) q.0 q.1 (is_in-contains y ys c) (q.2 (length (l ++ more))) none (number_of y (open_row y c).0 (open_row y c).1) (may.words y c)
 
+  -- what is said of each draw is right with the commit in the place of its open numbers
   pub commit_right : (now : State) → Allows key.setting w.log now → ((y : ℕ) → DrawsHold w.log y (w.draws y)) → (y : ℕ) → DrawsHold (w.log ++ record { thread = s.thread; event = Commits (variables_of tx) } ∷ []) y (after y)
   commit_right now allowed verdicts y = by (is_in y ys) refl
     where
@@ -219,6 +228,7 @@ module _ (key : Key) (w : World) (b : Board) (id : ℕ) (v : View) (s : Shelf) (
       by false c = subst (λ l. DrawsHold (w.log ++ record { thread = s.thread; event = Commits (variables_of tx) } ∷ []) y l) (sym (after_out y c)) (draws_grow w.log (record { thread = s.thread; event = Commits (variables_of tx) } ∷ []) y (w.draws y) (verdicts y))
       by true c = subst (λ l. DrawsHold (w.log ++ record { thread = s.thread; event = Commits (variables_of tx) } ∷ []) y l) (sym (after_in y c (open_row y c).0 (open_row y c).1)) (seen c)
 
+  -- a variable's draws stay, or its row is held
   pub elsewhere : (y : ℕ) → (after y ≡ w.draws y) ⊎ HasObject v (suc y)
   elsewhere y = by (is_in y ys) refl
     where
@@ -226,6 +236,7 @@ module _ (key : Key) (w : World) (b : Board) (id : ℕ) (v : View) (s : Shelf) (
       by false c = inl (after_out y c)
       by true c = let r = may.rows y c in inr (r.one, r.held, r.object)
 
+  -- another thread's numbers stay
   pub numbers_foreign : (r : Shelf) (drawn : List Drawn) → r.thread ≢ s.thread → ShelfDraws w.draws drawn r → ShelfDraws after drawn r
   numbers_foreign r drawn apart k = record {
     numbers = drawn_foreign w.draws s.thread p (length w.log) tx (λ y c. let q = open_row y c in (q.0, q.1)) r.thread r.marked drawn apart k.numbers;
@@ -235,6 +246,7 @@ module _ (key : Key) (w : World) (b : Board) (id : ℕ) (v : View) (s : Shelf) (
     runs = k.runs;
   }
 
+  -- the thread's own numbers have their entry now
   pub numbers_own : ShelfDraws after [] (shelf s.thread (s.marked ++ Commit (length w.log) tx ∷ []))
   numbers_own = record {
     numbers = drawn_commit w.draws s.thread p (length w.log) tx s.marked v.drawn draws.numbers are_of;
@@ -244,6 +256,7 @@ module _ (key : Key) (w : World) (b : Board) (id : ℕ) (v : View) (s : Shelf) (
     runs = λ o has. absurd (let l = has.1 in omega arith);
   }
 
+  -- a held row stands for the draws below the commit
   pub held_after : (new : State) (g : Held) (y : ℕ) (row : Row) → Contains v.held g → g.object ≡ suc y → RowHeld key.setting w y g.drew row
       → RowHeld key.setting (record w { log = w.log ++ record { thread = s.thread; event = Commits (variables_of tx) } ∷ []; now = new; draws = after }) y (drew_commit (variables_of tx) d g) row
   held_after new g y row has is r = by (is_in y ys) refl
@@ -260,6 +273,7 @@ module _ (key : Key) (w : World) (b : Board) (id : ℕ) (v : View) (s : Shelf) (
           let was : w.draws y ≡ draw s.thread p Open ∷ r.before = r.draws_are ∙ ap (λ z. with_draw z r.before) (may.each g y has is c) in
           rw o (record { before = r.before; draws_are = after_in y c r.before was; stands = row_grows key.setting w.log (record { thread = s.thread; event = Commits (variables_of tx) } ∷ []) y r.before row r.stands })
 
+  -- what is said of refused attempts goes on to hold
   pub refused_after : ((y : ℕ) → RefusalsHold w.log (w.until y) y (w.draws y)) → (y : ℕ) → RefusalsHold (w.log ++ record { thread = s.thread; event = Commits (variables_of tx) } ∷ []) (w.until y) y (after y)
   refused_after all y = by (is_in y ys) refl
     where
@@ -274,6 +288,7 @@ module _ (key : Key) (w : World) (b : Board) (id : ℕ) (v : View) (s : Shelf) (
           subst (λ l. RefusalsHold (w.log ++ record { thread = s.thread; event = Commits (variables_of tx) } ∷ []) (w.until y) y l) (sym (after_in y c r.0 r.1))
           (refusals_commit w.log (record { thread = s.thread; event = Commits (variables_of tx) } ∷ []) (w.until y) y r.0 (length w.log) tx old, refusals_grow w.log (record { thread = s.thread; event = Commits (variables_of tx) } ∷ []) (w.until y) y r.0 old)
 
+  -- the draws below what was drawn on a held row are as before
   pub behind_same : (g : Held) (y : ℕ) (ds : List Draw) → Contains v.held g → g.object ≡ suc y → after y ≡ with_draw (drew_commit (variables_of tx) d g) ds → w.draws y ≡ with_draw g.drew ds
   behind_same g y ds has is e = by (is_in y ys) refl
     where
@@ -288,6 +303,7 @@ module _ (key : Key) (w : World) (b : Board) (id : ℕ) (v : View) (s : Shelf) (
           let same : r.0 ≡ ds = cons_tail d d r.0 ds cons in
           r.1 ∙ ap (λ l. draw s.thread p Open ∷ l) same ∙ sym (ap (λ z. with_draw z ds) (may.each g y has is c))
 
+  -- a draw of the thread has its repeats as before, or is the commit and has none
   pub repeats_after : (y k : ℕ) (g : Draw) → DrawAt (after y) k g → g.thread ≡ s.thread → DrawAt (w.draws y) k g ⊎ ((g.repeats ≡ []) × (repeats_of y k s.marked ≡ []))
   repeats_after y k g at own = by (is_in y ys) refl
     where
@@ -300,6 +316,7 @@ module _ (key : Key) (w : World) (b : Board) (id : ℕ) (v : View) (s : Shelf) (
             | inr old ↦ inl (subst (λ l. DrawAt l k g) (sym r.1) (inr old))
           ]
 
+  -- the last write of an owed variable is as before
   pub calm_after : (now : State) → Allows key.setting w.log now → ((y : ℕ) → DrawsHold w.log y (w.draws y)) → (shelves : List Shelf) (y : ℕ) → OwedOne w.draws shelves y → ((r : Shelf) → Contains shelves r → (s.thread ≢ r.thread) × AreEvents w.log r.thread r.marked) → last_write y (after y) ≡ last_write y (w.draws y)
   calm_after now allowed verdicts shelves y o other = by (is_in y ys) refl
     where
@@ -315,6 +332,7 @@ module _ (key : Key) (w : World) (b : Board) (id : ℕ) (v : View) (s : Shelf) (
           let calm = calm_write (w.log ++ record { thread = s.thread; event = Commits (variables_of tx) } ∷ []) w.draws shelves y d r.0 o last (λ q has. let a = other q has in (a.0, events_other w.log q.thread q.marked a.1 (record { thread = s.thread; event = Commits (variables_of tx) }) a.0)) right in
           ap (last_write y) (after_in y c r.0 r.1) ∙ write_past y d r.0 calm ∙ sym (ap (last_write y) r.1 ∙ write_past y (draw s.thread p Open) r.0 refl)
 
+  -- and nothing was performed behind it
   pub calmly_after : (now : State) → Allows key.setting w.log now → ((y : ℕ) → DrawsHold w.log y (w.draws y)) → (shelves : List Shelf) (y : ℕ) → OwedOne w.draws shelves y → ((r : Shelf) → Contains shelves r → (s.thread ≢ r.thread) × AreEvents w.log r.thread r.marked) → IsCalm y (w.draws y) → IsCalm y (after y)
   calmly_after now allowed verdicts shelves y o other calm = by (is_in y ys) refl
     where
@@ -326,6 +344,7 @@ module _ (key : Key) (w : World) (b : Board) (id : ℕ) (v : View) (s : Shelf) (
           let last : last_write y r.0 ≡ Some o.draw = sym (write_past y (draw s.thread p Open) r.0 refl) ∙ ap (last_write y) (sym r.1) ∙ o.last in
           absurd (calm_any (w.log ++ record { thread = s.thread; event = Commits (variables_of tx) } ∷ []) w.draws shelves y d r.0 o last (λ q has. let a = other q has in (a.0, events_other w.log q.thread q.marked a.1 (record { thread = s.thread; event = Commits (variables_of tx) }) a.0)) right (Commit (length w.log) tx) refl tt)
 
+-- publishing a commit keeps the rule
 pub publishes_commit : (key : Key) (slots id : ℕ) (v : View) (c : List (ℕ × Slot)) (s : Shelf) (h : Held) (l l' : ListView) (tx : Tx) (p m : ℕ) (question : ℕ → Question) → v.shelves ≡ s ∷ [] → MayCommit key.setting s v tx p m question
     → MayPublish key s v h l l' (λ n. Commit n tx) (record { thread = s.thread; event = Commits (variables_of tx) }) (pos 0)
     → table.Allows (Rule key) slots id (v, c) 0 (λ n. (n + 1) % 2 ^ 64) (Published s (λ n. Commit n tx) (record { thread = s.thread; event = Commits (variables_of tx) }) (slot.List l') (λ n g. drew_commit (variables_of tx) (draw s.thread n (Entered (Commit n tx))) g) v c)

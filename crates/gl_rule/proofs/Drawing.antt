@@ -22,24 +22,29 @@ module _ (draws : ℕ → List Draw) (x : ℕ) (d : Draw) where
   abbrev next : ℕ → List Draw
   next = with_at draws x (d ∷ draws x)
 
+  -- the draws of x have one more
   pub next_here : next x ≡ d ∷ draws x
   next_here = with_here draws x (d ∷ draws x)
 
+  -- those of another variable stay
   pub next_else : (y : ℕ) → y ≢ x → next y ≡ draws y
   next_else y other = with_else draws x y (d ∷ draws x) other
 
+  -- another thread's count stays
   pub count_same : (t y : ℕ) → d.thread ≢ t → count_by t (next y) ≡ count_by t (draws y)
   count_same t y other = elim (ℕ_discrete y x) [
     | yes e ↦ ap (λ z. count_by t (next z)) e ∙ ap (count_by t) next_here ∙ count_other t d (draws x) other ∙ ap (λ z. count_by t (draws z)) (sym e)
     | no ne ↦ ap (count_by t) (next_else y ne)
   ]
 
+  -- the thread's own grows by one at most
   pub count_up : (y : ℕ) → count_by d.thread (next y) ≤ suc (count_by d.thread (draws y))
   count_up y = elim (ℕ_discrete y x) [
     | yes e ↦ (let a = ap (λ z. count_by d.thread (next z)) e ∙ ap (count_by d.thread) next_here ∙ count_own d.thread d (draws x) refl in let b = ap (λ z. count_by d.thread (draws z)) e in omega arith)
     | no ne ↦ (let a = ap (count_by d.thread) (next_else y ne) in omega arith)
   ]
 
+  -- on another variable all counts stay
   pub count_elsewhere : (t y : ℕ) → y ≢ x → count_by t (next y) ≡ count_by t (draws y)
   count_elsewhere t y ne = ap (count_by t) (next_else y ne)
 
@@ -61,6 +66,7 @@ module _ (draws : ℕ → List Draw) (x : ℕ) (d : Draw) where
       from e (inl same) = subst (λ (z : Draw). z.thread < THREADS) (sym same) named
       from e (inr among) = p.threads x e among
 
+  -- another thread's numbers stay
   pub numbers_other : (r : Shelf) (drawn : List Drawn) → d.thread ≢ r.thread → ShelfDraws draws drawn r → ShelfDraws next drawn r
   numbers_other r drawn other k = record { numbers = drawn_other draws x d r.thread r.marked drawn other k.numbers; few = λ y. let c = count_same r.thread y other in let g = k.few y in omega arith; two = k.two; above = k.above; runs = k.runs }
 
@@ -142,6 +148,7 @@ module _ (draws : ℕ → List Draw) (drawn : List Drawn) (s : Shelf) (x p : ℕ
       fresh : (y n : ℕ) (f : Draw) → (y ≡ x) × (n ≡ length (draws x)) × (f ≡ d) → IsKept s.marked (drawn ++ o ∷ []) y n f
       fresh y n f e = subst (λ a. IsKept s.marked (drawn ++ o ∷ []) a n f) (sym e.0) (subst (λ a. IsKept s.marked (drawn ++ o ∷ []) x a f) (sym e.1) (subst (λ a. IsKept s.marked (drawn ++ o ∷ []) x (length (draws x)) a) (sym e.2) (in_flight look (in_last drawn o) still)))
 
+  -- a number more waits for its entry
   pub numbers_open : count_on x drawn ≤ 1 → last_position s.marked ≡ Some p → ((i : ℕ) (e : Entry) → At s.marked i e → Rattle.gl_model.specs.Form.IsEnd e → ⊥) → ShelfDraws (with_at draws x (d ∷ draws x)) (drawn ++ o ∷ []) s
   numbers_open room last goes_on = record {
     numbers = drawn_open;

@@ -6,6 +6,7 @@ use Rattle.atomic_table.proofs.Lists.{at_set}
 use Rattle.gl_rule.specs.Each.{Each}
 
 module _ {V : Type 0} where
+  -- what stands in a list has a place in it
   pub at_within : (l : List V) (j : ℕ) (v : V) → get_elem? l j ≡ some v → j < length l
   at_within [] j v e = absurd (some-ne-none v (sym e))
   at_within (x ∷ xs) zero v e = omega arith
@@ -38,6 +39,7 @@ module _ {V : Type 0} where
           (λ (t : (j ≡ length l) × (w ≡ u)). subst (λ i. Q i u) (sym t.0) (subst (λ x. Q (length l) x) t.1 new))
           (snoc_cases l w u j e)
 
+  -- what is set twice has the second value
   pub set_twice : (l : List V) (id : ℕ) (a b : V) → set (set l id a) id b ≡ set l id b
   set_twice [] id a b = refl
   set_twice (x ∷ xs) zero a b = refl

@@ -100,6 +100,7 @@ pub record LastEnd (es : List Entry) : Type 0 where
   pub is_over : IsOver over
   pub long : length es ≡ suc (suc index)
 
+-- a list that ends with Over has its End just before
 pub last_end : (t : ℕ) (es : List Entry) → IsFormed t es → EndsOver es → LastEnd es
 last_end t es f ends = by ends.0 ends.1.0 ends.1.1 ends.1.2
   where
@@ -121,6 +122,7 @@ done_left es q r (inl e) = inl e
 done_left es true r (inr e) = inr (e.0, refl)
 done_left es false r (inr e) = absurd (let z = e.1 in cc)
 
+-- what is done by the second view's quiet is done by both
 pub done_right : (es : List Entry) (q r : Bool) → IsDone es r → IsDone es (q || r)
 done_right es q r (inl e) = inl e
 done_right es true r (inr e) = inr (e.0, refl)
@@ -170,6 +172,7 @@ module _ (key : Key) (w : World) (st : table.State Slot View) (id : ℕ) (v : Vi
       over_not : (i : ℕ) (e : Entry) → At s.marked i e → position_of e ≡ Some p → (l : LastEnd s.marked) → i ≡ suc l.index → ⊥
       over_not i e at q l same = let is : e ≡ l.over = some_is e l.over (sym (subst (λ n. At s.marked n e) same at) ∙ l.behind) in let z : None ≡ Some p = sym (over_place l.over l.is_over) ∙ sym (ap position_of is) ∙ q in cc
 
+  -- where a list is done no number waits
   pub drew_all : v.drawn ≡ []
   drew_all = none_of v.drawn (λ o c. let r = draws.runs o c in elim done [
     | inl ends ↦ (let l = last_end s.thread s.marked fits.form ends in r.2 l.index l.entry l.there l.is)
@@ -189,10 +192,12 @@ module _ (key : Key) (w : World) (st : table.State Slot View) (id : ℕ) (v : Vi
         | inr e ↦ no_block q.draw.block e.0 last
       ]
 
+  -- nor is a word stored in the tail's cell
   pub stored_none : v.stored ≡ []
   stored_none = elim mine.ring.by_holder [ inl z ↦ z | inr o ↦ absurd (let c = o.1.1 in let z : length v.held ≡ 0 = ap length idle in omega arith) ]
 
 module _ (key : Key) (w : World) (st : table.State Slot View) (id : ℕ) (v : View) (H : Holds key w st) (here : get_elem? st.views id ≡ some v) (idle : v.held ≡ []) (all_done : (s : Shelf) → Contains v.shelves s → IsDone s.marked v.quiet) where
+  -- nor is a word owed
   pub paid_all : v.owed ≡ []
   paid_all = none_of v.owed (λ o c.
       let q : OwedOne w.draws v.shelves o.0 = (H.views.at id v here).owed.owes o.0 o.1 c in
@@ -243,9 +248,11 @@ module _ (key : Key) (w : World) (st : table.State Slot View) (id : ℕ) (v : Vi
   its : Fits key (board (capacity key) st.words) w id v
   its = H.views.at id v here
 
+  -- so of the seat that has all lists
   pub none : v.drawn ≡ []
   none = let s = all 0 (omega arith) in drew_all key w st id v H here idle done s.0 s.1
 
+  -- it owes nothing
   pub paid : v.owed ≡ []
   paid = paid_all key w st id v H here idle done
 
@@ -317,6 +324,7 @@ module _ (key : Key) (w : World) (st : table.State Slot View) (id : ℕ) (v : Vi
         | inr r ↦ r.1 s.0 s.1 s.2
       ]
 
+  -- each list that is not empty ends with Over
   pub ends_over : (t : ℕ) → lists_in v.shelves t ≢ [] → EndsOver (lists_in v.shelves t)
   ends_over t full = elim (shelf_at v.shelves t) [
     | inl r ↦ elim (done r.0 r.1) [ inl ends ↦ subst EndsOver (sym r.3) ends | inr q ↦ absurd (full (r.3 ∙ q.0)) ]

@@ -35,6 +35,7 @@ pub record Facts (setting : Setting) (seat : ℕ → ℕ) (j : ℕ) (s : Shelf) 
   pub shelf : ShelfFits log seat j s
   pub knowledge : KnowledgeFits hold log v
 
+-- the table's list up to n fits the pass, where its own events are below n
 pub front_fits_at : (setting : Setting) (s : Shelf) (n : ℕ) (known : List (ℕ × Stamp)) (now : State) (l more : List Stamp) → length l ≡ n → Allows setting (l ++ more) now → Rattle.gl_draws.specs.Events.AreEvents (l ++ more) s.thread s.marked → AreBelow n s
     → Rattle.std.specs.List.All (λ (k : ℕ × Stamp). slice_get (l ++ more) k.0 ≡ Some k.1) known → IsFitting setting s n known l
 front_fits_at setting s n known now l more long allowed events low k =
@@ -46,9 +47,11 @@ front_fits_at setting s n known now l more long allowed events low k =
       own = events_front (l ++ more) s.thread s.marked events l more refl (λ i p e a b. let b' = low i p e a b in omega arith);
     }
 
+-- so does that up to what was seen
 pub front_fits : (setting : Setting) (seat : ℕ → ℕ) (j : ℕ) (s : Shelf) (v : View) (hold : ℕ → ℕ) (l more : List Stamp) → length l ≡ v.seen → Facts setting seat j s v hold (l ++ more) → IsFitting setting s v.seen v.known l
 front_fits setting seat j s v hold l more long f = front_fits_at setting s v.seen v.known f.now l more long f.allowed f.shelf.events (only_shelf (AreBelow v.seen) v s f.one f.knowledge.own) f.knowledge.known
 
+-- the Infos of a row that stands, and lies within the front, stand for accesses over the front
 pub infos_front : (setting : Setting) (l more : List Stamp) (x : ℕ) (ds : List Draw) (row : Row) → RowStands setting (l ++ more) x ds row → IsWithin row (length l) → InfosStand setting l row
 infos_front setting l more x ds row s w = record {
   last_write = λ i e. let d = of_write setting (l ++ more) true row.last_write (last_write x ds) i s.last_write e in (access_of d.0, info_front setting l more i (access_of d.0) true (w.last_write i e) d.2);
@@ -73,6 +76,7 @@ module _ (setting : Setting) (seat : ℕ → ℕ) (j : ℕ) (s : Shelf) (v : Vie
       let within : IsWithin taken (length l) = within_seen taken right.fresh.0 (length l) (omega arith) fresh.1 in
       row_grows setting l more x (with_draw h.drew ds) row (right.follows l fits ds (row_front setting l more x ds taken within p.stands))
 
+  -- a row that follows the taken one stands over the table's list
   pub put_stands : (log : List Stamp) → Facts setting seat j s v hold log → RowStands setting log x ds taken → ((n : ℕ) → Contains h.tails n → (n ≤ v.seen) × IsWithin taken n) → RowStands setting log x (with_draw h.drew ds) row
   put_stands log f stands tails =
       let is : log ≡ take v.seen log ++ drop v.seen log = sym (take-append-drop v.seen log) in

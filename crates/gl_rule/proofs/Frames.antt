@@ -52,6 +52,7 @@ turns_step turn turn' holder holder' id views v u here named step p = record { n
           | no ne ↦ (b.0, ap (get_elem? (set views id u)) a.0 ∙ set_else views id (holder k) u ne ∙ b.1, b.2)
         ]
 
+-- turns of the whole table stay where the new view holds what the old one did
 pub turns_kept : (turn turn' holder : ℕ → ℕ) (id : ℕ) (views : List View) (v u : View) → get_elem? views id ≡ some v → ((k : ℕ) → k < objects → turn' k ≡ turn k) → ((k : ℕ) → HasObject v k → HasObject u k) → TurnsHold turn holder views → TurnsHold turn' holder (set views id u)
 turns_kept turn turn' holder id views v u here same keeps p = turns_step turn turn' holder holder id views v u here (λ k near. subst (λ n. n ≤ THREADS) (sym (same k near)) (p.named k near)) (λ k near nz. inr (refl, (λ z. nz (same k near ∙ z)), keeps k)) p
 
@@ -64,6 +65,7 @@ stands_at setting w hold hold' zero (slot.Row r) e s = absurd s
 stands_at setting w hold hold' (suc x) slot.Empty e s = absurd s
 stands_at setting w hold hold' (suc x) (slot.List l) e s = absurd s
 
+-- a held object's value stands by its own hold alone
 pub held_at : (setting : Setting) (w : World) (hold hold' : ℕ → ℕ) (drew : Option Draw) (k : ℕ) (y : Slot) → hold' k ≡ hold k → StandsHeld setting w hold drew k y → StandsHeld setting w hold' drew k y
 held_at setting w hold hold' drew zero (slot.List l) e s = s
 held_at setting w hold hold' drew (suc x) (slot.Row row) e s = (s.0, subst (IsAbove row) (sym e) s.1)
@@ -72,6 +74,7 @@ held_at setting w hold hold' drew zero (slot.Row r) e s = absurd s
 held_at setting w hold hold' drew (suc x) slot.Empty e s = absurd s
 held_at setting w hold hold' drew (suc x) (slot.List l) e s = absurd s
 
+-- so does what its tails say
 pub tail_at : (long seen : ℕ) (hold hold' : ℕ → ℕ) (k n : ℕ) (y : Slot) → hold' k ≡ hold k → TailFits long hold seen k y n → TailFits long hold' seen k y n
 tail_at long seen hold hold' zero n y e s = s
 tail_at long seen hold hold' (suc x) n (slot.Row row) e s = (s.0, s.1, subst (λ m. m ≤ n) (sym e) s.2)
@@ -94,6 +97,13 @@ stands_held setting w hold zero (slot.Row r) s = absurd s
 stands_held setting w hold (suc x) slot.Empty s = absurd s
 stands_held setting w hold (suc x) (slot.List l) s = absurd s
 
+-- what is said of a held object's hold goes on where the hold stays
+pub floor_moves : (hold hold' : ℕ → ℕ) (h : Held) → (h.object ≢ 0 → hold' h.object ≡ hold h.object) → FloorFits hold h → FloorFits hold' h
+floor_moves hold hold' h same f = record {
+  exact = λ n e. let q = f.exact n e in (same q.1 ∙ q.0, q.1);
+  named = λ row i is has none nz. subst (λ m. m ≤ i.pos) (sym (same nz)) (f.named row i is has none nz);
+}
+
 -- a word that is no hold and no cell changes: of a view only its turns can change
 pub fits_board : (key : Key) (b b' : Board) (w : World) (holder' : ℕ → ℕ) (j : ℕ) (v : View) → SameHolds b b' → SameCells b b' → TurnsFit b'.turn holder' j v → Fits key b w j v → Fits key b' (record w { holder = holder' }) j v
 fits_board key b b' w holder' j v holds cells turns f =
@@ -113,7 +123,7 @@ fits_board key b b' w holder' j v holds cells turns f =
         loaded = f.knowledge.loaded;
       };
       ring = record {
-        floors = both_map O (FloorFits b.hold) (FloorFits b'.hold) v.held (λ h a t n e. (named h a ∙ (t n e).0, (t n e).1)) turns.held f.ring.floors;
+        floors = both_map O (FloorFits b.hold) (FloorFits b'.hold) v.held (λ h a t. floor_moves b.hold b'.hold h (λ nz. named h a) t) turns.held f.ring.floors;
         stored = λ i near. cells (length w.log) i ∙ f.ring.stored i near;
         few = f.ring.few;
         by_holder = f.ring.by_holder;
@@ -133,6 +143,7 @@ fits_board key b b' w holder' j v holds cells turns f =
     held_same setting w holder' hold hold' drew (suc x) slot.Empty e s = absurd s
     held_same setting w holder' hold hold' drew (suc x) (slot.List l) e s = absurd s
 
+-- a value at home stands whoever holds what, by its own hold alone
 pub stands_same : (setting : Setting) (w : World) (holder' hold hold' : ℕ → ℕ) (k : ℕ) (y : Slot) → hold' k ≡ hold k → Stands setting w hold k y → Stands setting (record w { holder = holder' }) hold' k y
 stands_same setting w holder' hold hold' zero (slot.List l) e s = s
 stands_same setting w holder' hold hold' (suc x) (slot.Row row) e s = (s.0, subst (IsAbove row) (sym e) s.1)
@@ -141,6 +152,7 @@ stands_same setting w holder' hold hold' zero (slot.Row r) e s = absurd s
 stands_same setting w holder' hold hold' (suc x) slot.Empty e s = absurd s
 stands_same setting w holder' hold hold' (suc x) (slot.List l) e s = absurd s
 
+-- a view's turns stay where the turns do
 pub turns_same : (turn turn' holder : ℕ → ℕ) (j : ℕ) (v : View) → ((k : ℕ) → k < objects → turn' k ≡ turn k) → TurnsFit turn holder j v → TurnsFit turn' holder j v
 turns_same turn turn' holder j v same f = record { held = all_map (HeldOne turn holder j v.shelves) (HeldOne turn' holder j v.shelves) v.held (λ h a. record { named = a.named; here = a.here; shelf = a.shelf; one = a.one; busy = same h.object a.named ∙ a.busy }) f.held }
 

@@ -7,19 +7,24 @@ use native.Mathlib.Decide.{ℕ_discrete}
 use Rattle.gl_rule.specs.View.{Held, View, Shelf, HasObject, without}
 
 module _ {X : Type 0} where
+  -- what holds of each follows of each
   pub all_map : (P Q : X → Type 0) (xs : List X) → ((x : X) → P x → Q x) → All P xs → All Q xs
   all_map P Q xs f all k d near = f _ (all k d near)
 
+  -- two facts of each give a third
   pub both_map : (P Q R : X → Type 0) (xs : List X) → ((x : X) → P x → Q x → R x) → All P xs → All Q xs → All R xs
   both_map P Q R xs f a b k d near = f _ (a k d near) (b k d near)
 
+  -- what holds of each gives a fact of each image
   pub all_mapped : (f : X → X) (P Q : X → Type 0) (xs : List X) → ((x : X) → P x → Q (f x)) → All P xs → All Q (map f xs)
   all_mapped f P Q [] g all = All-nil Q
   all_mapped f P Q (x ∷ xs) g all = All-cons Q (f x) (map f xs) (g x (All-head P x xs all)) (all_mapped f P Q xs g (All-tail P x xs all))
 
+  -- what is in a list is in a longer one
   pub in_cons : (x : X) (xs : List X) (y : X) → Contains xs y → Contains (x ∷ xs) y
   in_cons x xs y c = (suc c.0, omega arith, c.2)
 
+  -- the image of what is in a list is in the list of images
   pub in_mapped : (f : X → X) (xs : List X) (y : X) → Contains xs y → Contains (map f xs) (f y)
   in_mapped f [] y c = absurd (let l = c.1 in omega arith)
   in_mapped f (x ∷ xs) y (zero, l, e) = (zero, omega arith, ap f e)
@@ -55,5 +60,6 @@ has_after k v h g same has = elim (ℕ_discrete has.0.object h.object) [
 pub only_shelf : (P : Shelf → Type 0) (v : View) (s : Shelf) → v.shelves ≡ s ∷ [] → All P v.shelves → P s
 only_shelf P v s one all = All-head P s [] (subst (λ l. All P l) one all)
 
+-- a fact of the one shelf is one of all
 pub one_shelf : (P : Shelf → Type 0) (s : Shelf) → P s → All P (s ∷ [])
 one_shelf P s p = All-cons P s [] p (All-nil P)

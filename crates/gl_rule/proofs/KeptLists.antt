@@ -13,6 +13,7 @@ none_below : (t n : ℕ) (ss : List Shelf) → n ≡ t → AllByRecursion (λ u.
 none_below t n [] e all = refl
 none_below t n (s ∷ ss) e all = let b : (s.thread == t) ≡ false = ne_eqb s.thread t (λ z. let l = all.0 in omega arith) in rw b (none_below t n ss e all.1)
 
+-- the record of these lists has them, by thread
 pub kept_are : (ss : List Shelf) (t : ℕ) → Rises (map (λ (s : Shelf). s.thread) ss) → lists_of (kept_lists ss) t ≡ lists_in ss t
 kept_are [] t rises = refl
 kept_are (s ∷ ss) t rises = by (kept_are ss t rises.1) s.marked refl (s.thread == t) refl

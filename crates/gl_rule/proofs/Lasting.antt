@@ -69,9 +69,11 @@ none_of P here life [] run i e at h = absurd (cc)
 none_of P here life (x ∷ es) run zero e at h = here life x es run (subst P (sym (some_same x e at)) h)
 none_of P here life (x ∷ es) run (suc i) e at h = none_of P here (life_after life x) es run i e at h
 
+-- a list whose life is running has no End
 pub no_end : (es : List Entry) → life_of es ≡ Running → (i : ℕ) (e : Entry) → At es i e → IsEnd e → ⊥
 no_end es run i e at h = none_of IsEnd no_end_here Unbegun es run i e at h
 
+-- nor Over
 pub no_over : (es : List Entry) → life_of es ≡ Running → (i : ℕ) (e : Entry) → At es i e → IsOver e → ⊥
 no_over es run i e at h = none_of IsOver no_over_here Unbegun es run i e at h
 
@@ -79,6 +81,7 @@ or_some : (o : _) (p : ℕ) → (q : ℕ) × (or_else o (Some p) ≡ Some q)
 or_some None p = (p, refl)
 or_some (Some q) p = (q, refl)
 
+-- it has an event
 pub has_block : (es : List Entry) → life_of es ≡ Running → (p : ℕ) × (last_position es ≡ Some p)
 has_block [] run = absurd (cc)
 has_block (Sync a b c ∷ es) run = or_some (last_position es) a

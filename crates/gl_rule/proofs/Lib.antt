@@ -28,3 +28,5 @@ pub mod Storing
 pub mod Trimming
 pub mod Turning
 pub mod Words
+pub mod Safety
+pub mod Agreeing

@@ -31,6 +31,7 @@ use Rattle.gl_rule.specs.Told.{SawTail, Saw, SawCell, SawEvent}
 use Rattle.gl_rule.proofs.HeldLists.{all_map, both_map, all_mapped, in_mapped}
 use Rattle.gl_rule.proofs.Frames.{reviews, loads_word, fits_saw}
 
+-- events below n are below what is at least n
 pub below_more : (n m : ℕ) (s : Shelf) → n ≤ m → AreBelow n s → AreBelow m s
 below_more n m s le b i p e a q = let r = b i p e a q in omega arith
 
@@ -41,12 +42,18 @@ tail_new setting w hold (suc x) (slot.Row row) drew m is near up st = (omega ari
 tail_new setting w hold (suc x) slot.Empty drew m is near up st = absurd st
 tail_new setting w hold (suc x) (slot.List l) drew m is near up st = absurd st
 
+-- a tail that the list's holder has seen since it took the list is the tail
+pub tail_zero : (long seen : ℕ) (hold : ℕ → ℕ) (k n : ℕ) (y : Slot) → k ≡ 0 → TailFits long hold seen k y n → n ≡ long
+tail_zero long seen hold k n y e t = let a : TailFits long hold seen 0 y n = subst (λ z. TailFits long hold seen z y n) e t in a
+
+-- what a tail says stays where more was seen
 pub tail_later : (long : ℕ) (hold : ℕ → ℕ) (seen m k n : ℕ) (y : Slot) → seen ≤ m → TailFits long hold seen k y n → TailFits long hold m k y n
 tail_later long hold seen m zero n y le t = t
 tail_later long hold seen m (suc x) n (slot.Row row) le t = let a = t.0 in (omega arith, t.1, t.2)
 tail_later long hold seen m (suc x) n slot.Empty le t = absurd t
 tail_later long hold seen m (suc x) n (slot.List l) le t = absurd t
 
+-- a view that has seen the tail fits
 pub fits_tail : (key : Key) (b : Board) (w : World) (j : ℕ) (v : View) (n : ℕ) → n ≡ length w.log → ((x : ℕ) → x < VARIABLES → b.hold (suc x) ≤ n) → ((x : ℕ) → DrawsHold w.log x (w.draws x)) → Fits key b w j v → Fits key b w j (saw_tail v n)
 fits_tail key b w j v n is up all f =
     let seen = f.knowledge.seen in
@@ -87,6 +94,7 @@ held_within : (setting : Setting) (w : World) (hold : ℕ → ℕ) (drew : _) (r
 held_within setting w hold drew row zero st = absurd st
 held_within setting w hold drew row (suc x) st = stands_within setting w.log x st.0.before row st.0.stands
 
+-- loading the tail keeps the rule
 pub loads_tail : (key : Key) (slots id : ℕ) (v : View) (c : List (ℕ × Slot)) → table.Allows (Rule key) slots id (v, c) 0 (λ n. n) (SawTail v c)
 loads_tail key slots id v c s rule long here fits =
     let w = rule.0 in
@@ -107,6 +115,7 @@ loads_tail key slots id v c s rule long here fits =
         let st : HeldStands key.setting w b.hold h = All-contains (HeldStands key.setting w b.hold) v.held h (rule.1.views.at id v here).values.held has in
         subst (IsWithin row) (sym rule.1.whole.positions.count) (held_within key.setting w b.hold h.drew row h.object (subst (λ z. StandsHeld key.setting w b.hold h.drew h.object z) e st))
 
+-- so does loading a hold
 pub loads_hold : (key : Key) (slots id k : ℕ) (v : View) (c : List (ℕ × Slot)) → k < objects → table.Allows (Rule key) slots id (v, c) (3 * k + 2) (λ n. n) (λ n. Saw (Hold k n) v c)
 loads_hold key slots id k v c near s rule long here fits =
     let w = rule.0 in
@@ -115,6 +124,7 @@ loads_hold key slots id k v c near s rule long here fits =
     let u = saw v (Hold k (b.hold k)) in
     (u, table.keeps, tt, loads_word key s id (3 * k + 2) u (w, reviews key w s id v u here (λ g o. o) H (fits_saw key b w id v (Hold k (b.hold k)) (near, omega arith) (H.views.at id v here))), refl)
 
+-- and the stop word
 pub loads_stop : (key : Key) (slots id : ℕ) (v : View) (c : List (ℕ × Slot)) → table.Allows (Rule key) slots id (v, c) 3075 (λ n. n) (λ n. Saw (Stop n) v c)
 loads_stop key slots id v c s rule long here fits =
     let w = rule.0 in
@@ -141,7 +151,7 @@ walked key w s id p v H here may =
     let m : ℕ = b.hold 0 * key.cells in
     let low' : m ≤ b.hold (suc x) = low in
     let done : b.hold (suc x) ≤ p = elim may.3 [
-      | inl a ↦ (let f : FloorFits b.hold h = All-contains (FloorFits b.hold) v.held h mine.ring.floors may.1 in let e : b.hold (suc x) ≡ a.0 = ap b.hold (sym may.2.1) ∙ (f a.0 a.1).0 in let le = a.2 in omega arith)
+      | inl a ↦ (let f : FloorFits b.hold h = All-contains (FloorFits b.hold) v.held h mine.ring.floors may.1 in let e : b.hold (suc x) ≡ a.0 = ap b.hold (sym may.2.1) ∙ (f.exact a.0 a.1).0 in let le = a.2 in omega arith)
       | inr a ↦ (let st : HeldStands key.setting w b.hold h = All-contains (HeldStands key.setting w b.hold) v.held h mine.values.held may.1 in let q = (above_in key.setting w b.hold h.drew h.object x h.taken may.2.1 st a.0 a.2).at a.1 a.3 in let le = a.4 in omega arith)
     ] in
     let r : m ≤ p = omega arith in r
@@ -188,6 +198,7 @@ seen_within key w s id p v H here may =
     let q = (H.views.at id v here).knowledge.seen in
     let done : v.seen ≤ p + cap = omega arith in done
 
+-- and a word of an event that the pass may walk from
 pub loads_cell : (key : Key) (slots id p i : ℕ) (v : View) (c : List (ℕ × Slot)) → i < 5 → p < v.seen → MayWalk v p → table.Allows (Rule key) slots id (v, c) (cell_at (capacity key) p i) (λ n. n) (SawCell (capacity key) p i v c)
 loads_cell key slots id p i v c few below may s rule long here fits =
     let w = rule.0 in
@@ -204,11 +215,13 @@ get_there [] p near = absurd (omega arith)
 get_there (x ∷ xs) zero near = (x, refl)
 get_there (x ∷ xs) (suc p) near = get_there xs p (omega arith)
 
+-- what holds of each stamp holds of that at a place
 pub all_at : (xs : List Stamp) (p : ℕ) (x : Stamp) → All IsStampInRange xs → slice_get xs p ≡ Some x → IsStampInRange x
 all_at [] p x all e = absurd (cc)
 all_at (y ∷ xs) zero x all e = let same : y ≡ x = cc in subst IsStampInRange same (All-head IsStampInRange y xs all)
 all_at (y ∷ xs) (suc p) x all e = all_at xs p x (All-tail IsStampInRange y xs all) e
 
+-- loading an event's last word tells the event
 pub loads_event : (key : Key) (slots id p : ℕ) (v : View) (c : List (ℕ × Slot)) → p < v.seen → MayWalk v p → table.Allows (Rule key) slots id (v, c) (cell_at (capacity key) p 4) (λ n. n) (SawEvent (capacity key) p v c)
 loads_event key slots id p v c below may s rule long here fits =
     let w = rule.0 in

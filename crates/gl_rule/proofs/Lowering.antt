@@ -126,6 +126,7 @@ rose key w id n to v s up may g cs o f d b t low = record {
 stayed : (w : World) (id n : ℕ) (v : View) (s : Shelf) → ShelfRefusals w.until s → ShelfCarries w.values s → OwedFits w.draws v.owed (s ∷ []) → ShelfFits w.log w.seat id s → ShelfDraws w.draws v.drawn s → AreBelow v.seen s → ShelfTrims w.trims s → LowHolds n w.trims → LowFacts w id v s (shelf s.thread s.marked) w.trims n
 stayed w id n v s g cs o f d b t low = record { thread = refl; owed = o; carries = cs; refusals = g; fits = f; draws = d; below = b; lows = t; low = low; others = λ r ne q. q }
 
+-- raising the first segment that is kept keeps the rule
 pub raises_low : (key : Key) (slots id to : ℕ) (v : View) (c : List (ℕ × Slot)) (s : Shelf) → v.shelves ≡ s ∷ [] → MayTrim key s v to → table.Allows (Rule key) slots id (v, c) 2 (λ n. max n to) (Lowered s to v c)
 raises_low key slots id to v c s one may st rule long here fits =
     let w = rule.0 in

@@ -55,7 +55,7 @@ use Rattle.gl_rule.proofs.Words.{still_long, count_here, count_else, count_turns
 use Rattle.gl_rule.proofs.HeldLists.{all_map, both_map, all_without, has_after, only_shelf, one_shelf}
 use Rattle.gl_rule.proofs.FittingLaws.{Facts, front_fits, infos_front, within_seen}
 use Rattle.gl_draws.proofs.Forming.{formed_push, counted_push, store_running}
-use Rattle.gl_rule.proofs.Frames.{machine_same, turns_kept, turns_same, tail_at, read_at}
+use Rattle.gl_rule.proofs.Frames.{machine_same, turns_kept, turns_same, tail_at, read_at, floor_moves}
 use Rattle.gl_rule.proofs.Publishing.{same_thread, trims_push}
 use Rattle.gl_rule.proofs.Raising.{row_in, row_tail}
 use Rattle.gl_rule.proofs.RingFrames.{ring_same}
@@ -123,6 +123,7 @@ pub record MarkShows (w : World) (id : ℕ) (v : View) (s s' : Shelf) (drawn' : 
   pub repeats : (y k : ℕ) → repeats_of y k s'.marked ≡ repeats_of y k s.marked
   pub refused : (ds : List Draw) → RefusalHolds w.log (w.until x) x d ds
 
+-- drawing a number keeps the rule, whatever it is for, where the shelf afterwards shows what is asked
 pub draws_number : (key : Key) (slots id : ℕ) (v : View) (c : List (ℕ × Slot)) (s : Shelf) (h : Held) (x : ℕ) (taken : Row) (p : ℕ) (what : ℕ → What) (s' : ℕ → Shelf) (drawn' : ℕ → List Drawn) → v.shelves ≡ s ∷ [] → MayDraw s v h x taken p
     → ((w : World) (b : Board) → MarkFacts key w b id v s h x taken → MarkShows w id v s (s' (length (w.draws x))) (drawn' (length (w.draws x))) x (draw s.thread p (what (length (w.draws x)))))
     → table.Allows (Rule key) slots id (v, c) (3 * h.object) (λ n. (n + 1) % 2 ^ 64) (λ n u. (n + 1 < 2 ^ 64) × (u ≡ (marked v (s' n) (drawn' n) h (draw s.thread p (what n)), c)))
@@ -198,7 +199,7 @@ draws_number key slots id v c s h x taken p what s' drawn' one may shows st rule
         loaded = mine.knowledge.loaded;
       };
       ring = record {
-        floors = All-cons (FloorFits b'.hold) h' (without k v.held) (λ a e. let q = (All-contains (FloorFits b.hold) v.held h mine.ring.floors may.held) a e in (holds k near ∙ q.0, q.1)) (lift (FloorFits b.hold) (FloorFits b'.hold) (λ g ne a t i e. (holds g.object a.named ∙ (t i e).0, (t i e).1)) mine.ring.floors);
+        floors = All-cons (FloorFits b'.hold) h' (without k v.held) (floor_moves b.hold b'.hold h (λ nz. holds k near) (All-contains (FloorFits b.hold) v.held h mine.ring.floors may.held)) (lift (FloorFits b.hold) (FloorFits b'.hold) (λ g ne a t. floor_moves b.hold b'.hold g (λ nz. holds g.object a.named) t) mine.ring.floors);
         stored = λ i q. cells (length w.log) i ∙ mine.ring.stored i q;
         few = mine.ring.few;
         by_holder = elim mine.ring.by_holder [ inl z ↦ inl z | inr o ↦ inr (has_after 0 v h h' refl o) ];
@@ -266,7 +267,7 @@ draws_number key slots id v c s h x taken p what s' drawn' one may shows st rule
                   reads = all_map (ReadFits b.hold) (ReadFits b'.hold) o.reads (read_at b.hold b'.hold (λ g q. let e = holds g q in omega arith)) f.knowledge.reads;
                   loaded = f.knowledge.loaded;
                 };
-                ring = record { floors = both_map P (FloorFits b.hold) (FloorFits b'.hold) o.held (λ g a t i e. (holds g.object a.named ∙ (t i e).0, (t i e).1)) f.turns.held f.ring.floors; stored = λ i q. cells (length w.log) i ∙ f.ring.stored i q; few = f.ring.few; by_holder = f.ring.by_holder; lows = f.ring.lows };
+                ring = record { floors = both_map P (FloorFits b.hold) (FloorFits b'.hold) o.held (λ g a t. floor_moves b.hold b'.hold g (λ nz. holds g.object a.named) t) f.turns.held f.ring.floors; stored = λ i q. cells (length w.log) i ∙ f.ring.stored i q; few = f.ring.few; by_holder = f.ring.by_holder; lows = f.ring.lows };
                 quiet = f.quiet;
                 carries = f.carries;
                 owed = owed_others w.draws draws' o.owed o.shelves
@@ -314,6 +315,7 @@ module _ (key : Key) (w : World) (b : Board) (id : ℕ) (v : View) (s : Shelf) (
       (may.judged l fits (infos_front key.setting l more x ds taken f.stands within)) may.reads
       (placed_at (l ++ more) s p (Entered (Plain x (length ds) false write value raised)) f.facts.shelf.events may.draws.block may.draws.goes_on (λ e. tt))
 
+  -- what is said of the access is right, by its judgement over each fitting list
   pub mark_right : (ds : List Draw) (log : List Stamp) → ((n : ℕ) → Contains h.tails n → (n ≤ v.seen) × IsWithin taken n) → Facts key.setting w.seat id s v b.hold log → RowStands key.setting log x ds taken → DrawsHold log x ds → DrawsHold log x (draw s.thread p (Entered (Plain x (length ds) false write value raised)) ∷ ds)
   mark_right ds log tails f st verdicts =
       let is : log ≡ take v.seen log ++ drop v.seen log = sym (take-append-drop v.seen log) in
@@ -325,6 +327,7 @@ plain_form : (t x n : ℕ) (write raised : Bool) (value : ℤ) → (raised ≡ t
 plain_form t x n write true value none = (refl, none refl)
 plain_form t x n write false value none = tt
 
+-- so a plain access may draw its number
 pub marks_plain : (key : Key) (slots id : ℕ) (v : View) (c : List (ℕ × Slot)) (s : Shelf) (h : Held) (x : ℕ) (taken : Row) (p : ℕ) (q : Question) (write : Bool) (value : ℤ) (raised : Bool) → v.shelves ≡ s ∷ [] → MayMark key.setting s v h x taken p q write value raised
     → table.Allows (Rule key) slots id (v, c) (3 * h.object) (λ n. (n + 1) % 2 ^ 64) (Marked s h x p write value raised v c)
 marks_plain key slots id v c s h x taken p q write value raised one may =

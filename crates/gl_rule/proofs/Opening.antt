@@ -88,6 +88,7 @@ all_from : (P : Shelf → Type 0) (t n : ℕ) → ((u : ℕ) → t ≤ u → u <
 all_from P t zero f = All-nil P
 all_from P t (suc n) f = All-cons P (shelf t []) (shelves_from (suc t) n) (f t (omega arith) (omega arith)) (all_from P (suc t) n (λ u a b. f u (omega arith) (omega arith)))
 
+-- a table begins with the rule
 pub begins : (key : Key) (l : ListView) → IsStateOf l (start key.setting) → Rule key (table.opening (zero_list (word_count (capacity key))) (first_slots l) (blank sixteen))
 begins key l state =
     let w = first_world key.setting in

@@ -27,10 +27,12 @@ right_nil : (us : List ℤ) → us ++ [] ≡ us
 right_nil [] = refl
 right_nil (u ∷ us) = ap (λ l. u ∷ l) (right_nil us)
 
+-- the repeats of a longer list are those of its last entry before the others
 pub repeats_push : (x k : ℕ) (es : List Entry) (e : Entry) → repeats_of x k (es ++ e ∷ []) ≡ repeat_value x k e ++ repeats_of x k es
 repeats_push x k [] e = sym (right_nil (repeat_value x k e))
 repeats_push x k (a ∷ es) e = ap (λ l. l ++ repeat_value x k a) (repeats_push x k es e) ∙ assoc (repeat_value x k e) (repeats_of x k es) (repeat_value x k a)
 
+-- an entry that repeats nothing leaves them
 pub repeats_kept : (x k : ℕ) (es : List Entry) (e : Entry) → repeat_value x k e ≡ [] → repeats_of x k (es ++ e ∷ []) ≡ repeats_of x k es
 repeats_kept x k es e none = repeats_push x k es e ∙ ap (λ l. l ++ repeats_of x k es) none
 
@@ -128,14 +130,17 @@ owed_others draws draws' owed shelves owes calms numbers f = record {
 pub owed_none : (draws : ℕ → List Draw) → OwedFits draws [] []
 owed_none draws = record { calm = λ x v c. absurd (let l = c.1 in omega arith); late = λ x v c. absurd (let l = c.1 in omega arith); once = λ x v u c. absurd (let l = c.1 in omega arith); owes = λ x v c. absurd (let l = c.1 in omega arith); tied = λ s c. absurd (let l = c.1 in omega arith) }
 
+-- fewer shelves owe no more
 pub owed_sub : (draws : ℕ → List Draw) (xs ys : List Shelf) → ((s : Shelf) → Contains ys s → Contains xs s) → OwedFits draws [] xs → OwedFits draws [] ys
 owed_sub draws xs ys sub f = record { calm = λ x v c. absurd (let l = c.1 in omega arith); late = λ x v c. absurd (let l = c.1 in omega arith); once = f.once; owes = λ x v c. absurd (let l = c.1 in omega arith); tied = λ s c x k d at own. f.tied s (sub s c) x k d at own }
 
+-- what is in two lists together is in one of them
 pub either_in : (xs ys : List Shelf) (s : Shelf) → Contains (xs ++ ys) s → Contains xs s ⊎ Contains ys s
 either_in [] ys s c = inr c
 either_in (x ∷ xs) ys s (zero, l, e) = inl (zero, omega arith, e)
 either_in (x ∷ xs) ys s (suc k, l, e) = elim (either_in xs ys s (k, omega arith, e)) [ inl c ↦ inl (suc c.0, (let q = c.1 in omega arith), c.2) | inr c ↦ inr c ]
 
+-- what two seats owe, of which the second owes nothing
 pub owed_both : (draws : ℕ → List Draw) (owed : List (ℕ × ℤ)) (xs ys : List Shelf) → owed ≡ [] → OwedFits draws owed xs → OwedFits draws [] ys → OwedFits draws owed (xs ++ ys)
 owed_both draws owed xs ys none f g = subst (λ o. OwedFits draws o (xs ++ ys)) (sym none) (let f' : OwedFits draws [] xs = subst (λ o. OwedFits draws o xs) none f in record {
   calm = λ x v c. absurd (let l = c.1 in omega arith);
@@ -149,6 +154,7 @@ owed_both draws owed xs ys none f g = subst (λ o. OwedFits draws o (xs ++ ys)) 
 pub owed_push : (draws : ℕ → List Draw) (owed : List (ℕ × ℤ)) (shelves : List Shelf) (s : Shelf) (e : Entry) → shelves ≡ s ∷ [] → ((o : ℕ × ℤ) → Contains owed o → last_position (s.marked ++ e ∷ []) ≡ last_position s.marked) → ((x k : ℕ) → repeat_value x k e ≡ []) → OwedFits draws owed shelves → OwedFits draws owed (shelf s.thread (s.marked ++ e ∷ []) ∷ [])
 owed_push draws owed shelves s e one same none f = owed_moves draws draws owed shelves s (shelf s.thread (s.marked ++ e ∷ [])) one refl (λ x v c. (refl, same (x, v) c)) (λ x v c q. q) (λ x v k d c at last own. (at, repeats_kept x k s.marked e (none x k))) (λ x k d at own. inl (at, repeats_kept x k s.marked e (none x k))) f
 
+-- an event repeats nothing
 pub event_no_repeat : (e : Entry) (n : ℕ) → Rattle.gl_model.specs.Records.position_of e ≡ Some n → (x k : ℕ) → repeat_value x k e ≡ []
 event_no_repeat (Sync a b c) n p x k = refl
 event_no_repeat (Commit a b) n p x k = refl
@@ -178,9 +184,11 @@ calm_any log draws shelves x d ds o last_is other all e is performed =
     none_behind log x o.draw d ds (Plain x o.number false true o.value false) e all.0 (last_write-among log x ds o.draw last_is).0 o.plain refl tt (refl, refl) (ap Rattle.gl_draws.specs.Draws.variables_in o.plain)
     (λ q z at own. last.upto q z at (own ∙ o.own)) is performed (λ same. s.0 (sym same ∙ o.own))
 
+-- the last write is not changed by a draw that writes nothing
 pub write_past : (x : ℕ) (d : Draw) (ds : List Draw) → is_write x d.what ≡ false → last_write x (d ∷ ds) ≡ last_write x ds
 write_past x d ds e = rw e refl
 
+-- the last write writes
 pub last_written : (x : ℕ) (l : List Draw) (d : Draw) → last_write x l ≡ Some d → is_write x d.what ≡ true
 last_written x [] d e = absurd (cc)
 last_written x (a ∷ l) d e = by (is_write x a.what) refl (λ q. last_written x l d q)

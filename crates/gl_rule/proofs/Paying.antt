@@ -48,6 +48,7 @@ module _ (key : Key) (w : World) (st : table.State Slot View) (id : ℕ) (v : Vi
   abbrev b : Board
   b = board (capacity key) st.words
 
+  -- the pass's view fits
   pub mine : Fits key b w id v
   mine = H.views.at id v here
 
@@ -57,15 +58,18 @@ module _ (key : Key) (w : World) (st : table.State Slot View) (id : ℕ) (v : Vi
   draws : ShelfDraws w.draws v.drawn s
   draws = only_shelf (ShelfDraws w.draws v.drawn) v s one mine.numbers.shelves
 
+  -- the variable's last write is the thread's own
   pub its : OwedOne w.draws v.shelves x
   its = mine.owed.owes x value may.owes
 
   head_is : (a c : Shelf) → a ∷ [] ≡ c ∷ [] → a ≡ c
   head_is a c e = cc
 
+  -- its thread is the shelf's
   pub own : its.draw.thread ≡ s.thread
   own = its.own ∙ ap (λ (z : Shelf). z.thread) (head_is its.shelf s (sym its.one ∙ one))
 
+  -- the shelf is the view's
   pub has_shelf : Contains v.shelves s
   has_shelf = subst (λ l. Contains l s) (sym one) (zero, omega arith, refl)
 
@@ -75,9 +79,11 @@ module _ (key : Key) (w : World) (st : table.State Slot View) (id : ℕ) (v : Vi
   number_once : (n : ℕ) → DrawAt (w.draws x) n its.draw → n ≡ its.number
   number_once n at = number_is w.draws s.thread s.marked v.drawn x its.number n its.value its.draw draws.numbers at own its.plain
 
+  -- it has a number
   pub number : (n : ℕ) × DrawAt (w.draws x) n its.draw
   number = Rattle.gl_draws.proofs.Repeats.last_number x [] (w.draws x) its.draw its.last
 
+  -- its repeats that are not written back begin with the value that is owed
   pub late : (rest : List ℤ) × (repeats_of x number.0 s.marked ≡ (value ∷ rest) ++ its.draw.repeats)
   late = mine.owed.late x value may.owes s has_shelf number.0 its.draw number.1 its.last own
 

@@ -65,8 +65,8 @@ use Rattle.gl_rule.proofs.Words.{still_long, count_here, count_else, count_turns
 use Rattle.gl_rule.proofs.HeldLists.{all_map, both_map, in_cons, in_mapped, only_shelf, one_shelf}
 use Rattle.gl_rule.proofs.FittingLaws.{within_seen}
 use Rattle.gl_draws.proofs.Forming.{formed_push, counted_push, by_own, by_other, log_bound}
-use Rattle.gl_rule.proofs.Frames.{turns_kept, turns_same, read_at}
-use Rattle.gl_rule.proofs.Loading.{tail_later}
+use Rattle.gl_rule.proofs.Frames.{turns_kept, turns_same, read_at, floor_moves}
+use Rattle.gl_rule.proofs.Loading.{tail_later, tail_zero}
 
 -- a step needs a thread that is live
 may_live : (state : ThreadState) (e : Event) (value : ℤ) → MayStep state e value → (state ≡ NeverForked) ⊎ (state ≡ Ended) → ⊥
@@ -97,9 +97,11 @@ may_live state (Does (Fail k)) value m (inr e) = cc
 may_live state (Commits xs) value m (inl e) = cc
 may_live state (Commits xs) value m (inr e) = cc
 
+-- where no thread is live there is no step
 pub quiet_no_step : (setting : Setting) (now new : State) (x : Stamp) (value : ℤ) → IsQuiet now → Step setting now x value new → ⊥
 quiet_no_step setting now new x value q s = may_live (now.threads x.thread) x.event value s.may (q x.thread)
 
+-- an event has five words
 pub packed_long : (x : Stamp) → length (packed x) ≡ 5
 packed_long x = by x.event
   where
@@ -107,6 +109,7 @@ packed_long x = by x.event
     by (Does act) = refl
     by (Commits xs) = refl
 
+-- an event is no Trim
 pub no_trim : (e : Entry) (n : ℕ) → position_of e ≡ Some n → IsTrim e → ⊥
 no_trim (Sync a b c) n e t = t
 no_trim (Commit a b) n e t = t
@@ -115,6 +118,7 @@ no_trim (Abort a b) n e t = t
 no_trim (Trim low) n e t = cc
 no_trim (Over a) n e t = t
 
+-- nor an abort
 pub no_abort : (e : Entry) (n : ℕ) → position_of e ≡ Some n → (tx : _) (a : _) → e ≡ Abort tx a → ⊥
 no_abort e n p tx a is = let q : position_of (Abort tx a) ≡ Some n = subst (λ z. position_of z ≡ Some n) is p in cc
 
@@ -128,6 +132,7 @@ trims_push trims t es e not k = record {
 shelf_is : (P : Shelf → Type 0) (s : Shelf) → P s → P (shelf s.thread s.marked)
 shelf_is P s p = p
 
+-- the one shelf of a view has one thread
 pub same_thread : (v : View) (a b : Shelf) → v.shelves ≡ a ∷ [] → v.shelves ≡ b ∷ [] → a.thread ≡ b.thread
 same_thread v a b e f = let same : a ∷ [] ≡ b ∷ [] = sym e ∙ f in head a b same
   where
@@ -247,9 +252,6 @@ state_zero setting w hold drew k y l e is st = let a : StandsHeld setting w hold
 zero_state : (setting : Setting) (w : World) (hold : ℕ → ℕ) (drew : Option Draw) (k : ℕ) (l : ListView) → k ≡ 0 → IsStateOf l w.now → StandsHeld setting w hold drew k (slot.List l)
 zero_state setting w hold drew k l e st = subst (λ z. StandsHeld setting w hold drew z (slot.List l)) (sym e) (let a : StandsHeld setting w hold drew 0 (slot.List l) = st in a)
 
-tail_zero : (long seen : ℕ) (hold : ℕ → ℕ) (k n : ℕ) (y : Slot) → k ≡ 0 → TailFits long hold seen k y n → n ≡ long
-tail_zero long seen hold k n y e t = let a : TailFits long hold seen 0 y n = subst (λ z. TailFits long hold seen z y n) e t in a
-
 zero_tail : (long seen : ℕ) (hold : ℕ → ℕ) (k n : ℕ) (y : Slot) → k ≡ 0 → n ≡ long → TailFits long hold seen k y n
 zero_tail long seen hold k n y e t = subst (λ z. TailFits long hold seen z y n) (sym e) (let a : TailFits long hold seen 0 y n = t in a)
 
@@ -274,6 +276,7 @@ module _ (key : Key) (slots id : ℕ) (v : View) (c : List (ℕ × Slot)) (s : S
     pub draws : ℕ → List Draw
     pub change : Change key (board (capacity key) st.words) w (world_after w x new value draws) id v s (entry (length w.log)) (drew (length w.log))
 
+  -- publishing an event keeps the rule, where its draws are changed as is asked
   pub publishes : ((w : World) (st : table.State Slot View) (new : State) → Holds key w st → get_elem? st.views id ≡ some v → may.tail ≡ length w.log → Step key.setting w.now x value new → Draws' w st new)
       → table.Allows (Rule key) slots id (v, c) 0 (λ n. (n + 1) % 2 ^ 64) (Published s entry x (slot.List l') drew v c)
   publishes draws_of st rule long here fits =
@@ -409,7 +412,7 @@ module _ (key : Key) (slots id : ℕ) (v : View) (c : List (ℕ × Slot)) (s : S
                   ring =
                       (let none : o.stored ≡ [] = elim f.ring.by_holder [ inl z ↦ z | inr q ↦ absurd (let p : HeldOne b.turn w.holder j o.shelves q.0 = All-contains (HeldOne b.turn w.holder j o.shelves) o.held q.0 f.turns.held q.1 in apart_list j o.shelves q.0 away p q.2) ] in
                       record {
-                        floors = both_map (HeldOne b.turn w.holder j o.shelves) (FloorFits b.hold) (FloorFits b'.hold) o.held (λ g p t a q. (holds g.object p.named ∙ (t a q).0, (t a q).1)) f.turns.held f.ring.floors;
+                        floors = both_map (HeldOne b.turn w.holder j o.shelves) (FloorFits b.hold) (FloorFits b'.hold) o.held (λ g p t. floor_moves b.hold b'.hold g (λ nz. holds g.object p.named) t) f.turns.held f.ring.floors;
                         stored = λ i q. absurd (let z : length o.stored ≡ 0 = ap length none in omega arith);
                         few = f.ring.few;
                         by_holder = inl none;
@@ -448,7 +451,7 @@ module _ (key : Key) (slots id : ℕ) (v : View) (c : List (ℕ × Slot)) (s : S
                     loaded = all_map (λ (q : CellWord). (q.position < length log) × WordFits log q) (λ (q : CellWord). (q.position < length log') × WordFits log' q) v.loaded (word_grows log x) mine.knowledge.loaded;
                   };
                   ring = record {
-                    floors = mapped (FloorFits b'.hold) (λ g has z p a q. (holds g.object p.0.named ∙ (p.3 a q).0, (p.3 a q).1)) (λ g has nz p a q. (holds g.object p.0.named ∙ (p.3 a q).0, (p.3 a q).1));
+                    floors = mapped (FloorFits b'.hold) (λ g has z p. floor_moves b.hold b'.hold g (λ nz. holds g.object p.0.named) p.3) (λ g has nz p. floor_moves b.hold b'.hold g (λ nz. holds g.object p.0.named) p.3);
                     stored = λ i q. absurd (omega arith);
                     few = omega arith;
                     by_holder = inl refl;

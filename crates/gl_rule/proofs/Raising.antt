@@ -32,7 +32,7 @@ use Rattle.gl_rule.proofs.Each.{each_set}
 use Rattle.gl_rule.proofs.Words.{still_long, hold_here, hold_else, hold_turns, hold_counts, hold_cells, SameTurns, SameCounts, SameCells}
 use Rattle.gl_rule.proofs.HeldLists.{all_map, both_map, all_without, has_after, only_shelf}
 use Rattle.gl_rule.proofs.FittingLaws.{Facts, front_fits, put_stands, within_seen}
-use Rattle.gl_rule.proofs.Frames.{machine_same, turns_kept, turns_same, stands_at, held_at, tail_at, read_at, reviews, loads_word}
+use Rattle.gl_rule.proofs.Frames.{machine_same, turns_kept, turns_same, stands_at, held_at, tail_at, read_at, reviews, loads_word, floor_moves}
 
 held_at' : (setting : Setting) (w : World) (hold hold' : ℕ → ℕ) (drew : Option Draw) (k : ℕ) (y : Slot) → (k ≢ 0 → hold' k ≡ hold k) → StandsHeld setting w hold drew k y → StandsHeld setting w hold' drew k y
 held_at' setting w hold hold' drew zero (slot.List l) e s = s
@@ -40,6 +40,7 @@ held_at' setting w hold hold' drew zero slot.Empty e s = absurd s
 held_at' setting w hold hold' drew zero (slot.Row r) e s = absurd s
 held_at' setting w hold hold' drew (suc x) y e s = held_at setting w hold hold' drew (suc x) y (e (λ z. omega arith)) s
 
+-- a value at home stands by its own hold alone, and the list's by none
 pub stands_at' : (setting : Setting) (w : World) (hold hold' : ℕ → ℕ) (k : ℕ) (y : Slot) → (k ≢ 0 → hold' k ≡ hold k) → Stands setting w hold k y → Stands setting w hold' k y
 stands_at' setting w hold hold' zero (slot.List l) e s = s
 stands_at' setting w hold hold' zero slot.Empty e s = absurd s
@@ -50,6 +51,7 @@ tail_at' : (long seen : ℕ) (hold hold' : ℕ → ℕ) (k n : ℕ) (y : Slot) �
 tail_at' long seen hold hold' zero n y e s = s
 tail_at' long seen hold hold' (suc x) n y e s = tail_at long seen hold hold' (suc x) n y (e (λ z. omega arith)) s
 
+-- Trims change no held value
 pub trim_held : (setting : Setting) (w : World) (trims' : List (ℕ × ℕ)) (hold : ℕ → ℕ) (drew : Option Draw) (k : ℕ) (y : Slot) → StandsHeld setting w hold drew k y → StandsHeld setting (record w { trims = trims' }) hold drew k y
 trim_held setting w trims' hold drew zero (slot.List l) s = s
 trim_held setting w trims' hold drew (suc x) (slot.Row row) s = (record { before = s.0.before; draws_are = s.0.draws_are; stands = s.0.stands }, s.1)
@@ -77,7 +79,7 @@ fits_holds key b b' w trims' j v turns cells same up lows f =
         loaded = f.knowledge.loaded;
       };
       ring = record {
-        floors = both_map O (FloorFits b.hold) (FloorFits b'.hold) v.held (λ h a t n e. let q = t n e in (same h a q.1 ∙ q.0, q.1)) f.turns.held f.ring.floors;
+        floors = both_map O (FloorFits b.hold) (FloorFits b'.hold) v.held (λ h a t. floor_moves b.hold b'.hold h (same h a) t) f.turns.held f.ring.floors;
         stored = λ i q. cells (length w.log) i ∙ f.ring.stored i q;
         few = f.ring.few;
         by_holder = f.ring.by_holder;
@@ -89,6 +91,7 @@ fits_holds key b b' w trims' j v turns cells same up lows f =
       owed = f.owed;
     }
 
+-- nor one at home
 pub trim_home : (setting : Setting) (w : World) (trims' : List (ℕ × ℕ)) (hold : ℕ → ℕ) (k : ℕ) (y : Slot) → Stands setting w hold k y → Stands setting (record w { trims = trims' }) hold k y
 trim_home setting w trims' hold zero (slot.List l) s = s
 trim_home setting w trims' hold (suc x) (slot.Row row) s = s
@@ -97,19 +100,23 @@ trim_home setting w trims' hold zero (slot.Row r) s = absurd s
 trim_home setting w trims' hold (suc x) slot.Empty s = absurd s
 trim_home setting w trims' hold (suc x) (slot.List l) s = absurd s
 
+-- what a held row on which nothing was drawn says
 pub row_in : (setting : Setting) (w : World) (hold : ℕ → ℕ) (k x : ℕ) (y : Slot) (drew : Option Draw) (row : Row) → k ≡ suc x → y ≡ slot.Row row → drew ≡ None → StandsHeld setting w hold drew k y → RowStands setting w.log x (w.draws x) row × IsAbove row (hold (suc x))
 row_in setting w hold k x y drew row e is none st =
     let s : StandsHeld setting w hold None (suc x) (slot.Row row) = subst (λ z. StandsHeld setting w hold z (suc x) (slot.Row row)) none (subst (λ z. StandsHeld setting w hold drew (suc x) z) is (subst (λ z. StandsHeld setting w hold drew z y) e st)) in
     (subst (λ ds. RowStands setting w.log x ds row) (sym s.0.draws_are) s.0.stands, s.1)
 
+-- and what makes it so
 pub in_row : (setting : Setting) (w : World) (hold : ℕ → ℕ) (k x : ℕ) (drew : Option Draw) (row : Row) → k ≡ suc x → drew ≡ None → RowStands setting w.log x (w.draws x) row × IsAbove row (hold (suc x)) → StandsHeld setting w hold drew k (slot.Row row)
 in_row setting w hold k x drew row e none st =
     let a : StandsHeld setting w hold None (suc x) (slot.Row row) = (record { before = w.draws x; draws_are = refl; stands = st.0 }, st.1) in
     subst (λ z. StandsHeld setting w hold z k (slot.Row row)) (sym none) (subst (λ z. StandsHeld setting w hold None z (slot.Row row)) (sym e) a)
 
+-- what a tail says of a held row
 pub row_tail : (long : ℕ) (hold : ℕ → ℕ) (seen k x n : ℕ) (y : Slot) (row : Row) → k ≡ suc x → y ≡ slot.Row row → TailFits long hold seen k y n → (n ≤ seen) × IsWithin row n × (hold (suc x) ≤ n)
 row_tail long hold seen k x n y row e is t = let a : TailFits long hold seen (suc x) (slot.Row row) n = subst (λ z. TailFits long hold seen (suc x) z n) is (subst (λ z. TailFits long hold seen z y n) e t) in a
 
+-- and what makes it so
 pub tail_row : (long : ℕ) (hold : ℕ → ℕ) (seen k x n : ℕ) (row : Row) → k ≡ suc x → (n ≤ seen) × IsWithin row n × (hold (suc x) ≤ n) → TailFits long hold seen k (slot.Row row) n
 tail_row long hold seen k x n row e t = subst (λ z. TailFits long hold seen z (slot.Row row) n) (sym e) (let a : TailFits long hold seen (suc x) (slot.Row row) n = t in a)
 
@@ -130,6 +137,7 @@ raised_within setting seat j s v hold h x taken row log ds right f st tails =
         let st' = right.follows l fits ds (row_front setting l more x ds taken within p.1) in
         subst (IsWithin row) long (stands_within setting l x (with_draw h.drew ds) row st')
 
+-- raising a row's hold keeps the rule
 pub raises_hold : (key : Key) (slots id : ℕ) (v : View) (c : List (ℕ × Slot)) (s : Shelf) (h : Held) (x : ℕ) (taken row : Row) (to : ℕ) → v.shelves ≡ s ∷ [] → MayRaise key.setting s v h x taken row to
     → table.Allows (Rule key) slots id (v, c) (3 * h.object + 2) (λ _. to) (λ _. Raised h (slot.Row row) to v c)
 raises_hold key slots id v c s h x taken row to one may st rule long here fits =
@@ -155,7 +163,7 @@ raises_hold key slots id v c s h x taken row to one may st rule long here fits =
     let new : RowStands key.setting w.log x (w.draws x) row = subst (λ d. RowStands key.setting w.log x (with_draw d (w.draws x)) row) may.first put in
     let within : IsWithin row v.seen = raised_within key.setting w.seat id s v b.hold h x taken row w.log (w.draws x) may.right facts old.0 tails' in
     let low : b.hold k ≤ to = elim may.from [
-      | inl a ↦ (let f : FloorFits b.hold h = All-contains (FloorFits b.hold) v.held h mine.ring.floors may.held in let e = (f a.0 a.1).0 in let le = a.2 in omega arith)
+      | inl a ↦ (let f : FloorFits b.hold h = All-contains (FloorFits b.hold) v.held h mine.ring.floors may.held in let e = (f.exact a.0 a.1).0 in let le = a.2 in omega arith)
       | inr a ↦ (let q : b.hold (suc x) ≤ a.0.pos = old.1.at a.0 a.1 in let e : b.hold k ≡ b.hold (suc x) = ap b.hold may.object in let le = a.2 in omega arith)
     ] in
     let b' = board cap (set st.words (3 * k + 2) to) in
@@ -196,7 +204,7 @@ raises_hold key slots id v c s h x taken row to one may st rule long here fits =
         loaded = mine.knowledge.loaded;
       };
       ring = record {
-        floors = All-cons (FloorFits b'.hold) g' (without k v.held) (λ n e. (hit ∙ some_is to n e, λ z. not_zero (sym z))) (lift (FloorFits b.hold) (FloorFits b'.hold) (λ g ne p t n e. (other g.object ne ∙ (t n e).0, (t n e).1)) mine.ring.floors);
+        floors = All-cons (FloorFits b'.hold) g' (without k v.held) (record { exact = λ n e. (hit ∙ some_is to n e, λ z. not_zero (sym z)); named = λ r i is has none nz. absurd (cc) }) (lift (FloorFits b.hold) (FloorFits b'.hold) (λ g ne p t. floor_moves b.hold b'.hold g (λ nz. other g.object ne) t) mine.ring.floors);
         stored = λ i q. cells (length w.log) i ∙ mine.ring.stored i q;
         few = mine.ring.few;
         by_holder = elim mine.ring.by_holder [ inl z ↦ inl z | inr o ↦ inr (has_after 0 v h g' refl o) ];
@@ -266,7 +274,7 @@ loads_floor key slots id v c h has nz st rule long here fits =
       values = record { held = cons S (All-contains S v.held h mine.values.held has) mine.values.held };
       numbers = record { shelves = mine.numbers.shelves };
       knowledge = record { seen = mine.knowledge.seen; own = mine.knowledge.own; known = mine.knowledge.known; tails = cons T (All-contains T v.held h mine.knowledge.tails has) mine.knowledge.tails; reads = All-push (ReadFits b.hold) v.reads (Hold k n) mine.knowledge.reads (turn.named, omega arith); loaded = mine.knowledge.loaded };
-      ring = record { floors = cons (FloorFits b.hold) (λ m e. (some_is n m e, nz)) mine.ring.floors; stored = mine.ring.stored; few = mine.ring.few; by_holder = elim mine.ring.by_holder [ inl z ↦ inl z | inr o ↦ inr (has_after 0 v h g' refl o) ]; lows = mine.ring.lows };
+      ring = record { floors = cons (FloorFits b.hold) (record { exact = λ m e. (some_is n m e, nz); named = λ r i is has none z. absurd (cc) }) mine.ring.floors; stored = mine.ring.stored; few = mine.ring.few; by_holder = elim mine.ring.by_holder [ inl z ↦ inl z | inr o ↦ inr (has_after 0 v h g' refl o) ]; lows = mine.ring.lows };
       quiet = record { none_live = mine.quiet.none_live };
       carries = record { shelves = mine.carries.shelves };
       owed = mine.owed;

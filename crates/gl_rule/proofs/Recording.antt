@@ -94,9 +94,11 @@ module _ (key : Key) (w : World) (st : table.State Slot View) (id : ℕ) (v : Vi
   draws : ShelfDraws w.draws v.drawn s
   draws = only_shelf (ShelfDraws w.draws v.drawn) v s one mine.numbers.shelves
 
+  -- a row that was marked for the end of the attempt stands for the draws below that mark
   pub open_row : (y : ℕ) (c : is_in y zs ≡ true) → (ds : List Draw) × (w.draws y ≡ draw s.thread p Open ∷ ds) × RowStands key.setting w.log y ds (may.rows y c).row
   open_row y c = let r = may.rows y c in held_open key.setting w b.hold r.one.drew r.one.object y (draw s.thread p Open) r.one.taken r.row r.object r.taken r.drew (All-contains (HeldStands key.setting w b.hold) v.held r.one mine.values.held r.held)
 
+  -- and the mark's number is the attempt's
   pub number_of : (y : ℕ) (ds : List Draw) → w.draws y ≡ draw s.thread p Open ∷ ds → Contains tx.numbers (record { var = y; nth = length ds })
   number_of y ds is =
       let at : DrawAt (w.draws y) (length ds) (draw s.thread p Open) = subst (λ l. DrawAt l (length ds) (draw s.thread p Open)) (sym is) (inl (refl, refl)) in

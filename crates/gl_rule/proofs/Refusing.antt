@@ -29,6 +29,7 @@ commits_tail log draws h g all same drew tails c = record { at = λ x before a n
     by x before a n o d among (zero, l, e) = let same' : length log ≡ n = e in let q = block_in log x (draws x) a (all x) (inner x before a h.drew d among) in omega arith
     by x before a n o d among (suc i, l, e) = c.at x before a n o d among (i, omega arith, e)
 
+-- what was drawn on a held object stands below its tails whatever else of it changed
 pub commits_same : (draws : ℕ → List Draw) (h g : Held) → g.object ≡ h.object → g.drew ≡ h.drew → g.tails ≡ h.tails → DrawsBelow draws h → DrawsBelow draws g
 commits_same draws h g same drew tails c = record { at = λ x before a n o d among has. c.at x before a n (sym same ∙ o) (d ∙ ap (λ z. with_draw z before) drew) among (subst (λ l. Contains l n) tails has) }
 
@@ -68,5 +69,6 @@ commits_published log draws draws' h g all back same tails c = record { at = λ 
     by x before a n o d among (zero, l, e) = let same' : suc (length log) ≡ n = e in let q = block_in log x (draws x) a (all x) (inner x before a h.drew d among) in omega arith
     by x before a n o d among (suc i, l, e) = c.at x before a n o d among (i, omega arith, e)
 
+-- the values of a list stay with an entry that is no event
 pub carries_push : (values : ℕ → ℤ) (t : ℕ) (es : List Entry) (e : Entry) → position_of e ≡ None → ShelfCarries values (shelf t es) → ShelfCarries values (shelf t (es ++ e ∷ []))
 carries_push values t es e none k i p f at is = elim (at_cases es e f i at) [ inl old ↦ k i p f old is | inr new ↦ absurd (let q : None ≡ Some p = sym none ∙ ap position_of (sym new.1) ∙ is in cc) ]

@@ -20,8 +20,9 @@ use Rattle.gl_rule.specs.Fitting.{SaysQuiet}
 use Rattle.gl_rule.specs.Rule.{Fits}
 use Rattle.gl_rule.proofs.Words.{SameHolds, SameCells}
 use Rattle.gl_rule.proofs.HeldLists.{all_map, all_without, in_without}
-use Rattle.gl_rule.proofs.Frames.{held_at, tail_at, read_at}
+use Rattle.gl_rule.proofs.Frames.{held_at, tail_at, read_at, floor_moves}
 
+-- the ring stays where the holds and the cells do
 pub ring_same : (key : Key) (b b' : Board) (log : List Stamp) → b'.hold 0 ≡ b.hold 0 → SameHolds b b' → SameCells b b' → RingHolds (capacity key) (b.hold 0 * key.cells) b log → RingHolds (capacity key) (b'.hold 0 * key.cells) b' log
 ring_same key b b' log low holds cells r = subst (λ n. RingHolds (capacity key) (n * key.cells) b' log) (sym low) (record {
   cells = λ p i x from at few. cells p i ∙ r.cells p i x from at few;
@@ -57,7 +58,7 @@ fits_without key b b' w j k v holds cells moves f =
     }
   where
     floors : All (FloorFits b'.hold) (without k v.held)
-    floors = all_without (λ g. HeldOne b.turn w.holder j v.shelves g × FloorFits b.hold g) (FloorFits b'.hold) k v.held (λ g ne p n e. (holds g.object p.0.named ∙ (p.1 n e).0, (p.1 n e).1)) (Rattle.gl_rule.proofs.HeldLists.both_map (HeldOne b.turn w.holder j v.shelves) (FloorFits b.hold) (λ g. HeldOne b.turn w.holder j v.shelves g × FloorFits b.hold g) v.held (λ g a c. (a, c)) f.turns.held f.ring.floors)
+    floors = all_without (λ g. HeldOne b.turn w.holder j v.shelves g × FloorFits b.hold g) (FloorFits b'.hold) k v.held (λ g ne p. floor_moves b.hold b'.hold g (λ nz. holds g.object p.0.named) p.1) (Rattle.gl_rule.proofs.HeldLists.both_map (HeldOne b.turn w.holder j v.shelves) (FloorFits b.hold) (λ g. HeldOne b.turn w.holder j v.shelves g × FloorFits b.hold g) v.held (λ g a c. (a, c)) f.turns.held f.ring.floors)
 
     not_zero : (k == 0) ≡ false → k ≢ 0
     not_zero e z = let t : (k == 0) ≡ true = eq-eqb k 0 z in let c : true ≡ false = sym t ∙ e in absurd (cc)
@@ -66,15 +67,18 @@ fits_without key b b' w j k v holds cells moves f =
     stored_at true e = rw e (record { floors = floors; stored = λ i near. absurd (omega arith); few = omega arith; by_holder = inl refl; lows = f.ring.lows })
     stored_at false e = rw e (record { floors = floors; stored = λ i near. cells (length w.log) i ∙ f.ring.stored i near; few = f.ring.few; by_holder = elim f.ring.by_holder [ inl z ↦ inl z | inr o ↦ inr (o.0, in_without k v.held o.0 (λ z. not_zero e (sym z ∙ o.2)) o.1, o.2) ]; lows = f.ring.lows })
 
+-- what a view says of the ring after an object was put back
 pub ring_left : (b : Board) (log : List Stamp) (trims : List (ℕ × ℕ)) (v : View) (k : ℕ) (q : Bool) → RingFits b log trims (record v { held = without k v.held; stored = if k == 0 then [] else v.stored }) → RingFits b log trims (left v k q)
 ring_left b log trims v k q r = record { floors = r.floors; stored = r.stored; few = r.few; by_holder = r.by_holder; lows = r.lows }
 
+-- a list's state without a live thread means that none is live
 pub says_quiet : (setting : Setting) (w : World) (hold : ℕ → ℕ) (drew : Option Draw) (k : ℕ) (y : Slot) → SaysQuiet k y → StandsHeld setting w hold drew k y → IsQuiet w.now
 says_quiet setting w hold drew zero (slot.List l) says st = says w.now st
 says_quiet setting w hold drew zero slot.Empty says st = absurd st
 says_quiet setting w hold drew zero (slot.Row r) says st = absurd st
 says_quiet setting w hold drew (suc x) y says st = absurd says
 
+-- so a view that put it back is right to be quiet
 pub quiet_left : (setting : Setting) (w : World) (hold : ℕ → ℕ) (h : Held) (v : View) (q : Bool) → (q ≡ true → IsQuiet w.now) → QuietFits w.now v → QuietFits w.now (left v h.object q)
 quiet_left setting w hold h v q says f = record { none_live = λ e. by v.quiet q refl refl e }
   where

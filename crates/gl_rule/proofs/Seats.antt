@@ -48,6 +48,7 @@ blank_fits key b w j l positions numbers own lows refusals carries owed = record
   quiet = record { none_live = λ e. absurd (cc) };
 }
 
+-- a view that knows nothing fits
 pub nothing_fits : (key : Key) (b : Board) (w : World) (j : ℕ) → Fits key b w j (blank [])
 nothing_fits key b w j = blank_fits key b w j [] (All-nil (ShelfFits w.log w.seat j)) (All-nil (ShelfDraws w.draws [])) (All-nil (AreBelow 0)) (All-nil (ShelfTrims w.trims)) (All-nil (ShelfRefusals w.until)) (All-nil (ShelfCarries w.values)) (owed_none w.draws)
 

@@ -13,15 +13,16 @@ use Rattle.gl_rule.specs.View.{View, Held, Hold, put_word}
 use Rattle.gl_rule.specs.World.{World}
 use Rattle.gl_rule.specs.Turns.{HeldOne}
 use Rattle.gl_rule.specs.Values.{HeldStands}
-use Rattle.gl_rule.specs.Knowledge.{TailFits, TailsFit, ReadFits}
+use Rattle.gl_rule.specs.Knowledge.{TailsFit, ReadFits}
 use Rattle.gl_rule.specs.Ring.{RingHolds, FloorFits}
 use Rattle.gl_rule.specs.Fitting.{MayStoreWord}
 use Rattle.gl_rule.specs.Rule.{Fits, Rule}
 use Rattle.gl_rule.specs.Told.{PutWord}
 use Rattle.gl_rule.proofs.Each.{each_set}
+use Rattle.gl_rule.proofs.Loading.{tail_zero}
 use Rattle.gl_rule.proofs.Words.{still_long, stop_turns, stop_counts, stop_holds, stop_cells, cell_turns, cell_counts, cell_holds, cell_here, cell_else, SameTurns, SameHolds}
 use Rattle.gl_rule.proofs.HeldLists.{all_map, both_map}
-use Rattle.gl_rule.proofs.Frames.{machine_same, turns_kept, turns_same, stands_at, held_at, tail_at, read_at, fits_board}
+use Rattle.gl_rule.proofs.Frames.{machine_same, turns_kept, turns_same, stands_at, held_at, tail_at, read_at, fits_board, floor_moves}
 use Rattle.gl_rule.proofs.RingFrames.{ring_same}
 
 -- the stop word
@@ -82,15 +83,12 @@ fits_cells key b b' w j v turns holds cells f =
         reads = all_map (ReadFits b.hold) (ReadFits b'.hold) v.reads (read_at b.hold b'.hold (λ k q. let e = holds k q in omega arith)) f.knowledge.reads;
         loaded = f.knowledge.loaded;
       };
-      ring = record { floors = both_map O (FloorFits b.hold) (FloorFits b'.hold) v.held (λ h a t n e. (holds h.object a.named ∙ (t n e).0, (t n e).1)) f.turns.held f.ring.floors; stored = λ i q. cells i q ∙ f.ring.stored i q; few = f.ring.few; by_holder = f.ring.by_holder; lows = f.ring.lows };
+      ring = record { floors = both_map O (FloorFits b.hold) (FloorFits b'.hold) v.held (λ h a t. floor_moves b.hold b'.hold h (λ nz. holds h.object a.named) t) f.turns.held f.ring.floors; stored = λ i q. cells i q ∙ f.ring.stored i q; few = f.ring.few; by_holder = f.ring.by_holder; lows = f.ring.lows };
       quiet = f.quiet;
       refusals = f.refusals;
       carries = f.carries;
       owed = f.owed;
     }
-
-tail_zero : (long seen : ℕ) (hold : ℕ → ℕ) (k n : ℕ) (y : Slot) → k ≡ 0 → TailFits long hold seen k y n → n ≡ long
-tail_zero long seen hold k n y e t = let a : TailFits long hold seen 0 y n = subst (λ z. TailFits long hold seen z y n) e t in a
 
 -- the next word in the cell of the tail
 pub puts_word : (key : Key) (slots id n : ℕ) (v : View) (c : List (ℕ × Slot)) (h : Held) (tail : ℕ) → MayStoreWord key v h tail

@@ -39,6 +39,7 @@ module _ (setting : Setting) (low : ℕ) (R : Lists) (c : IsClosed setting low R
         | inr ge ↦ elim (eq-or-lt_of_le ge) [ inl same ↦ sym same | inr lt ↦ absurd (let z : l < l = (c.formed p.thread).lows_rise q.index p.index l l b' a lt in omega arith) ]
       ])
 
+  -- the Trims of a closed table
   pub are_trims : (cells segments n : ℕ) → low * cells ≤ n → n ≤ low * cells + segments * cells → AreTrims cells segments R n
   are_trims cells segments n below room = record {
     once = once;
@@ -56,9 +57,11 @@ module _ (setting : Setting) (low : ℕ) (R : Lists) (c : IsClosed setting low R
   }
 
 module _ (key : Key) (st : table.State Slot View) (id : ℕ) (v : View) (rule : Rule key st) (here : get_elem? st.views id ≡ some v) (h : HasAll v) where
+  -- the table is closed
   pub closed : IsClosed key.setting ((board (capacity key) st.words).hold 0) (lists_in v.shelves)
   closed = closes key rule.0 st id v rule.1 here h.held (none key rule.0 st id v rule.1 here h.held h.all h.done) h.all (all_quiet key rule.0 st id v rule.1 here h.held h.all h.done) (paid key rule.0 st id v rule.1 here h.held h.all h.done)
 
+  -- so its Trims are those of the ring
   pub trimmed : (l : List Stamp) × IsEventList l (lists_in v.shelves) × AreTrims key.cells key.segments (lists_in v.shelves) (length l)
   trimmed =
       let b = board (capacity key) st.words in

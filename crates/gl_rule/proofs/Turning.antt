@@ -9,14 +9,16 @@ use prog.Atomic.{either}
 use Rattle.atomic_table.specs.Table as table
 use Rattle.atomic_table.proofs.Lists.{set_here, set_else, exchanged}
 use Rattle.gl_model.specs.declared.limits.TheConstants.{THREADS}
-use Rattle.gl_model.specs.Machine.{with_at}
+use Rattle.gl_model.specs.declared.row.Info.{Info}
+use Rattle.gl_model.specs.declared.row.Row.{Row}
+use Rattle.gl_model.specs.Machine.{Setting, with_at}
 use Rattle.gl_draws.proofs.DrawTies.{with_here, with_else}
 use Rattle.gl_rule.specs.declared.slot.Slot.{Slot}
 use Rattle.gl_rule.specs.Objects.{Key, Board, board, capacity, objects}
 use Rattle.gl_rule.specs.View.{View, Held, Shelf, HasObject, Busy, Taken, new_held, took, refused, left, without}
 use Rattle.gl_rule.specs.Turns.{HeldOne}
 use Rattle.gl_rule.specs.Positions.{ShelfFits}
-use Rattle.gl_rule.specs.Values.{Stands, HeldStands}
+use Rattle.gl_rule.specs.Values.{InRow, Stands, HeldStands}
 use Rattle.gl_rule.specs.Knowledge.{TailsFit, ReadFits}
 use Rattle.gl_rule.specs.Ring.{FloorFits}
 use Rattle.gl_rule.specs.Fitting.{MayLeave, SaysQuiet}
@@ -31,6 +33,14 @@ use Rattle.gl_rule.proofs.HeldLists.{all_map, in_cons, in_without, only_shelf}
 use Rattle.gl_rule.proofs.Frames.{machine_same, turns_step, stands_at, stands_same, stands_held, fits_board, fits_saw, reviews, loads_word}
 use Rattle.gl_rule.proofs.FittingLaws.{leave_stands}
 
+-- no Info of a row at home lies below its hold
+home_above : (setting : Setting) (w : World) (hold : ℕ → ℕ) (k : ℕ) (y : Slot) (row : Row) (i : Info) → y ≡ slot.Row row → k ≢ 0 → Stands setting w hold k y → InRow row i → hold k ≤ i.pos
+home_above setting w hold zero y row i is nz st has = absurd (nz refl)
+home_above setting w hold (suc x) (slot.Row r) row i is nz st has = let same : r ≡ row = cc in st.1.at i (subst (λ z. InRow z i) (sym same) has)
+home_above setting w hold (suc x) (slot.List l) row i is nz st has = absurd st
+home_above setting w hold (suc x) slot.Empty row i is nz st has = absurd st
+
+-- the object that was at home is what is told
 taken_told : (key : Key) (w : World) (id : ℕ) (v : View) (s : Shelf) (hold : ℕ → ℕ) (b : Board) {views : List View} → Whole key b w views → v.shelves ≡ s ∷ [] → ShelfFits w.log w.seat id s → Fits key b w id v → (k : ℕ) (y : Slot) → Stands key.setting w hold k y → TakenTold key.setting v k y
 taken_told key w id v s hold b whole one f mine zero (slot.List l) st = record { log = w.log; now = w.now; allowed = whole.machine.allowed; is = st; shelf = s; one = one; named = f.named; own = f.events; later = mine.knowledge.seen; few = whole.positions.few }
 taken_told key w id v s hold b whole one f mine zero slot.Empty st = absurd st
@@ -39,6 +49,7 @@ taken_told key w id v s hold b whole one f mine (suc x) (slot.Row row) st = tt
 taken_told key w id v s hold b whole one f mine (suc x) slot.Empty st = absurd st
 taken_told key w id v s hold b whole one f mine (suc x) (slot.List l) st = absurd st
 
+-- taking a turn keeps the rule
 pub takes_turn : (key : Key) (slots id k : ℕ) (v : View) (c : List (ℕ × Slot)) (s : Shelf) → k < objects → v.shelves ≡ s ∷ []
     → table.Allows (Rule key) slots id (v, c) (3 * k + 1) (λ n. either (n == 0) (s.thread + 1) n) (Took key.setting k v c)
 takes_turn key slots id k v c s near one st rule long here fits =
@@ -121,7 +132,7 @@ takes_turn key slots id k v c s near one st rule long here fits =
                   loaded = still.knowledge.loaded;
                 };
                 ring = record {
-                  floors = All-cons (FloorFits b'.hold) h v.held (λ m e. absurd (cc)) still.ring.floors;
+                  floors = All-cons (FloorFits b'.hold) h v.held (record { exact = λ m e. absurd (cc); named = λ row i is has none nz. subst (λ m. m ≤ i.pos) (sym (holds k near)) (home_above key.setting w b.hold k y row i is nz stands has) }) still.ring.floors;
                   stored = still.ring.stored;
                   few = still.ring.few;
                   by_holder = elim still.ring.by_holder [ inl e ↦ inl e | inr o ↦ inr (o.0, in_cons h v.held o.0 o.1, o.2) ];
@@ -140,6 +151,7 @@ takes_turn key slots id k v c s near one st rule long here fits =
     let r : Rule key (record { words = st.words; homes = st.homes; views = set st.views id (refused v k (n - 1)) }) = (w, reviews key w st id v (refused v k (n - 1)) here (λ g o. o) H (fits_saw key b w id v (Busy k (n - 1)) tt mine)) in
     (refused v k (n - 1), table.keeps, tt, loads_word key st id (3 * k + 1) (refused v k (n - 1)) r, inr (busy, H.whole.turns.named k near, refl)))
 
+-- putting an object back keeps the rule
 pub leaves_turn : (key : Key) (slots id : ℕ) (v : View) (c : List (ℕ × Slot)) (s : Shelf) (h : Held) (y : Slot) (q : Bool) → objects ≤ slots → v.shelves ≡ s ∷ [] → Contains v.held h → MayLeave key.setting s v h y → (q ≡ true → SaysQuiet h.object h.taken)
     → table.Allows (Rule key) slots id (v, (h.object, y) ∷ c) (3 * h.object + 1) (λ _. 0) (λ _. Left h.object q v ((h.object, y) ∷ c))
 leaves_turn key slots id v c s h y q many one has may quiet st rule long here fits =

@@ -4,6 +4,7 @@ use Rattle.std.specs.Prelude.{slice_index}
 use Rattle.std.proofs.lemmas.List.{get_or-set_same, get_or-set_other}
 use Rattle.gl_rule.specs.Objects.{Board, board, objects, word_count, cell_at}
 
+-- a word that is set to what it was
 pub set_same : (ns : List ℕ) (i : ℕ) → set ns i (slice_index ns i) ≡ ns
 set_same [] i = refl
 set_same (n ∷ ns) zero = refl
@@ -21,6 +22,7 @@ SameHolds b b' = (y : ℕ) → y < objects → b'.hold y ≡ b.hold y
 abbrev pub SameCells : Board → Board → Type 0
 SameCells b b' = (p i : ℕ) → b'.cell p i ≡ b.cell p i
 
+-- setting a word leaves the number of words
 pub still_long : (cap : ℕ) (words : List ℕ) (i n : ℕ) → length words ≡ word_count cap → length (set words i n) ≡ word_count cap
 still_long cap words i n long = length-set words i n ∙ long
 

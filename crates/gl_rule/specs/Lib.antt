@@ -21,6 +21,8 @@ pub mod Opened
 pub mod Closed
 pub mod Laws
 pub mod Steps
+pub mod Safe
+pub mod Agreeing
 pub mod Told
 pub mod Taken
 pub mod Lives

@@ -1,7 +1,9 @@
 //! The rule of the table: each kind of step keeps it, tables begin with it, and what it says of a table at the end.
 #![tactic(auto)]
 
+ghost use Rattle.gl_rule.specs.Agreeing.{KnownEventsAgree, KnownSetsAgree, KnownTestsAgree, OwnPlainStands, OwnCommitStands};
 ghost use Rattle.gl_rule.specs.Laws.{ClosedIsLawful, ClosedIsTrimmed};
+ghost use Rattle.gl_rule.specs.Safe.{TablesAreSafe, OverwritesUnnamed};
 ghost use Rattle.gl_rule.specs.Steps.{TakesTurn, LeavesTurn, WritesBack, LoadsTail, LoadsHold, LoadsFloor, LoadsStop, LoadsCell, LoadsEvent, StoresWord, SetsStop, RaisesHold, RaisesLow, PublishesAct, PublishesCommit, MarksPlain, MarksOpen, RecordsAdded, Begins, EntersSeat, SplitsSeat, JoinsSeats};
 
 /// Taking an object's turn, leaving it, and leaving it with a value that was owed.
@@ -49,6 +51,24 @@ pub fn seats_keep_the_rule()
     ensures enters { EntersSeat }
     ensures splits { SplitsSeat }
     ensures joins { JoinsSeats }
+{}
+
+/// What a pass is asked of each list of events that it cannot tell from the table's, it can know: these lists agree on the
+/// events that it knows, so on the sets of Infos and on the tests over them; and an Info that it gives for an access of its
+/// own stands for that over each of them.
+pub fn fitting_lists_agree()
+    ensures events { KnownEventsAgree }
+    ensures sets { KnownSetsAgree }
+    ensures tests { KnownTestsAgree }
+    ensures plain { OwnPlainStands }
+    ensures commit { OwnCommitStands }
+{}
+
+/// No cell is given again while somebody may still walk from its event: the table is safe, and the event whose cell the
+/// next one takes lies in a segment below that of each position that is named.
+pub fn tables_are_safe()
+    ensures safe { TablesAreSafe }
+    ensures overwrites { OverwritesUnnamed }
 {}
 
 /// Where one pass has the lists of all threads, each of them done, and holds nothing, the record of these lists is

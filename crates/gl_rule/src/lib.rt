@@ -7,7 +7,8 @@ mod slot;
 
 pub use know::Know;
 pub use laws::{
-    accesses_keep_the_rule, closed_tables_are_lawful, events_keep_the_rule, loads_keep_the_rule,
-    seats_keep_the_rule, stores_keep_the_rule, turns_keep_the_rule,
+    accesses_keep_the_rule, closed_tables_are_lawful, events_keep_the_rule, fitting_lists_agree,
+    loads_keep_the_rule, seats_keep_the_rule, stores_keep_the_rule, tables_are_safe,
+    turns_keep_the_rule,
 };
 pub use slot::Slot;

@@ -4,3 +4,6 @@ pub mod SaidLines
 pub mod BuiltPrograms
 pub mod Entries
 pub mod FewWords
+pub mod SameRecord
+pub mod OneAnswer
+pub mod OneProgram

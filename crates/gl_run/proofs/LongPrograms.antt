@@ -1,15 +1,19 @@
 -- What each command answers for a text that is too long.
-use Rattle.std.proofs.Common.{◌≡◌, ◌<◌, ℕ, List, true, Option, None, Some, Result, Ok, Err, IfOk, IfSome, length, inl, inr, refl, sym, subst, nat_lt}
+use Rattle.std.proofs.Common.{arith, ◌≡◌, ◌<◌, ℕ, List, [], true, Option, None, Some, Result, Ok, Err, IfOk, IfSome, length, inl, inr, refl, sym, subst, nat_lt}
 use Rattle.std.proofs.lemmas.Bool.{lt-ltb}
+use Rattle.std.specs.Prelude.{◌⊎◌}
+use Rattle.std.specs.Io.KnownBytes.{Consumes}
+use Rattle.std.proofs.KnownBytes.{Appends-nil}
 use Rattle.gl_asm.specs.declared.limits.TheConstants.{LONGEST}
 use Rattle.gl_asm.specs.Texts.{text_read}
 use Rattle.gl_text.specs.declared.kinds.TheConstants.{TOO_LONG}
-use Rattle.gl_run.specs.Command.{Replies}
-use Rattle.gl_run.specs.Output.{refusal}
+use Rattle.gl_io.specs.Whole.{IsTaken}
+use Rattle.gl_run.specs.Replies.{RepliesTo}
+use Rattle.gl_run.specs.Command.{IsWhole, Serves}
+use Rattle.gl_run.specs.Output.{refusal, usage}
 use Rattle.gl_run.specs.Texts.{AnswersText, AnswersLonger}
 use Rattle.gl_run.specs.Words.{most_of}
 use Rattle.gl_run.specs.declared.keep.Keep.{Keep}
-use Rattle.gl_run.specs.declared.kept.Kept.{Kept}
 use Rattle.gl_run.specs.declared.page.Page.{Page}
 use Rattle.gl_run.specs.declared.words.Command.{Command}
 use Rattle.gl_run.specs.declared.words.Command.TheVariants as commands
@@ -30,8 +34,51 @@ longer command (Ok p) status text kept = λ keep input long.
     (subst (λ b. AnswersText keep command input 4 b p.kept) (sym text) (subst (AnswersText keep command input 4 (refusal 0 TOO_LONG)) (sym kept) (refused_longer keep command input long)))
 longer command (Err e) status text kept = tt
 
+-- some input that is all of what is left, where that is told, and begins with these bytes or is them
+some_longer : (left now : Option (List ℕ)) (bytes : List ℕ) (most : ℕ) → most < length bytes → Consumes left now bytes → IfSome left (λ xs. most < length xs)
+    → (input : List ℕ) × IsTaken left input × (most < length input)
+some_longer None now bytes most over taken long = (bytes, tt, over)
+some_longer (Some xs) now bytes most over taken long = (xs, refl, long)
+
 -- what is written for a text that is too long
-pub long_reply : (keep : Keep) (asked : Option Command) (command : Command) (left : Option (List ℕ)) (status : ℕ) (bytes : List ℕ) (kept : Option Kept) → asked ≡ Some command
-    → IfSome left (λ xs. most_of command < length xs) → AnswersLonger command status bytes kept → IfSome left (λ input. Replies keep asked input status bytes kept)
-long_reply keep asked command None status bytes kept is long answer = tt
-long_reply keep asked command (Some input) status bytes kept is long answer = inr (record { command = command; is = is; answer = answer keep input long })
+pub long_reply : (keep : Keep) (asked : Option Command) (command : Command) (left now : Option (List ℕ)) (bytes : List ℕ) (p : Page) → asked ≡ Some command
+    → most_of command < length bytes → Consumes left now bytes → IfSome left (λ xs. most_of command < length xs) → AnswersLonger command p.status p.text.items p.kept
+    → RepliesTo keep asked left p
+long_reply keep asked command left now bytes p is over taken long answer =
+    let some = some_longer left now bytes (most_of command) over taken long in
+    record { input = some.0; all = some.1; reply = inr (record { command = command; is = is; answer = answer keep some.0 some.2 }) }
+
+-- some input that is all of what is left, where that is told
+pub some_input : (left : Option (List ℕ)) → (input : List ℕ) × IsTaken left input
+some_input None = ([], tt)
+some_input (Some xs) = (xs, refl)
+
+-- what words that are no command are answered
+pub usage_reply : {E : Type 0} (keep : Keep) (asked : Option Command) (left : Option (List ℕ)) (r : Result Page E) → asked ≡ None → IfOk r (λ p. p.status ≡ 1)
+    → IfOk r (λ p. p.text.items ≡ usage) → IfOk r (λ p. p.kept ≡ None) → IfOk r (RepliesTo keep asked left)
+usage_reply keep asked left (Ok p) none status text kept =
+    let some = some_input left in
+    record { input = some.0; all = some.1; reply = inl (record { nothing = none; status_is = status; bytes_are = text; kept_is = kept }) }
+usage_reply keep asked left (Err e) none status text kept = tt
+
+-- where nothing was read, or memory ran out, nothing is written
+pub stopped : (keep : Keep) (asked : Option Command) (left : Option (List ℕ)) (status : ℕ) (now : Option (List ℕ)) → (status ≡ 2) ⊎ (status ≡ 5)
+    → Serves keep asked left status None now now
+stopped keep asked left status now stop =
+    let some = some_input left in
+    record {
+      input = some.0;
+      all = some.1;
+      written = record {
+        whole = λ whole. absurd (not_whole status stop whole);
+        part = λ part. absurd (not_part status stop part);
+        nothing = λ nothing. (Appends-nil now, refl);
+        other = elim stop [ inl read ↦ inr (inl read) | inr memory ↦ inr (inr (inr memory)) ];
+      };
+    }
+  where
+    not_whole : (status : ℕ) → (status ≡ 2) ⊎ (status ≡ 5) → IsWhole status → ⊥
+    not_whole status stop whole = grind arith
+
+    not_part : (status : ℕ) → (status ≡ 2) ⊎ (status ≡ 5) → status ≡ 3 → ⊥
+    not_part status stop part = grind arith

@@ -22,12 +22,12 @@ use Rattle.gl_trace.specs.Reads.{IsReadTo}
 use Rattle.gl_trace.specs.Trace.{AreLines}
 use Rattle.gl_trace.specs.TraceLine.{TraceLine, step_of, steps_of}
 use Rattle.gl_trace.specs.Traced.{IsUpTo}
-use Rattle.gl_trace.specs.Verdicts.{is_race, verdict_line, races_line, verdict_text}
+use Rattle.gl_trace.specs.Verdicts.{is_race, verdict_line, verdicts_said, races_line, said_text}
 use Rattle.gl_trace.specs.declared.reader.TraceReader.{TraceReader}
 use Rattle.gl_trace.specs.declared.tracer.Tracer.{Tracer}
-use Rattle.gl_run.specs.Check.{status_of}
+use Rattle.gl_run.specs.Check.{Said, lines_said, status_of}
 use Rattle.gl_run.specs.Recording.{IsRecorded}
-use Rattle.gl_run.specs.Said.{Said, IsSaid, lines_said, verdicts_said}
+use Rattle.gl_run.specs.Said.{IsSaid}
 use Rattle.gl_run.specs.declared.verdicts.Verdicts.{Verdicts}
 use Rattle.gl_run.proofs.JudgedLines.{verdicts_judged}
 
@@ -40,7 +40,7 @@ pub record AreChecked (text : List ℕ) (reader : TraceReader) (v : Verdicts) : 
   pub read : IsReadTo text (lines_said done) reader
   pub said : IsSaid done v
 
-pub split : (done : List Said) → judged_lines (lines_said done) (verdicts_said done) ≡ done
+split : (done : List Said) → judged_lines (lines_said done) (verdicts_said done) ≡ done
 split [] = refl
 split (p ∷ ps) = ap (λ r. p ∷ r) (split ps)
 
@@ -65,15 +65,15 @@ steps_same : (done : List Said) → record_steps (map line_of done) ≡ steps_of
 steps_same [] = refl
 steps_same (p ∷ ps) = ap (λ r. step_of p.0 ∷ r) (steps_same ps)
 
--- the lines of a trace are sound lines of a record, whatever was said of them
-pub said_sound : (done : List Said) → AreLines (lines_said done) → AreSound (map line_of done)
-said_sound done are = record {
+-- lines that a trace can have, none of which has a fault behind those before it, are sound lines of a record, whatever was said of them
+pub said_sound : (done : List Said) → All IsStep (steps_of (lines_said done)) → AreClean (steps_of (lines_said done)) → AreSound (map line_of done)
+said_sound done range clean = record {
   in_range = λ k l at.
       let s : Step = (l.thread, l.item) in
       let here : slice_get (record_steps (map line_of done)) k ≡ Some s =
       slice_get-map (λ (l : Line). (l.thread, l.item)) (map line_of done) k ∙ ap (option_map (λ (l : Line). (l.thread, l.item))) at in
-      step_at (steps_of (lines_said done)) are.range k s (sym (ap (λ ss. slice_get ss k) (steps_same done)) ∙ here);
-  clean = subst AreClean (sym (steps_same done)) are.clean;
+      step_at (steps_of (lines_said done)) range k s (sym (ap (λ ss. slice_get ss k) (steps_same done)) ∙ here);
+  clean = subst AreClean (sym (steps_same done)) clean;
 }
 
 -- what is known of one line more, where what is said of all is right
@@ -113,10 +113,9 @@ up_to_more a b tracer h u = record { next = omega (arith, u.next); numbers = λ 
 
 -- the whole text
 pub text_end : (done : List Said) (bytes text : List ℕ) (races : ℕ) → bytes ≡ text ++ races_line races → text ≡ flat_map verdict_of done
-    → races ≡ count_by is_race (verdicts_said done) → bytes ≡ verdict_text (lines_said done) (verdicts_said done)
+    → races ≡ count_by is_race (verdicts_said done) → bytes ≡ said_text done
 text_end done bytes text races whole front count =
     whole ∙ ap (λ x. x ++ races_line races) front ∙ ap (λ n. flat_map verdict_of done ++ races_line n) count
-    ∙ ap (λ x. flat_map verdict_of x ++ races_line (count_by is_race (verdicts_said done))) (sym (split done))
 
 -- a record of few lines has room for one more
 pub recorded_room : (lines : List Line) (most : ℕ) (tracer : Option Tracer) → 2 * length lines + 1 ≤ most → IsRecorded lines tracer → IfSome tracer (IsUpTo most)
@@ -145,7 +144,8 @@ pub said_on : (done : List Said) (l : TraceLine) (j : Judged) (old new : Detecto
     → AreVerdicts (map line_of (done ++ (l, j) ∷ [])) × Follows (map line_of (done ++ (l, j) ∷ [])) new
 said_on done l j old new stepped right follows are =
     let lines : map line_of (done ++ (l, j) ∷ []) ≡ map line_of done ++ line_of (l, j) ∷ [] = map-append line_of done ((l, j) ∷ []) in
-    let sound = subst AreSound lines (said_sound (done ++ (l, j) ∷ []) (subst AreLines (sym (lines_push done l j)) are)) in
+    let all = subst AreLines (sym (lines_push done l j)) are in
+    let sound = subst AreSound lines (said_sound (done ++ (l, j) ∷ []) all.range all.clean) in
     let said = stepped (map line_of done) sound right follows in
     (subst AreVerdicts (sym lines) said.0, subst (λ x. Follows x new) (sym lines) said.1)
 

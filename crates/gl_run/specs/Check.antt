@@ -4,15 +4,24 @@ use Rattle.std.specs.List.{list_any}
 use Rattle.gl_model.specs.declared.row.Judged.{Judged}
 use Rattle.gl_model.specs.Lists.{lists_of}
 use Rattle.gl_model.specs.Trace.{Line, AreVerdicts, trace_record}
-use Rattle.gl_trace.specs.Judging.{judged_lines, line_of}
+use Rattle.gl_model.specs.Kept.{IsRecord}
+use Rattle.gl_trace.specs.Judging.{line_of}
 use Rattle.gl_trace.specs.Trace.{IsTrace, IsFirstFault}
 use Rattle.gl_trace.specs.TraceLine.{TraceLine}
-use Rattle.gl_trace.specs.Verdicts.{is_race, verdict_text}
+use Rattle.gl_trace.specs.Verdicts.{is_race, said_text, verdicts_said}
 use Rattle.gl_run.specs.Output.{refusal}
 use Rattle.gl_run.specs.declared.keep.Keep.{Keep}
 use Rattle.gl_run.specs.declared.keep.Keep.TheVariants.{Record, Nothing}
 use Rattle.gl_run.specs.declared.kept.Kept.{Kept}
 use Rattle.gl_run.specs.declared.kept.Kept.TheVariants.{Trace}
+
+-- a line with what is said of it
+abbrev pub Said : Type 0
+Said = TraceLine × Judged
+
+-- the lines alone
+abbrev pub lines_said : List Said → List TraceLine
+lines_said said = map (λ p. p.0) said
 
 -- 6 where some access is raised
 abbrev pub status_of : List Judged → ℕ
@@ -22,15 +31,16 @@ status_of judged = if list_any is_race judged then 6 else 0
 abbrev pub KeepsRecord : Keep → List Line → Option Kept → Type 0
 KeepsRecord Nothing lines kept = kept ≡ None
 KeepsRecord Record lines None = ⊥
-KeepsRecord Record lines (Some (Trace made)) = (t : ℕ) → lists_of made t ≡ trace_record lines t
+KeepsRecord Record lines (Some (Trace made)) = IsRecord made × ((t : ℕ) → lists_of made t ≡ trace_record lines t)
 
--- the status, the bytes and what is kept for a trace: those of its verdicts, which are what the race law says
+-- the status, the bytes and what is kept for a trace: one thing is said of each of its lines, as the race law says it
 pub record AnswersLines (keep : Keep) (trace : List TraceLine) (status : ℕ) (bytes : List ℕ) (kept : Option Kept) : Type 0 where
-  pub judged : List Judged
-  pub right : AreVerdicts (map line_of (judged_lines trace judged))
-  pub status_is : status ≡ status_of judged
-  pub bytes_are : bytes ≡ verdict_text trace judged
-  pub kept_is : KeepsRecord keep (map line_of (judged_lines trace judged)) kept
+  pub said : List Said
+  pub all : trace ≡ lines_said said
+  pub right : AreVerdicts (map line_of said)
+  pub status_is : status ≡ status_of (verdicts_said said)
+  pub bytes_are : bytes ≡ said_text said
+  pub kept_is : KeepsRecord keep (map line_of said) kept
 
 -- the status and the bytes for a text that is a trace
 pub record AcceptsTrace (keep : Keep) (input : List ℕ) (status : ℕ) (bytes : List ℕ) (kept : Option Kept) : Type 0 where

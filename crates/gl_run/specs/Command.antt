@@ -1,14 +1,15 @@
 -- What a command, or words that are none, and the input are answered, and the causes of each status. What is asked for is the command that
 -- the words name, where they name one of those that the call serves.
-use Rattle.std.specs.Prelude.{◌≡◌, ◌⊎◌, ℕ, List, [], Option, Some, None, take}
-use Rattle.std.specs.Io.KnownBytes.{Appends}
+use Rattle.std.specs.Prelude.{◌≡◌, ◌≤◌, ◌⊎◌, ℕ, List, [], length, Option, Some, None, take}
+use Rattle.std.specs.Io.KnownBytes.{Appends, Consumes, IsAtEnd}
 use Rattle.gl_io.specs.Faults.{Rose}
+use Rattle.gl_io.specs.Whole.{IsTaken}
 use Rattle.gl_run.specs.declared.words.Command.{Command}
 use Rattle.gl_run.specs.declared.keep.Keep.{Keep}
-use Rattle.gl_run.specs.declared.keep.Keep.TheVariants.{Nothing}
 use Rattle.gl_run.specs.declared.kept.Kept.{Kept}
 use Rattle.gl_run.specs.Texts.{AnswersText}
 use Rattle.gl_run.specs.Output.{usage}
+use Rattle.gl_run.specs.Words.{most_of}
 
 -- words that are no command get the usage line
 pub record AnswersUsage (asked : Option Command) (status : ℕ) (bytes : List ℕ) (kept : Option Kept) : Type 0 where
@@ -44,13 +45,32 @@ pub record HasCauses (asked : Option Command) (source_before source_now sink_bef
 abbrev pub IsWhole : ℕ → Type 0
 IsWhole status = (status ≡ 0) ⊎ ((status ≡ 1) ⊎ ((status ≡ 4) ⊎ ((status ≡ 6) ⊎ (status ≡ 7))))
 
--- what was written and what is kept, for an input that the source told
+-- what was written and what is kept, for an input
 pub record HasWritten (keep : Keep) (asked : Option Command) (input : List ℕ) (status : ℕ) (kept : Option Kept) (before now : Option (List ℕ)) : Type 0 where
   pub whole : IsWhole status → (bytes : List ℕ) × Replies keep asked input status bytes kept × Appends before now bytes
   pub part : status ≡ 3 → (meant : ℕ) × (n : ℕ) × (bytes : List ℕ) × Replies keep asked input meant bytes kept × Appends before now (take n bytes)
   pub nothing : (status ≡ 2) ⊎ (status ≡ 5) → Appends before now [] × (kept ≡ None)
   pub other : IsWhole status ⊎ ((status ≡ 2) ⊎ ((status ≡ 3) ⊎ (status ≡ 5)))
 
--- the same, whatever is kept, where no record of a trace is to be kept
-abbrev pub HasWrittenAlone : Option Command → List ℕ → ℕ → Option (List ℕ) → Option (List ℕ) → Type 0
-HasWrittenAlone asked input status before now = (kept : Option Kept) × HasWritten Nothing asked input status kept before now
+-- the same for some input, which is all that the source had left, where it tells that
+pub record Serves (keep : Keep) (asked : Option Command) (left : Option (List ℕ)) (status : ℕ) (kept : Option Kept) (before now : Option (List ℕ)) : Type 0 where
+  pub input : List ℕ
+  pub all : IsTaken left input
+  pub written : HasWritten keep asked input status kept before now
+
+-- these bytes were read, and where they are no more than may be read they are all
+pub record HasRead (most : ℕ) (before now : Option (List ℕ)) : Type 0 where
+  pub bytes : List ℕ
+  pub taken : Consumes before now bytes
+  pub end : length bytes ≤ most → IsAtEnd now
+
+-- the statuses of a command that read its input without a fault and had memory for its answer
+abbrev pub IsAnswered : ℕ → Type 0
+IsAnswered status = (status ≡ 0) ⊎ ((status ≡ 3) ⊎ ((status ≡ 4) ⊎ ((status ≡ 6) ⊎ (status ≡ 7))))
+
+-- what a source has left: all where the words ask for nothing; nothing where the input was accepted; and else what was not read of a text that is
+-- too long
+pub record HasLeft (asked : Option Command) (before now : Option (List ℕ)) (status : ℕ) : Type 0 where
+  pub unread : IsNoCommand asked → now ≡ before
+  pub accepted : (status ≡ 0) ⊎ ((status ≡ 6) ⊎ (status ≡ 7)) → IsAtEnd now
+  pub read : (command : Command) → asked ≡ Some command → IsAnswered status → HasRead (most_of command) before now

@@ -8,3 +8,4 @@ pub mod Texts
 pub mod Command
 pub mod Replies
 pub mod Runs
+pub mod Laws

@@ -1,7 +1,9 @@
 -- What comes between reading and writing.
-use Rattle.std.specs.Prelude.{◌≡◌, ◌⊎◌, ℕ, Option, Result, Ok, Err}
+use Rattle.std.specs.Prelude.{◌≡◌, ◌⊎◌, ℕ, List, Option, Result, Ok, Err}
 use Rattle.gl_io.specs.Faults.{Rose}
-use Rattle.gl_run.specs.Command.{IsNoCommand}
+use Rattle.gl_io.specs.Whole.{IsTaken}
+use Rattle.gl_run.specs.Command.{IsNoCommand, Replies}
+use Rattle.gl_run.specs.declared.keep.Keep.{Keep}
 use Rattle.gl_run.specs.declared.words.Command.{Command}
 use Rattle.gl_run.specs.declared.page.Page.{Page}
 use Rattle.gl_run.specs.declared.page.Stop.{Stop}
@@ -18,3 +20,9 @@ abbrev pub ReplyCause : Option Command → ℕ → ℕ → Result Page Stop → 
 ReplyCause asked before now (Ok p) = (now ≡ before) × IsPageStatus asked p.status
 ReplyCause asked before now (Err Read) = (IsNoCommand asked → ⊥) × Rose before now
 ReplyCause asked before now (Err Memory) = now ≡ before
+
+-- it is the page for some input, which is all that the source had left, where it tells that
+pub record RepliesTo (keep : Keep) (asked : Option Command) (left : Option (List ℕ)) (p : Page) : Type 0 where
+  pub input : List ℕ
+  pub all : IsTaken left input
+  pub reply : Replies keep asked input p.status p.text.items p.kept

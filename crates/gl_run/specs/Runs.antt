@@ -5,6 +5,7 @@ use Rattle.gl_asm.specs.Texts.{IsText}
 use Rattle.gl_bytecode.specs.Lawful.{Lawful}
 use Rattle.gl_bytecode.specs.Programs.{Bytecode}
 use Rattle.gl_model.specs.Entries.{Entry, Sync, Commit, Plain, Abort, Trim, Over}
+use Rattle.gl_model.specs.Kept.{IsRecord}
 use Rattle.gl_model.specs.Lists.{lists_of}
 use Rattle.gl_model.specs.Report.{all_entries, report_of}
 use Rattle.gl_model.specs.declared.record.Ending.TheVariants.{Halt, Uncaught, Spent}
@@ -34,6 +35,7 @@ run_status made = entries_status (all_entries made)
 -- the status, the bytes and what is kept of a run of the program: those of one lawful record of it
 pub record AnswersRun (program : Bytecode) (inputs : List ℤ) (steps status : ℕ) (bytes : List ℕ) (kept : Option Kept) : Type 0 where
   pub made : List (ℕ × List Entry)
+  pub is : IsRecord made
   pub lawful : Lawful program inputs steps (lists_of made)
   pub status_is : status ≡ run_status made
   pub bytes_are : bytes ≡ report_of made

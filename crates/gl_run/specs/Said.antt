@@ -7,19 +7,10 @@ use Rattle.gl_model.specs.Trace.{AreVerdicts}
 use Rattle.gl_trace.specs.Judging.{line_of}
 use Rattle.gl_trace.specs.Trace.{AreLines}
 use Rattle.gl_trace.specs.TraceLine.{TraceLine}
-use Rattle.gl_trace.specs.Verdicts.{is_race, verdict_line}
+use Rattle.gl_trace.specs.Verdicts.{is_race, verdict_line, verdicts_said}
+use Rattle.gl_run.specs.Check.{Said, lines_said}
 use Rattle.gl_run.specs.Recording.{IsRecorded}
 use Rattle.gl_run.specs.declared.verdicts.Verdicts.{Verdicts}
-
--- a line with what was said of it
-abbrev pub Said : Type 0
-Said = TraceLine × Judged
-
-abbrev pub lines_said : List Said → List TraceLine
-lines_said done = map (λ p. p.0) done
-
-abbrev pub verdicts_said : List Said → List Judged
-verdicts_said done = map (λ p. p.1) done
 
 -- what was said of these lines is right, and this is what is kept of it
 pub record IsSaid (done : List Said) (v : Verdicts) : Type 0 where

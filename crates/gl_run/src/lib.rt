@@ -4,6 +4,7 @@
 mod check;
 mod keep;
 mod kept;
+mod laws;
 mod listed;
 mod output;
 mod page;
@@ -13,7 +14,8 @@ mod verdicts;
 mod words;
 
 pub use kept::Kept;
-pub use top::{Answer, goldi, goldi_run, goldi_status, goldi_text};
+pub use laws::{answers_are_settled, checks_are_settled, programs_are_settled};
+pub use top::{Answer, goldi, goldi_run, goldi_text, goldi_without_trace};
 
 #[cfg(test)]
 mod tests;

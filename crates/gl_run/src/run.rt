@@ -66,6 +66,7 @@ fn ran(alloc: Global, program: &Program, inputs: &Inputs, steps: u32) -> Result<
     ensures status { IfOk result (λ p. IsVerdict p.status) }
 {
     let made = run_alone(alloc, program, inputs, steps)?;
+    made.keeps();
     let text = report(alloc, &made)?.into_bytes();
     let status = run_status(alloc, &made)?;
     Ok(Page {

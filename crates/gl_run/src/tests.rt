@@ -221,14 +221,15 @@ fn adapters(rt: HostRuntime) -> Result<(), Fail> {
     assert_eq!(rt; answer.kept.is_some(), true);
     assert_eq!(rt; &out[..], "1 ok\nraces 0\n".as_bytes());
     let mut alone = Vec::new(alloc);
-    let status = goldi_status(
+    let answer = goldi_without_trace(
         alloc,
         &words,
         &mut ReaderSource::new(input),
         &mut WriterSink::new(&mut alone),
         &Cuts::none(),
     );
-    assert_eq!(rt; status, 0);
+    assert_eq!(rt; answer.status, 0);
+    assert_eq!(rt; answer.kept.is_some(), false);
     assert_eq!(rt; &alone[..], &out[..]);
     let mut narrow = [0u8; 3];
     let answer = goldi_text(

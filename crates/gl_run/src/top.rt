@@ -1,11 +1,11 @@
 // The top call: words, input, output and status.
-ghost use Rattle.std.specs.Prelude.{◌≡◌, ◌⊎◌, IfOk, IfSome, None, string_bytes, map};
+ghost use Rattle.std.specs.Prelude.{◌≡◌, ◌⊎◌, IfOk, OnOk, None, Some, string_bytes, map};
 ghost use Rattle.std.specs.Io.KnownBytes.{IsAtEnd};
-ghost use Rattle.gl_run.specs.Command.{Replies, HasCauses, HasWritten, HasWrittenAlone};
+ghost use Rattle.gl_run.specs.Command.{HasCauses, HasLeft, HasRead, IsNoCommand, Serves};
 ghost use Rattle.gl_run.specs.Output.{usage};
-ghost use Rattle.gl_run.specs.Replies.{IsVerdict, ReplyCause};
+ghost use Rattle.gl_run.specs.Replies.{IsVerdict, ReplyCause, RepliesTo};
 ghost use Rattle.gl_run.specs.Texts.{AnswersText, AnswersLonger};
-ghost use Rattle.gl_run.specs.Words.{command_of, run_command_of, text_command_of};
+ghost use Rattle.gl_run.specs.Words.{command_of, most_of, run_command_of, text_command_of};
 
 use crate::check::check;
 use crate::keep::Keep;
@@ -68,8 +68,10 @@ fn reply<S: Source>(
     keep: Keep,
 ) -> Result<Page, Stop>
     ensures cause { ReplyCause asked (S.faults source.old) (S.faults source.new) result }
-    ensures end { IfOk result (λ p. (p.status ≡ 0) ⊎ ((p.status ≡ 6) ⊎ (p.status ≡ 7)) → IsAtEnd (S.left source.new)) }
-    ensures page { IfOk result (λ p. IfSome (S.left source.old) (λ input. Replies keep asked input p.status p.text.items p.kept)) }
+    ensures unread { IsNoCommand asked → S.left source.new ≡ S.left source.old }
+    ensures accepted { IfOk result (λ p. (p.status ≡ 0) ⊎ ((p.status ≡ 6) ⊎ (p.status ≡ 7)) → IsAtEnd (S.left source.new)) }
+    ensures read { (command : Command) → asked ≡ Some command → OnOk result (HasRead (most_of command) (S.left source.old) (S.left source.new)) }
+    ensures page { IfOk result (RepliesTo keep asked (S.left source.old)) }
 {
     match asked {
         None => no_command(alloc).map_err(|_| Stop::Memory),
@@ -101,9 +103,8 @@ fn serve<S: Source, K: Sink>(
     keep: Keep,
 ) -> Answer
     ensures causes { HasCauses asked (S.faults source.old) (S.faults source.new) (K.faults sink.old) (K.faults sink.new) result.status }
-    ensures end { (result.status ≡ 0) ⊎ ((result.status ≡ 6) ⊎ (result.status ≡ 7)) → IsAtEnd (S.left source.new) }
-    ensures written { IfSome (S.left source.old) (λ input.
-        HasWritten keep asked input result.status result.kept (K.written sink.old) (K.written sink.new)) }
+    ensures left { HasLeft asked (S.left source.old) (S.left source.new) result.status }
+    ensures written { Serves keep asked (S.left source.old) result.status result.kept (K.written sink.old) (K.written sink.new) }
 {
     match reply(alloc, asked, source, cuts, keep) {
         Ok(Page { status, text, kept }) => match write_all(sink, &text) {
@@ -133,9 +134,8 @@ pub fn goldi_text<S: Source, K: Sink>(
     cuts: &Cuts,
 ) -> Answer
     ensures causes { HasCauses (text_command_of (map string_bytes words.now)) (S.faults source.old) (S.faults source.new) (K.faults sink.old) (K.faults sink.new) result.status }
-    ensures end { (result.status ≡ 0) ⊎ ((result.status ≡ 6) ⊎ (result.status ≡ 7)) → IsAtEnd (S.left source.new) }
-    ensures written { IfSome (S.left source.old) (λ input.
-        HasWritten Keep.Record (text_command_of (map string_bytes words.now)) input result.status result.kept (K.written sink.old) (K.written sink.new)) }
+    ensures left { HasLeft (text_command_of (map string_bytes words.now)) (S.left source.old) (S.left source.new) result.status }
+    ensures written { Serves Keep.Record (text_command_of (map string_bytes words.now)) (S.left source.old) result.status result.kept (K.written sink.old) (K.written sink.new) }
 {
     serve(
         alloc,
@@ -157,9 +157,8 @@ pub fn goldi_run<S: Source, K: Sink>(
     cuts: &Cuts,
 ) -> Answer
     ensures causes { HasCauses (run_command_of (map string_bytes words.now)) (S.faults source.old) (S.faults source.new) (K.faults sink.old) (K.faults sink.new) result.status }
-    ensures end { (result.status ≡ 0) ⊎ ((result.status ≡ 6) ⊎ (result.status ≡ 7)) → IsAtEnd (S.left source.new) }
-    ensures written { IfSome (S.left source.old) (λ input.
-        HasWritten Keep.Record (run_command_of (map string_bytes words.now)) input result.status result.kept (K.written sink.old) (K.written sink.new)) }
+    ensures left { HasLeft (run_command_of (map string_bytes words.now)) (S.left source.old) (S.left source.new) result.status }
+    ensures written { Serves Keep.Record (run_command_of (map string_bytes words.now)) (S.left source.old) result.status result.kept (K.written sink.old) (K.written sink.new) }
 {
     serve(
         alloc,
@@ -180,27 +179,23 @@ pub fn goldi<S: Source, K: Sink>(
     cuts: &Cuts,
 ) -> Answer
     ensures causes { HasCauses (command_of (map string_bytes words.now)) (S.faults source.old) (S.faults source.new) (K.faults sink.old) (K.faults sink.new) result.status }
-    ensures end { (result.status ≡ 0) ⊎ ((result.status ≡ 6) ⊎ (result.status ≡ 7)) → IsAtEnd (S.left source.new) }
-    ensures written { IfSome (S.left source.old) (λ input.
-        HasWritten Keep.Record (command_of (map string_bytes words.now)) input result.status result.kept (K.written sink.old) (K.written sink.new)) }
+    ensures left { HasLeft (command_of (map string_bytes words.now)) (S.left source.old) (S.left source.new) result.status }
+    ensures written { Serves Keep.Record (command_of (map string_bytes words.now)) (S.left source.old) result.status result.kept (K.written sink.old) (K.written sink.new) }
 {
     serve(alloc, command_of(words), source, sink, cuts, Keep::Record)
 }
 
-/// Does what `goldi` does and writes what it writes, and answers the status alone, for a caller that asks for no record: none
-/// is made of a trace.
-pub fn goldi_status<S: Source, K: Sink>(
+/// Does what `goldi` does, for a caller that asks for no record of a trace: none is made. The record of a run is kept as ever.
+pub fn goldi_without_trace<S: Source, K: Sink>(
     alloc: Global,
     words: &[String],
     source: &mut S,
     sink: &mut K,
     cuts: &Cuts,
-) -> u8
-    ensures causes { HasCauses (command_of (map string_bytes words.now)) (S.faults source.old) (S.faults source.new) (K.faults sink.old) (K.faults sink.new) result }
-    ensures end { (result ≡ 0) ⊎ ((result ≡ 6) ⊎ (result ≡ 7)) → IsAtEnd (S.left source.new) }
-    ensures written { IfSome (S.left source.old) (λ input.
-        HasWrittenAlone (command_of (map string_bytes words.now)) input result (K.written sink.old) (K.written sink.new)) }
+) -> Answer
+    ensures causes { HasCauses (command_of (map string_bytes words.now)) (S.faults source.old) (S.faults source.new) (K.faults sink.old) (K.faults sink.new) result.status }
+    ensures left { HasLeft (command_of (map string_bytes words.now)) (S.left source.old) (S.left source.new) result.status }
+    ensures written { Serves Keep.Nothing (command_of (map string_bytes words.now)) (S.left source.old) result.status result.kept (K.written sink.old) (K.written sink.new) }
 {
-    let answer = serve(alloc, command_of(words), source, sink, cuts, Keep::Nothing);
-    answer.status
+    serve(alloc, command_of(words), source, sink, cuts, Keep::Nothing)
 }

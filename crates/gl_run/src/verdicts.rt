@@ -59,7 +59,11 @@ fn kept_of(tracer: Option<Tracer>) -> Result<Option<Kept>, AllocError>
     ensures { (lines : List Line) → IsRecorded lines tracer → IfOk result (KeepsRecord (keep_of tracer) lines) }
 {
     match tracer {
-        Some(tracer) => Ok(Some(Kept::Trace(tracer.record()?))),
+        Some(tracer) => {
+            let made = tracer.record()?;
+            made.keeps();
+            Ok(Some(Kept::Trace(made)))
+        }
         None => Ok(None),
     }
 }
@@ -92,9 +96,9 @@ impl Verdicts {
     ghost use Rattle.std.specs.Prelude.{◌≡◌, ◌∷◌, ◌++◌, [], List, IfOk, OnOk};
     ghost use Rattle.gl_model.specs.TraceSteps.{IsStep};
     ghost use Rattle.gl_trace.specs.Trace.{AreLines};
-    ghost use Rattle.gl_run.specs.Check.{AnswersLines};
+    ghost use Rattle.gl_run.specs.Check.{AnswersLines, Said, lines_said};
     ghost use Rattle.gl_run.specs.Recording.{keep_of};
-    ghost use Rattle.gl_run.specs.Said.{Said, IsSaid, Awaits, Ends, IsSaidOn, lines_said};
+    ghost use Rattle.gl_run.specs.Said.{IsSaid, Awaits, Ends, IsSaidOn};
 
     // Nothing was said yet.
     pub fn new(alloc: Global, keep: Keep) -> Result<Verdicts, AllocError>

@@ -1,3 +1,5 @@
 pub mod ListView
 pub mod States
 pub mod Entering
+pub mod Starting
+pub mod Acts

@@ -1,8 +1,10 @@
 // The list's state.
-ghost use Rattle.std.specs.Prelude.{◌≡◌, ℕ, ◌<◌, ◌^◌, IfSome, Some, None};
+ghost use Rattle.std.specs.Prelude.{◌≡◌, ℕ, ◌<◌, ◌^◌, IfOk, IfSome, Some, None};
+ghost use Rattle.gl_state.specs.Starting.{first_state};
 ghost use Rattle.gl_model.specs.declared.limits.TheConstants.{MONITORS};
 ghost use Rattle.gl_state.specs.Entering.{Enters, IsShallow, IsOfOther, monitor_of};
 
+use std::alloc::{AllocError, Global};
 use std::marker::Model;
 
 /// What becomes of a thread.
@@ -16,13 +18,13 @@ pub enum Stage {
 
 #[derive(Drop)]
 pub struct ListState {
-    threads: Vec<Stage>,
-    monitors: Vec<Option<(u8, u64)>>,
-    volatiles: Vec<i64>,
-    next_object: u16,
-    next_variable: u16,
-    next_volatile: u16,
-    inputs_taken: u32,
+    pub(crate) threads: Vec<Stage>,
+    pub(crate) monitors: Vec<Option<(u8, u64)>>,
+    pub(crate) volatiles: Vec<i64>,
+    pub(crate) next_object: u16,
+    pub(crate) next_variable: u16,
+    pub(crate) next_volatile: u16,
+    pub(crate) inputs_taken: u32,
 }
 
 impl Model for ListState {
@@ -37,7 +39,56 @@ impl Model for ListState {
     ghost invariant = { λ s. (length s.threads.items ≡ THREADS) × (length s.monitors.items ≡ MONITORS) × (length s.volatiles.items ≡ VOLATILES) };
 }
 
+fn first_threads(alloc: Global, main: u16) -> Result<Vec<Stage>, AllocError>
+    ensures { IfOk result (λ v. v.items ≡ (first_state main).threads) }
+{
+    let mut threads = Vec::with_capacity(alloc, 16)?;
+    threads.push_reserved(Stage::Forked {
+        func: main,
+        value: 0,
+    });
+    for _ in 0..15u64 {
+        threads.push_reserved(Stage::Never);
+    }
+    Ok(threads)
+}
+
+fn free_monitors(alloc: Global) -> Result<Vec<Option<(u8, u64)>>, AllocError>
+    ensures { IfOk result (λ v. v.items ≡ (first_state 0).monitors) }
+{
+    let mut monitors = Vec::with_capacity(alloc, 256)?;
+    for _ in 0..256u64 {
+        monitors.push_reserved(None);
+    }
+    Ok(monitors)
+}
+
+fn zero_words(alloc: Global) -> Result<Vec<i64>, AllocError>
+    ensures { IfOk result (λ v. v.items ≡ (first_state 0).volatiles) }
+{
+    let mut words = Vec::with_capacity(alloc, 256)?;
+    for _ in 0..256u64 {
+        words.push_reserved(0);
+    }
+    Ok(words)
+}
+
 impl ListState {
+    /// The state before any event: thread 0 is forked with the function of main, and nothing else is there.
+    pub fn new(alloc: Global, main: u16) -> Result<ListState, AllocError>
+        ensures { IfOk result (λ s. s ≡ first_state main) }
+    {
+        Ok(ListState {
+            threads: first_threads(alloc, main)?,
+            monitors: free_monitors(alloc)?,
+            volatiles: zero_words(alloc)?,
+            next_object: 0,
+            next_variable: 0,
+            next_volatile: 0,
+            inputs_taken: 0,
+        })
+    }
+
     /// The other thread that owns the monitor, if there is one.
     pub fn other_owner(&self, thread: u8, monitor: u16) -> Option<u8>
         requires there { monitor < MONITORS }

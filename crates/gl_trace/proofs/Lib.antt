@@ -2,3 +2,4 @@ pub mod IdsLemmas
 pub mod TraceLemmas
 pub mod TracerLemmas
 pub mod QuickLemmas
+pub mod WholeTraces

@@ -38,7 +38,7 @@ next_of ls n line rest e =
       taken = take_more ls n [] there ∙ ap (λ x. take n ls ++ x ∷ []) here;
     }
 
-lines_from-push : (k : ℕ) (ls : List (List ℕ)) (line : List ℕ)
+pub lines_from-push : (k : ℕ) (ls : List (List ℕ)) (line : List ℕ)
     → lines_from k (ls ++ line ∷ []) ≡ lines_from k ls ++ made (k + length ls) (said (words line))
 lines_from-push k [] line = append-nil (made k (said (words line))) ∙ ap (λ n. made n (said (words line))) (sym (add-zero k))
 lines_from-push k (x ∷ xs) line =
@@ -101,7 +101,7 @@ none_back : (o : Option StepFault) → option_map kind_of o ≡ None → o ≡ N
 none_back None e = refl
 none_back (Some fault) e = absurd (true≢false (ap is_some e))
 
-chosen : (before : List Step) (b c : Bool) (j k : ℕ) (r : Result (Option Step) ℕ) (s : Step) → r ≡ Ok (Some s)
+pub chosen : (before : List Step) (b c : Bool) (j k : ℕ) (r : Result (Option Step) ℕ) (s : Step) → r ≡ Ok (Some s)
     → (if b then Some j else (if c then Some k else said_fault before r)) ≡ None → step_fault before s.0 s.1 ≡ None
 chosen before true c j k r s says e = absurd (true≢false (ap is_some e))
 chosen before false true j k r s says e = absurd (true≢false (ap is_some e))
@@ -116,7 +116,7 @@ get_seam : (xs : List Step) (y : Step) → slice_get (xs ++ y ∷ []) (length xs
 get_seam [] y = refl
 get_seam (x ∷ xs) y = get_seam xs y
 
-clean_push : (steps : List Step) (s : Step) → AreClean steps → step_fault steps s.0 s.1 ≡ None → AreClean (steps ++ s ∷ [])
+pub clean_push : (steps : List Step) (s : Step) → AreClean steps → step_fault steps s.0 s.1 ≡ None → AreClean (steps ++ s ∷ [])
 clean_push steps s clean none = λ k r e.
     elim (cases_lt k (length steps)) [
       | inl h ↦

@@ -15,7 +15,7 @@ mod union;
 mod verdicts;
 
 pub use kept::Trace;
-pub use laws::one_meaning;
+pub use laws::{one_meaning, traces_are_clean};
 pub use limits::{TRACE_BYTES, TRACE_LINES};
 pub use reader::{NO_ITEM, TraceReader, read_trace};
 pub use tracer::{Tracer, trace_record};

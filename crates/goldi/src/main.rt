@@ -2,7 +2,7 @@
 #![tactic(auto)]
 
 use gl_io::{ReaderSource, WriterSink};
-use gl_run::goldi_status;
+use gl_run::goldi_without_trace;
 use gl_shortcut::Cuts;
 use std::alloc::{AllocError, Global};
 use std::process::ExitCode;
@@ -23,7 +23,14 @@ fn main(rt: HostRuntime) -> ExitCode {
         Ok(words) => {
             let mut source = ReaderSource::new(rt.stdin());
             let mut sink = WriterSink::new(rt.stdout());
-            ExitCode::from(goldi_status(rt.alloc(), &words, &mut source, &mut sink, &Cuts::none()))
+            let answer = goldi_without_trace(
+                rt.alloc(),
+                &words,
+                &mut source,
+                &mut sink,
+                &Cuts::none(),
+            );
+            ExitCode::from(answer.status)
         }
         Err(_) => ExitCode::from(5),
     }

@@ -2,8 +2,7 @@ use Rattle.std.proofs.Common.{◌∙◌, ◌++◌, ◌∷◌, [], sym, subst, in
 use Rattle.gl_trace.specs.Reads.{IsReadTo}
 use Rattle.gl_trace.specs.TraceLine.{TraceLine}
 use Rattle.gl_trace.specs.Trace.{IsTrace}
-use Rattle.gl_run.specs.Check.{AnswersLines}
-use Rattle.gl_run.specs.Said.{lines_said}
+use Rattle.gl_run.specs.Check.{AnswersLines, lines_said}
 use Rattle.gl_run.proofs.SaidLines.{lines_push, more_if_ok}
 use Rattle.gl_run.proofs.check.check.Goals as goal
 

@@ -1,13 +1,9 @@
-use Rattle.std.proofs.Common.{rules, arith, ◌≡◌, ◌+◌, ◌*◌, ◌++◌, sym, subst, map, if◌then◌else◌, ◌==◌}
+use Rattle.std.proofs.Common.{rules, arith, ◌≡◌, ◌+◌, ◌*◌, ◌++◌, refl, map, if◌then◌else◌, ◌==◌}
 use Rattle.std.specs.Prelude.{string_bytes}
-use Rattle.gl_model.specs.Trace.{AreVerdicts}
 use Rattle.gl_trace.specs.Judging.{line_of}
 use Rattle.gl_trace.specs.Verdicts.{races_line}
 use Rattle.gl_trace.specs.declared.limits.TheConstants.{TRACE_LINES}
-use Rattle.gl_run.specs.Check.{KeepsRecord}
-use Rattle.gl_run.specs.Recording.{keep_of}
-use Rattle.gl_run.specs.Said.{verdicts_said}
-use Rattle.gl_run.proofs.SaidLines.{split, status_end, text_end, recorded_room, lines_length}
+use Rattle.gl_run.proofs.SaidLines.{status_end, text_end, recorded_room, lines_length}
 use Rattle.gl_run.proofs.verdicts.Verdicts.page.Goals as goal
 
 pub kept_of-requires : goal.kept_of-requires
@@ -21,11 +17,10 @@ returns c = λ done said lines.
     let status : c.if-self-eq0.result ≡ (if races == 0 then 0 else 6) = search rules in
     let text : c.into_bytes.result.items ≡ string_bytes c.args.self.text ++ races_line races = search rules in
     record {
-      judged = verdicts_said done;
-      right = subst (λ x. AreVerdicts (map line_of x)) (sym (split done)) said.right;
+      said = done;
+      all = refl;
+      right = said.right;
       status_is = status_end done c.if-self-eq0.result races status said.races;
       bytes_are = text_end done c.into_bytes.result.items (string_bytes c.args.self.text) races text said.text said.races;
-      kept_is =
-          subst (λ x. KeepsRecord (keep_of c.args.self.tracer) (map line_of x) c.in_ok-kept_of.field-0) (sym (split done))
-          (c.in_ok-kept_of.ensures (map line_of done) said.recorded);
+      kept_is = c.in_ok-kept_of.ensures (map line_of done) said.recorded;
     }

@@ -6,7 +6,7 @@ use Rattle.gl_trace.specs.TraceLine.{TraceLine}
 use Rattle.gl_trace.specs.Verdicts.{is_race, verdict_line}
 use Rattle.gl_trace.specs.declared.limits.TheConstants.{TRACE_LINES}
 use Rattle.gl_run.specs.Recording.{IsRecorded}
-use Rattle.gl_run.specs.Said.{Said, lines_said}
+use Rattle.gl_run.specs.Check.{Said, lines_said}
 use Rattle.gl_run.proofs.SaidLines.{said_on, said_next, races_push, text_push, more_on_ok, few_races, recorded_room, lines_length}
 use Rattle.gl_run.proofs.verdicts.Verdicts.take.Goals as goal
 

@@ -1,0 +1,153 @@
+-- The answer of `list` is settled, and that of a run by its record.
+use Rattle.std.proofs.Common.{◌≡◌, ℕ, ℤ, List, Option, None, Some, ap, sym, subst, ◌∙◌, inl, inr}
+use Rattle.std.specs.Prelude.{unwrap_or}
+use Rattle.gl_asm.specs.Listing.{listing}
+use Rattle.gl_asm.specs.Texts.{IsText, IsFirstFault}
+use Rattle.gl_bytecode.specs.Programs.{Bytecode, Draft, draft_of}
+use Rattle.gl_model.specs.Entries.{Entry}
+use Rattle.gl_model.specs.Report.{report_of}
+use Rattle.gl_run.specs.Laws.{ChecksAreOne, ListingsAreApart, ListingsAreOne, RepliesAreOne, RepliesAreTold, RunsAreApart, RunsAreLawful, RunsAreTold, IsKeptRun, IsOneAnswer, IsToldByKept}
+use Rattle.gl_run.specs.Listed.{AcceptsProgram, RefusesProgram}
+use Rattle.gl_run.specs.Output.{refusal}
+use Rattle.gl_run.specs.Runs.{AcceptsRun, run_status}
+use Rattle.gl_run.specs.Texts.{AnswersText}
+use Rattle.gl_run.specs.Words.{run_part}
+use Rattle.gl_run.specs.declared.keep.Keep.{Keep}
+use Rattle.gl_run.specs.declared.kept.Kept.{Kept}
+use Rattle.gl_run.specs.declared.kept.Kept.TheVariants.{Trace}
+use Rattle.gl_run.specs.declared.words.Command.{Command}
+use Rattle.gl_run.specs.declared.words.Command.TheVariants as commands
+
+-- a program is read off its draft
+program_of : Bytecode → Draft → Bytecode
+program_of P D = record { classes = D.classes; functions = D.functions; main = unwrap_or D.main P.main }
+
+same_program : (P Q : Bytecode) → draft_of P ≡ draft_of Q → P ≡ Q
+unfolding program_of
+same_program P Q same = ap (program_of P) same
+
+same_kept : (made other : List (ℕ × List Entry)) (kept : Option Kept) → kept ≡ Some (Trace made) → kept ≡ Some (Trace other) → made ≡ other
+same_kept made other kept one two = cc
+
+module _ (apart : (text : List ℕ) (program : Bytecode) (inputs : List ℤ) (line kind : ℕ) → IsText text program inputs → IsFirstFault text line kind → ⊥)
+    (faults : (text : List ℕ) (a b j k : ℕ) → IsFirstFault text a j → IsFirstFault text b k → (a ≡ b) × (j ≡ k))
+    (texts : (text : List ℕ) (P Q : Bytecode) (xs ys : List ℤ) → IsText text P xs → IsText text Q ys → (draft_of P ≡ draft_of Q) × (xs ≡ ys)) where
+  refused_same : (input : List ℕ) (s t : ℕ) (a b : List ℕ) (j k : Option Kept) → RefusesProgram input s a j → RefusesProgram input t b k → (s ≡ t) × (a ≡ b) × (j ≡ k)
+  refused_same input s t a b j k one two =
+      let same = faults input one.line two.line one.kind two.kind one.fault two.fault in (
+        one.status_is ∙ sym two.status_is,
+        one.bytes_are ∙ ap (λ n. refusal n one.kind) same.0 ∙ ap (refusal two.line) same.1 ∙ sym two.bytes_are,
+        one.kept_is ∙ sym two.kept_is,
+      )
+
+  pub listings_apart : ListingsAreApart
+  listings_apart input s t a b j k one two = apart input one.program one.inputs two.line two.kind one.meaning two.fault
+
+  pub runs_apart : RunsAreApart
+  runs_apart steps input s t a b j k one two = apart input one.program one.inputs two.line two.kind one.meaning two.fault
+
+  listed_same : (input : List ℕ) (s t : ℕ) (a b : List ℕ) (j k : Option Kept) → AcceptsProgram input s a j → AcceptsProgram input t b k → (s ≡ t) × (a ≡ b) × (j ≡ k)
+  listed_same input s t a b j k one two =
+      let same = texts input one.program two.program one.inputs two.inputs one.meaning two.meaning in
+      let program : one.program ≡ two.program = same_program one.program two.program same.0 in (one.status_is ∙ sym two.status_is, one.bytes_are ∙ ap listing program ∙ sym two.bytes_are, one.kept_is ∙ sym two.kept_is)
+
+  pub listings_one : ListingsAreOne
+  listings_one input s t a b j k one two =
+      elim one [
+        | inl x ↦ elim two [ inl y ↦ listed_same input s t a b j k x y | inr y ↦ absurd (listings_apart input s t a b j k x y) ]
+        | inr x ↦ elim two [ inl y ↦ absurd (listings_apart input t s b a k j y x) | inr y ↦ refused_same input s t a b j k x y ]
+      ]
+
+  ran_same : (steps : ℕ) (input : List ℕ) (s t : ℕ) (a b : List ℕ) (kept : Option Kept) → AcceptsRun steps input s a kept → AcceptsRun steps input t b kept → (s ≡ t) × (a ≡ b)
+  ran_same steps input s t a b kept one two =
+      let x = one.answer in
+      let y = two.answer in
+      let same : x.made ≡ y.made = same_kept x.made y.made kept x.kept_is y.kept_is in
+      (x.status_is ∙ ap run_status same ∙ sym y.status_is, x.bytes_are ∙ ap report_of same ∙ sym y.bytes_are)
+
+  pub runs_told : RunsAreTold
+  runs_told steps input s t a b kept one two =
+      elim one [
+        | inl x ↦ elim two [ inl y ↦ ran_same steps input s t a b kept x y | inr y ↦ absurd (runs_apart steps input s t a b kept kept x y) ]
+        | inr x ↦
+            elim two [
+              | inl y ↦ absurd (runs_apart steps input t s b a kept kept y x)
+              | inr y ↦ let same = refused_same input s t a b kept kept x y in (same.0, same.1)
+            ]
+      ]
+
+refused_none : (made : List (ℕ × List Entry)) (input : List ℕ) (s : ℕ) (a : List ℕ) → RefusesProgram input s a (Some (Trace made)) → ⊥
+refused_none made input s a refused = let none = refused.kept_is in cc
+
+some_made : (made other : List (ℕ × List Entry)) → Some (Trace made) ≡ Some (Trace other) → other ≡ made
+some_made made other e = cc
+
+pub runs_lawful : RunsAreLawful
+runs_lawful steps input s a made one =
+    elim one [
+      | inl x ↦
+          let same : x.answer.made ≡ made = some_made made x.answer.made x.answer.kept_is in
+          subst (IsKeptRun steps input s a) same
+          (record {
+            program = x.program;
+            inputs = x.inputs;
+            meaning = x.meaning;
+            is = x.answer.is;
+            lawful = x.answer.lawful;
+            status_is = x.answer.status_is;
+            bytes_are = x.answer.bytes_are;
+          })
+      | inr refused ↦ absurd (refused_none made input s a refused)
+    ]
+
+-- ## All commands
+
+some_same : (c d : Command) (asked : Option Command) → asked ≡ Some c → asked ≡ Some d → d ≡ c
+some_same c d asked one two = cc
+
+not_both : (c : Command) (asked : Option Command) → asked ≡ None → asked ≡ Some c → ⊥
+not_both c asked none some = cc
+
+no_run : (steps : ℕ) (asked : Option Command) → asked ≡ Some (commands.Run steps) → run_part asked ≡ None → ⊥
+no_run steps asked is none = let runs : run_part asked ≡ Some (commands.Run steps) = ap run_part is in cc
+
+module _ (checks : ChecksAreOne) (listings : ListingsAreOne) (runs : RunsAreTold) where
+  texts_one : (keep : Keep) (asked : Option Command) (command : Command) (input : List ℕ) → asked ≡ Some command → run_part asked ≡ None → IsOneAnswer (AnswersText keep command input)
+  texts_one keep asked commands.Check input is none = checks keep input
+  texts_one keep asked commands.List input is none = listings input
+  texts_one keep asked (commands.Run steps) input is none = absurd (no_run steps asked is none)
+
+  texts_told : (keep : Keep) (command : Command) (input : List ℕ) → IsToldByKept (AnswersText keep command input)
+  texts_told keep commands.Check input s t a b kept one two = let same = checks keep input s t a b kept kept one two in (same.0, same.1)
+  texts_told keep commands.List input s t a b kept one two = let same = listings input s t a b kept kept one two in (same.0, same.1)
+  texts_told keep (commands.Run steps) input s t a b kept one two = runs steps input s t a b kept one two
+
+  pub replies_one : RepliesAreOne
+  replies_one keep asked input none s t a b j k one two =
+      elim one [
+        | inl x ↦
+            elim two [
+              | inl y ↦ (x.status_is ∙ sym y.status_is, x.bytes_are ∙ sym y.bytes_are, x.kept_is ∙ sym y.kept_is)
+              | inr y ↦ absurd (not_both y.command asked x.nothing y.is)
+            ]
+        | inr x ↦
+            elim two [
+              | inl y ↦ absurd (not_both x.command asked y.nothing x.is)
+              | inr y ↦
+                  texts_one keep asked x.command input x.is none s t a b j k x.answer
+                  (subst (λ (c : Command). AnswersText keep c input t b k) (some_same x.command y.command asked x.is y.is) y.answer)
+            ]
+      ]
+
+  pub replies_told : RepliesAreTold
+  replies_told keep asked input s t a b kept one two =
+      elim one [
+        | inl x ↦ elim two [ inl y ↦ (x.status_is ∙ sym y.status_is, x.bytes_are ∙ sym y.bytes_are) | inr y ↦ absurd (not_both y.command asked x.nothing y.is) ]
+        | inr x ↦
+            elim two [
+              | inl y ↦ absurd (not_both x.command asked y.nothing x.is)
+              | inr y ↦
+                  texts_told keep x.command input s t a b kept x.answer
+                  (subst (λ (c : Command). AnswersText keep c input t b kept) (some_same x.command y.command asked x.is y.is) y.answer)
+            ]
+      ]

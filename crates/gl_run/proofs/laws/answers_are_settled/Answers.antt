@@ -1,0 +1,8 @@
+use Rattle.gl_run.proofs.OneProgram.{replies_one, replies_told}
+use Rattle.gl_run.proofs.laws.answers_are_settled.Goals as goal
+
+pub returns-clause-one : goal.returns-clause-one
+returns-clause-one c = let programs = c.programs_are_settled.ensures in replies_one c.checks_are_settled.ensures.one programs.listings programs.runs
+
+pub returns-clause-told : goal.returns-clause-told
+returns-clause-told c = let programs = c.programs_are_settled.ensures in replies_told c.checks_are_settled.ensures.one programs.listings programs.runs

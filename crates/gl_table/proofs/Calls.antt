@@ -1,0 +1,100 @@
+-- What each call owes for its step.
+use Rattle.std.proofs.Common.{◌≡◌, ℕ, suc, max, ◌+◌, ◌*◌, ◌^◌, ◌%◌, ◌<◌, ◌≤◌, ◌==◌, List, [], ◌∷◌, length, sym, refl, subst, arith}
+use Rattle.std.specs.Prelude.{ℤ, Bool, Contains}
+use prog.Atomic.{either}
+use Rattle.atomic_table.specs.Table as table
+use Rattle.gl_model.specs.declared.event.Act.{Act}
+use Rattle.gl_model.specs.declared.event.Event.TheVariants.{Act as Does}
+use Rattle.gl_model.specs.declared.row.Row.{Row}
+use Rattle.gl_model.specs.declared.row.Question.{Question}
+use Rattle.gl_model.specs.Entries.{Entry, Sync}
+use Rattle.gl_model.specs.Machine.{Setting}
+use Rattle.gl_rule.specs.declared.slot.Slot.{Slot}
+use Rattle.gl_rule.specs.declared.slot.Slot.TheVariants as slot
+use Rattle.gl_table.specs.CaughtUp.{caught_up}
+use Rattle.gl_table.specs.PassInside.{IsReady}
+use Rattle.gl_state.specs.ListView.{ListView}
+use Rattle.gl_rule.specs.Objects.{Key, objects, capacity, cell_at}
+use Rattle.gl_rule.specs.View.{View, Held, Shelf, shelf, Hold}
+use Rattle.gl_rule.specs.Fitting.{MayPublish, MayMark, MayStoreWord, MayRaise, MayTrim}
+use Rattle.gl_table.specs.Putting.{MayPutBack}
+use Rattle.gl_rule.specs.Rule.{Rule}
+use Rattle.gl_table.specs.Says.{EventSaid, MarkSaid}
+use Rattle.gl_rule.specs.Told.{Took, Left, SawTail, Saw, PutWord, PublishedAct, Marked, SawFloor, Raised, Lowered}
+use Rattle.gl_rule.proofs.Aborting.{record_first}
+use Rattle.gl_rule.proofs.Acting.{publishes_act}
+use Rattle.gl_rule.proofs.Loading.{loads_tail, loads_hold}
+use Rattle.gl_rule.proofs.Marking.{marks_plain}
+use Rattle.gl_rule.proofs.Storing.{puts_word}
+use Rattle.gl_rule.proofs.Raising.{raises_hold, loads_floor}
+use Rattle.gl_rule.proofs.Lowering.{raises_low}
+use Rattle.gl_rule.proofs.Turning.{takes_turn, leaves_turn}
+
+module _ (key : Key) (slots id : ℕ) (me : table.Me Slot View) (t : ℕ) (es : List Entry) (u : View) (told : u ≡ caught_up me.0 t es) (ready : IsReady me.0 t es) where
+  as_told : (i : ℕ) (f : ℕ → ℕ) (tells : View → ℕ → table.Me Slot View → Type 0) → table.Allows (Rule key) slots id (caught_up me.0 t es, me.1) i f (tells (caught_up me.0 t es)) → table.Allows (Rule key) slots id me i f (tells u)
+  as_told i f tells a = subst (λ z. table.Allows (Rule key) slots id me i f (tells z)) (sym told) (record_first key slots id me.0 (caught_up me.0 t es) me.1 ready.more i f (tells (caught_up me.0 t es)) ready.adds a)
+
+  pub may_take : (setting : Setting) (k y : ℕ) → y ≡ k → setting ≡ key.setting → k < objects → table.Allows (Rule key) slots id me (3 * k + 1) (λ n. either (n == 0) (t + 1) n) (Took setting y u me.1)
+  may_take setting k y is same near =
+      subst (λ s. table.Allows (Rule key) slots id me (3 * k + 1) (λ n. either (n == 0) (t + 1) n) (Took s y u me.1)) (sym same)
+      (subst (λ z. table.Allows (Rule key) slots id me (3 * k + 1) (λ n. either (n == 0) (t + 1) n) (Took key.setting z u me.1)) (sym is) (as_told (3 * k + 1) (λ n. either (n == 0) (t + 1) n) (λ z. Took key.setting k z me.1) (takes_turn key slots id k (caught_up me.0 t es) me.1 (shelf t es) near refl)))
+
+  pub may_leave : (k y : ℕ) (q r : Bool) → y ≡ k → r ≡ q → objects ≤ slots
+      → (x : Slot) × (c : List (ℕ × Slot)) × (me.1 ≡ (k, x) ∷ c) × MayPutBack key.setting (shelf t es) (caught_up me.0 t es) k x q
+      → table.Allows (Rule key) slots id me (3 * k + 1) (λ _. 0) (λ _. Left y r u me.1)
+  may_leave k y q r is same many (x, c, out, may) =
+      let h = may.held in
+      let a : table.Allows (Rule key) slots id (caught_up me.0 t es, (h.object, x) ∷ c) (3 * h.object + 1) (λ _. 0) (λ _. Left h.object q (caught_up me.0 t es) ((h.object, x) ∷ c)) = leaves_turn key slots id (caught_up me.0 t es) c (shelf t es) h x q many refl may.has may.may may.quiet in
+      let b : table.Allows (Rule key) slots id (caught_up me.0 t es, (k, x) ∷ c) (3 * k + 1) (λ _. 0) (λ _. Left k q (caught_up me.0 t es) ((k, x) ∷ c)) = subst (λ z. table.Allows (Rule key) slots id (caught_up me.0 t es, (z, x) ∷ c) (3 * z + 1) (λ _. 0) (λ _. Left z q (caught_up me.0 t es) ((z, x) ∷ c))) may.object a in
+      let d : table.Allows (Rule key) slots id (caught_up me.0 t es, me.1) (3 * k + 1) (λ _. 0) (λ _. Left k q (caught_up me.0 t es) me.1) = subst (λ z. table.Allows (Rule key) slots id (caught_up me.0 t es, z) (3 * k + 1) (λ _. 0) (λ _. Left k q (caught_up me.0 t es) z)) (sym out) b in
+      subst (λ z. table.Allows (Rule key) slots id me (3 * k + 1) (λ _. 0) (λ _. Left y z u me.1)) (sym same) (subst (λ z. table.Allows (Rule key) slots id me (3 * k + 1) (λ _. 0) (λ _. Left z q u me.1)) (sym is) (as_told (3 * k + 1) (λ _. 0) (λ z _. Left k q z me.1) d))
+
+  pub may_tail : table.Allows (Rule key) slots id me 0 (λ n. n) (SawTail u me.1)
+  may_tail = as_told 0 (λ n. n) (λ z. SawTail z me.1) (loads_tail key slots id (caught_up me.0 t es) me.1)
+
+  pub may_hold : (k y : ℕ) → y ≡ k → k < objects → table.Allows (Rule key) slots id me (3 * k + 2) (λ n. n) (λ n. Saw (Hold y n) u me.1)
+  may_hold k y is near = subst (λ z. table.Allows (Rule key) slots id me (3 * k + 2) (λ n. n) (λ n. Saw (Hold z n) u me.1)) (sym is) (as_told (3 * k + 2) (λ n. n) (λ z n. Saw (Hold k n) z me.1) (loads_hold key slots id k (caught_up me.0 t es) me.1 near))
+
+  pub may_put : (cell i n : ℕ) → (h : Held) × (tail : ℕ) × MayStoreWord key (caught_up me.0 t es) h tail × (cell ≡ tail % capacity key) → i ≡ length (caught_up me.0 t es).stored → table.Allows (Rule key) slots id me (3076 + 5 * cell + i) (λ _. n) (λ _. PutWord n u me.1)
+  may_put cell i n (h, tail, may, here) next =
+      subst (λ z. table.Allows (Rule key) slots id me (3076 + 5 * z + i) (λ _. n) (λ _. PutWord n u me.1)) (sym here)
+      (subst (λ z. table.Allows (Rule key) slots id me (3076 + 5 * (tail % capacity key) + z) (λ _. n) (λ _. PutWord n u me.1)) (sym next)
+      (as_told (cell_at (capacity key) tail (length (caught_up me.0 t es).stored)) (λ _. n) (λ z _. PutWord n z me.1) (puts_word key slots id n (caught_up me.0 t es) me.1 h tail may)))
+
+  pub may_publish : (e : EventSaid) (act : Act) (value : ℤ) (l' : ListView) → e ≡ record { shelf = shelf t es; act = act; value = value; state = slot.List l' } → (caught_up me.0 t es).drawn ≡ []
+      → (h : Held) × (l : ListView) × MayPublish key (shelf t es) (caught_up me.0 t es) h l l' (λ n. Sync n act value) (record { thread = t; event = Does act }) value
+      → table.Allows (Rule key) slots id me 0 (λ n. (n + 1) % 2 ^ 64) (PublishedAct e.shelf e.act e.value e.state u me.1)
+  may_publish e act value l' is idle (h, l, may) =
+      subst (λ (q : EventSaid). table.Allows (Rule key) slots id me 0 (λ n. (n + 1) % 2 ^ 64) (PublishedAct q.shelf q.act q.value q.state u me.1)) (sym is)
+      (as_told 0 (λ n. (n + 1) % 2 ^ 64) (λ z. PublishedAct (shelf t es) act value (slot.List l') z me.1) (publishes_act key slots id (caught_up me.0 t es) me.1 (shelf t es) h l l' act value refl idle may))
+
+  pub may_draw : (m : MarkSaid) (h g : Held) (x y p : ℕ) (write : Bool) (value : ℤ) (raised : Bool) → m ≡ record { shelf = shelf t es; block = p; write = write; value = value; raised = raised } → y ≡ x → g ≡ h → (taken : Row) × (q : Question) × MayMark key.setting (shelf t es) (caught_up me.0 t es) h x taken p q write value raised
+      → table.Allows (Rule key) slots id me (3 * (x + 1)) (λ n. (n + 1) % 2 ^ 64) (Marked m.shelf g y m.block m.write m.value m.raised u me.1)
+  may_draw m h g x y p write value raised is same held may =
+      let object : h.object ≡ x + 1 = (let a = may.2.draws.object in omega arith) in
+      subst (λ (q : MarkSaid). table.Allows (Rule key) slots id me (3 * (x + 1)) (λ n. (n + 1) % 2 ^ 64) (Marked q.shelf g y q.block q.write q.value q.raised u me.1)) (sym is)
+      (subst (λ q. table.Allows (Rule key) slots id me (3 * (x + 1)) (λ n. (n + 1) % 2 ^ 64) (Marked (shelf t es) q y p write value raised u me.1)) (sym held)
+      (subst (λ q. table.Allows (Rule key) slots id me (3 * (x + 1)) (λ n. (n + 1) % 2 ^ 64) (Marked (shelf t es) h q p write value raised u me.1)) (sym same)
+      (subst (λ z. table.Allows (Rule key) slots id me (3 * z) (λ n. (n + 1) % 2 ^ 64) (Marked (shelf t es) h x p write value raised u me.1)) object
+      (as_told (3 * h.object) (λ n. (n + 1) % 2 ^ 64) (λ z. Marked (shelf t es) h x p write value raised z me.1) (marks_plain key slots id (caught_up me.0 t es) me.1 (shelf t es) h x may.0 p may.1 write value raised refl may.2)))))
+
+  pub may_floor : (x : ℕ) (h g : Held) → g ≡ h → Contains (caught_up me.0 t es).held h × (h.object ≡ suc x) → table.Allows (Rule key) slots id me (3 * (x + 1) + 2) (λ n. n) (SawFloor g u me.1)
+  may_floor x h g is has =
+      let object : h.object ≡ x + 1 = (let a = has.1 in omega arith) in
+      subst (λ q. table.Allows (Rule key) slots id me (3 * (x + 1) + 2) (λ n. n) (SawFloor q u me.1)) (sym is)
+      (subst (λ z. table.Allows (Rule key) slots id me (3 * z + 2) (λ n. n) (SawFloor h u me.1)) object
+      (as_told (3 * h.object + 2) (λ n. n) (λ z. SawFloor h z me.1) (loads_floor key slots id (caught_up me.0 t es) me.1 h has.0 (λ e. let a = has.1 in absurd (omega arith)))))
+
+  pub may_raise : (x to : ℕ) (row : Row) (h g : Held) (y : Slot) → g ≡ h → y ≡ slot.Row row → (taken : Row) × MayRaise key.setting (shelf t es) (caught_up me.0 t es) h x taken row to → table.Allows (Rule key) slots id me (3 * (x + 1) + 2) (λ _. to) (λ _. Raised g y to u me.1)
+  may_raise x to row h g y is state may =
+      let object : h.object ≡ x + 1 = (let a = may.1.object in omega arith) in
+      subst (λ q. table.Allows (Rule key) slots id me (3 * (x + 1) + 2) (λ _. to) (λ _. Raised q y to u me.1)) (sym is)
+      (subst (λ q. table.Allows (Rule key) slots id me (3 * (x + 1) + 2) (λ _. to) (λ _. Raised h q to u me.1)) (sym state)
+      (subst (λ z. table.Allows (Rule key) slots id me (3 * z + 2) (λ _. to) (λ _. Raised h (slot.Row row) to u me.1)) object
+      (as_told (3 * h.object + 2) (λ _. to) (λ z _. Raised h (slot.Row row) to z me.1) (raises_hold key slots id (caught_up me.0 t es) me.1 (shelf t es) h x may.0 row to refl may.1))))
+
+  pub may_lower : (to y : ℕ) (s : Shelf) → s ≡ shelf t es → y ≡ to → MayTrim key (shelf t es) (caught_up me.0 t es) to → table.Allows (Rule key) slots id me 2 (λ n. max n to) (Lowered s y u me.1)
+  may_lower to y s is same may =
+      subst (λ q. table.Allows (Rule key) slots id me 2 (λ n. max n to) (Lowered q y u me.1)) (sym is)
+      (subst (λ q. table.Allows (Rule key) slots id me 2 (λ n. max n to) (Lowered (shelf t es) q u me.1)) (sym same)
+      (as_told 2 (λ n. max n to) (λ z. Lowered (shelf t es) to z me.1) (raises_low key slots id to (caught_up me.0 t es) me.1 (shelf t es) refl may)))

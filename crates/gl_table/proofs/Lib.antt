@@ -1,0 +1,10 @@
+pub mod Adding
+pub mod Calls
+pub mod Rotations
+pub mod Out
+pub mod Ranges
+pub mod Passes
+pub mod Depths
+pub mod Doing
+pub mod Gathering
+pub mod Closings

@@ -1,0 +1,15 @@
+pub mod CaughtUp
+pub mod PassView
+pub mod PassInside
+pub mod KeyOf
+pub mod OfTable
+pub mod TableView
+pub mod SharedInside
+pub mod Says
+pub mod Putting
+pub mod Doing
+pub mod Beginning
+pub mod Ending
+pub mod SealedView
+pub mod SealedInside
+pub mod Words

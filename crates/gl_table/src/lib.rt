@@ -1,0 +1,19 @@
+//! The shared table and its rule.
+#![tactic(auto)]
+
+mod close;
+mod hold;
+mod layout;
+mod moves;
+mod new;
+mod pack;
+mod pass;
+mod rule;
+mod sealed;
+mod shared;
+mod telling;
+
+pub use layout::Layout;
+pub use pass::Pass;
+pub use sealed::Sealed;
+pub use shared::{Busy, Shared};

@@ -1,0 +1,231 @@
+// The steps on the table's words, each with what it tells its seat.
+ghost use Rattle.std.specs.Prelude.{◌≡◌, ℕ, ℤ, ◌<◌, ◌≤◌, ◌%◌, ◌+◌, ◌*◌, ◌^◌, true, suc, ◌∷◌, [], List, map, length, Contains};
+ghost use Rattle.gl_model.specs.declared.event.Event.TheVariants.{Act as Does};
+ghost use Rattle.gl_model.specs.declared.row.Row.{Row as ARow};
+ghost use Rattle.gl_model.specs.declared.row.Question.{Question};
+ghost use Rattle.gl_model.specs.Entries.{Sync, seen};
+ghost use Rattle.gl_table.specs.CaughtUp.{caught_up, block_of};
+ghost use Rattle.gl_rule.specs.Fitting.{MayPublish, MayMark, MayStoreWord, MayRaise, MayTrim};
+ghost use Rattle.gl_table.specs.Ending.{ClosedTold};
+ghost use Rattle.gl_table.specs.KeyOf.{key_of};
+ghost use Rattle.gl_state.specs.ListView.{ListView};
+ghost use Rattle.gl_rule.specs.Objects.{capacity, objects};
+ghost use Rattle.gl_table.specs.OfTable.{OfTable};
+ghost use Rattle.gl_table.specs.PassInside.{IsReady};
+ghost use Rattle.gl_table.specs.Putting.{MayPutBack, held_at};
+ghost use Rattle.gl_rule.specs.Told.{Took, Left, SawTail, Saw, PutWord, PublishedAct, Marked, SawFloor, Raised, Lowered};
+ghost use Rattle.gl_rule.specs.View.{Shelf, shelf, Held, Hold};
+ghost use Rattle.gl_rule.specs.declared.slot.Slot.{Slot as ASlot};
+ghost use Rattle.gl_rule.specs.declared.slot.Slot.TheVariants as slot;
+
+use crate::layout::Layout;
+use crate::rule::{
+    Closes, Leaves, Lowers, Marks, Order, Publishes, Puts, Raises, SeesFloor, SeesHold, SeesTail,
+    Takes, Told,
+};
+use gl_model::{Act, Entry, Row};
+use gl_rule::{Know, Slot};
+use gl_state::ListState;
+
+pub type Seat = atomic_table::Seat<Slot, Know>;
+
+pub type Board = atomic_table::Shared<Slot, Know, Layout, Order>;
+
+// Tries to take the turn of an object, for the pass `id`.
+pub fn take_turn<B: Told>(
+    board: &Board,
+    seat: &mut Seat,
+    id: u8,
+    mine: &Vec<Entry>,
+    object: u16,
+) -> u64
+    requires table { OfTable seat.old.table_id board.now.table_id (key_of board.now.key) }
+    requires ready { IsReady seat.old.me.0 id (map seen mine.now.items) }
+    requires told { (B.view ≡ caught_up seat.old.me.0 id (map seen mine.now.items)) × (B.object ≡ object) × (B.setting ≡ (key_of board.now.key).setting) }
+    requires near { object < objects }
+    ensures seat { (seat.new.table_id ≡ seat.old.table_id) × (seat.new.id ≡ seat.old.id) }
+    ensures took { Took (key_of board.now.key).setting object (caught_up seat.old.me.0 id (map seen mine.now.items)) seat.old.me.1 result seat.new.me }
+{
+    board.compare_exchange::<Takes<B>>(seat, 3 * object as usize + 1, 0, id as u64 + 1)
+}
+
+// Leaves the turn of an object, which is in its slot.
+pub fn leave_turn<B: Told>(
+    board: &Board,
+    seat: &mut Seat,
+    id: u8,
+    mine: &Vec<Entry>,
+    object: u16,
+    quiet: bool,
+)
+    requires table { OfTable seat.old.table_id board.now.table_id (key_of board.now.key) }
+    requires ready { IsReady seat.old.me.0 id (map seen mine.now.items) }
+    requires told { (B.view ≡ caught_up seat.old.me.0 id (map seen mine.now.items)) × (B.object ≡ object) × (B.quiet ≡ quiet) }
+    requires near { object < objects }
+    requires back { (y : ASlot) × (c : List (ℕ × ASlot)) × (seat.old.me.1 ≡ (object, y) ∷ c) × MayPutBack (key_of board.now.key).setting (shelf id (map seen mine.now.items)) (caught_up seat.old.me.0 id (map seen mine.now.items)) object y quiet }
+    ensures seat { (seat.new.table_id ≡ seat.old.table_id) × (seat.new.id ≡ seat.old.id) }
+    ensures left { Left object quiet (caught_up seat.old.me.0 id (map seen mine.now.items)) seat.old.me.1 seat.new.me }
+{
+    board.store::<Leaves<B>>(seat, 3 * object as usize + 1, 0);
+}
+
+// Loads the tail.
+pub fn load_tail<B: Told>(board: &Board, seat: &mut Seat, id: u8, mine: &Vec<Entry>) -> u64
+    requires table { OfTable seat.old.table_id board.now.table_id (key_of board.now.key) }
+    requires ready { IsReady seat.old.me.0 id (map seen mine.now.items) }
+    requires told { B.view ≡ caught_up seat.old.me.0 id (map seen mine.now.items) }
+    ensures seat { (seat.new.table_id ≡ seat.old.table_id) × (seat.new.id ≡ seat.old.id) }
+    ensures saw { SawTail (caught_up seat.old.me.0 id (map seen mine.now.items)) seat.old.me.1 result seat.new.me }
+{
+    board.load::<SeesTail<B>>(seat, 0)
+}
+
+// Loads an object's hold.
+pub fn load_hold<B: Told>(
+    board: &Board,
+    seat: &mut Seat,
+    id: u8,
+    mine: &Vec<Entry>,
+    object: u16,
+) -> u64
+    requires table { OfTable seat.old.table_id board.now.table_id (key_of board.now.key) }
+    requires ready { IsReady seat.old.me.0 id (map seen mine.now.items) }
+    requires told { (B.view ≡ caught_up seat.old.me.0 id (map seen mine.now.items)) × (B.object ≡ object) }
+    requires near { object < objects }
+    ensures seat { (seat.new.table_id ≡ seat.old.table_id) × (seat.new.id ≡ seat.old.id) }
+    ensures saw { Saw (Hold object result) (caught_up seat.old.me.0 id (map seen mine.now.items)) seat.old.me.1 seat.new.me }
+{
+    board.load::<SeesHold<B>>(seat, 3 * object as usize + 2)
+}
+
+// Stores the next word in the cell of the tail.
+pub fn put_word<B: Told>(
+    board: &Board,
+    seat: &mut Seat,
+    id: u8,
+    mine: &Vec<Entry>,
+    cell: usize,
+    index: usize,
+    word: u64,
+)
+    requires table { OfTable seat.old.table_id board.now.table_id (key_of board.now.key) }
+    requires ready { IsReady seat.old.me.0 id (map seen mine.now.items) }
+    requires told { B.view ≡ caught_up seat.old.me.0 id (map seen mine.now.items) }
+    requires may { (h : Held) × (tail : ℕ) × MayStoreWord (key_of board.now.key) (caught_up seat.old.me.0 id (map seen mine.now.items)) h tail × (cell ≡ tail % capacity (key_of board.now.key)) }
+    requires near { (cell < capacity (key_of board.now.key)) × (cell < 2 ^ 32) × (index < 5) }
+    requires next { index ≡ length (caught_up seat.old.me.0 id (map seen mine.now.items)).stored }
+    ensures seat { (seat.new.table_id ≡ seat.old.table_id) × (seat.new.id ≡ seat.old.id) }
+    ensures put { PutWord word (caught_up seat.old.me.0 id (map seen mine.now.items)) seat.old.me.1 seat.new.me }
+{
+    board.store::<Puts<B>>(seat, 3076 + 5 * cell + index, word);
+}
+
+// Publishes an event that is no commit, which stands in its cell.
+pub fn publish_act<B: Told>(
+    board: &Board,
+    seat: &mut Seat,
+    id: u8,
+    mine: &Vec<Entry>,
+    act: &Act,
+    value: i64,
+    state: &ListState,
+) -> u64
+    requires table { OfTable seat.old.table_id board.now.table_id (key_of board.now.key) }
+    requires ready { IsReady seat.old.me.0 id (map seen mine.now.items) }
+    requires told { (B.view ≡ caught_up seat.old.me.0 id (map seen mine.now.items)) × (B.event ≡ record { shelf = shelf id (map seen mine.now.items); act = act.now; value = value; state = slot.List state.now }) }
+    requires idle { (caught_up seat.old.me.0 id (map seen mine.now.items)).drawn ≡ [] }
+    requires may { (h : Held) × (l : ListView) × MayPublish (key_of board.now.key) (shelf id (map seen mine.now.items)) (caught_up seat.old.me.0 id (map seen mine.now.items)) h l state.now (λ n. Sync n act.now value) (record { thread = id; event = Does act.now }) value }
+    ensures seat { (seat.new.table_id ≡ seat.old.table_id) × (seat.new.id ≡ seat.old.id) }
+    ensures published { PublishedAct (shelf id (map seen mine.now.items)) act.now value (slot.List state.now) (caught_up seat.old.me.0 id (map seen mine.now.items)) seat.old.me.1 result seat.new.me }
+{
+    board.fetch_add::<Publishes<B>>(seat, 0, 1)
+}
+
+// Draws the next number of the variable for a plain access, whose entry the thread stores next.
+pub fn draw_number<B: Told>(
+    board: &Board,
+    seat: &mut Seat,
+    id: u8,
+    mine: &Vec<Entry>,
+    var: u16,
+    write: bool,
+    value: i64,
+    raised: bool,
+) -> u64
+    requires table { OfTable seat.old.table_id board.now.table_id (key_of board.now.key) }
+    requires ready { IsReady seat.old.me.0 id (map seen mine.now.items) }
+    requires near { var < 1024 }
+    requires told { (B.view ≡ caught_up seat.old.me.0 id (map seen mine.now.items)) × (B.mark ≡ record { shelf = shelf id (map seen mine.now.items); block = block_of (map seen mine.now.items); write = write; value = value; raised = raised }) × (B.object ≡ var) × (B.held ≡ held_at (var + 1) (caught_up seat.old.me.0 id (map seen mine.now.items)).held) }
+    requires may { (taken : ARow) × (q : Question) × MayMark (key_of board.now.key).setting (shelf id (map seen mine.now.items)) (caught_up seat.old.me.0 id (map seen mine.now.items)) (held_at (var + 1) (caught_up seat.old.me.0 id (map seen mine.now.items)).held) var taken (block_of (map seen mine.now.items)) q write value raised }
+    ensures seat { (seat.new.table_id ≡ seat.old.table_id) × (seat.new.id ≡ seat.old.id) }
+    ensures drew { Marked (shelf id (map seen mine.now.items)) (held_at (var + 1) (caught_up seat.old.me.0 id (map seen mine.now.items)).held) var (block_of (map seen mine.now.items)) write value raised (caught_up seat.old.me.0 id (map seen mine.now.items)) seat.old.me.1 result seat.new.me }
+{
+    board.fetch_add::<Marks<B>>(seat, 3 * (var as usize + 1), 1)
+}
+
+// Loads the hold of a row that is held.
+pub fn load_floor<B: Told>(
+    board: &Board,
+    seat: &mut Seat,
+    id: u8,
+    mine: &Vec<Entry>,
+    var: u16,
+) -> u64
+    requires table { OfTable seat.old.table_id board.now.table_id (key_of board.now.key) }
+    requires ready { IsReady seat.old.me.0 id (map seen mine.now.items) }
+    requires near { var < 1024 }
+    requires told { (B.view ≡ caught_up seat.old.me.0 id (map seen mine.now.items)) × (B.held ≡ held_at (var + 1) (caught_up seat.old.me.0 id (map seen mine.now.items)).held) }
+    requires held { Contains (caught_up seat.old.me.0 id (map seen mine.now.items)).held (held_at (var + 1) (caught_up seat.old.me.0 id (map seen mine.now.items)).held) × ((held_at (var + 1) (caught_up seat.old.me.0 id (map seen mine.now.items)).held).object ≡ suc var) }
+    ensures seat { (seat.new.table_id ≡ seat.old.table_id) × (seat.new.id ≡ seat.old.id) }
+    ensures saw { SawFloor (held_at (var + 1) (caught_up seat.old.me.0 id (map seen mine.now.items)).held) (caught_up seat.old.me.0 id (map seen mine.now.items)) seat.old.me.1 result seat.new.me }
+{
+    board.load::<SeesFloor<B>>(seat, 3 * (var as usize + 1) + 2)
+}
+
+// Raises the hold of a row that is held, whose Infos have been moved up.
+pub fn raise_floor<B: Told>(
+    board: &Board,
+    seat: &mut Seat,
+    id: u8,
+    mine: &Vec<Entry>,
+    var: u16,
+    row: &Row,
+    to: u64,
+)
+    requires table { OfTable seat.old.table_id board.now.table_id (key_of board.now.key) }
+    requires ready { IsReady seat.old.me.0 id (map seen mine.now.items) }
+    requires near { var < 1024 }
+    requires told { (B.view ≡ caught_up seat.old.me.0 id (map seen mine.now.items)) × (B.held ≡ held_at (var + 1) (caught_up seat.old.me.0 id (map seen mine.now.items)).held) × (B.event.state ≡ slot.Row row.now) }
+    requires may { (taken : ARow) × MayRaise (key_of board.now.key).setting (shelf id (map seen mine.now.items)) (caught_up seat.old.me.0 id (map seen mine.now.items)) (held_at (var + 1) (caught_up seat.old.me.0 id (map seen mine.now.items)).held) var taken row.now to }
+    ensures seat { (seat.new.table_id ≡ seat.old.table_id) × (seat.new.id ≡ seat.old.id) }
+    ensures raised { Raised (held_at (var + 1) (caught_up seat.old.me.0 id (map seen mine.now.items)).held) (slot.Row row.now) to (caught_up seat.old.me.0 id (map seen mine.now.items)) seat.old.me.1 seat.new.me }
+{
+    board.store::<Raises<B>>(seat, 3 * (var as usize + 1) + 2, to);
+}
+
+// Raises the first segment; answers what it was.
+pub fn raise_first<B: Told>(
+    board: &Board,
+    seat: &mut Seat,
+    id: u8,
+    mine: &Vec<Entry>,
+    to: u64,
+) -> u64
+    requires table { OfTable seat.old.table_id board.now.table_id (key_of board.now.key) }
+    requires ready { IsReady seat.old.me.0 id (map seen mine.now.items) }
+    requires told { (B.view ≡ caught_up seat.old.me.0 id (map seen mine.now.items)) × (B.event.shelf ≡ shelf id (map seen mine.now.items)) × (B.object ≡ to) }
+    requires may { MayTrim (key_of board.now.key) (shelf id (map seen mine.now.items)) (caught_up seat.old.me.0 id (map seen mine.now.items)) to }
+    ensures seat { (seat.new.table_id ≡ seat.old.table_id) × (seat.new.id ≡ seat.old.id) }
+    ensures lowered { Lowered (shelf id (map seen mine.now.items)) to (caught_up seat.old.me.0 id (map seen mine.now.items)) seat.old.me.1 result seat.new.me }
+{
+    board.fetch_max::<Lowers<B>>(seat, 2, to)
+}
+
+// A load by the seat that has all lists, which tells what the record of them is.
+pub fn load_last<B: Told>(board: &Board, seat: &mut Seat)
+    requires table { OfTable seat.old.table_id board.now.table_id (key_of board.now.key) }
+    requires told { (B.view ≡ seat.old.me.0) × (B.key ≡ key_of board.now.key) }
+    ensures closed { ClosedTold (key_of board.now.key) seat.old.me.0 seat.new.me }
+{
+    board.load::<Closes<B>>(seat, 0);
+}

@@ -1,0 +1,116 @@
+// Publishing an event whose words stand in its cell.
+ghost use Rattle.std.specs.Prelude.{◌≡◌, ℕ, ◌≤◌, ◌<◌, ◌^◌, [], map, length};
+ghost use Rattle.gl_model.specs.declared.event.Event.TheVariants.{Act as Does};
+ghost use Rattle.gl_model.specs.Entries.{Sync, seen};
+ghost use Rattle.gl_table.specs.CaughtUp.{caught_up};
+ghost use Rattle.gl_table.specs.KeyOf.{key_of};
+ghost use Rattle.gl_rule.specs.Objects.{capacity};
+ghost use Rattle.gl_table.specs.OfTable.{OfTable};
+ghost use Rattle.gl_table.specs.PassInside.{IsReady};
+ghost use Rattle.gl_table.specs.PassView.{view_of, after_storing};
+ghost use Rattle.gl_table.specs.Putting.{MayPutWords, MayPublishAct, MayMarkPlain, marked_plain, published_act};
+ghost use Rattle.gl_rule.specs.View.{published};
+ghost use Rattle.gl_rule.specs.declared.slot.Slot.TheVariants as slot;
+
+use crate::moves::{Board, Seat, draw_number, publish_act, put_word};
+use crate::pack::pack;
+use crate::pass::Pass;
+use gl_model::{Act, Entry};
+use gl_state::ListState;
+use std::marker::Brand;
+
+// Stores the words in the cell of the tail.
+fn put_words(board: &Board, seat: &mut Seat, id: u8, mine: &Vec<Entry>, cell: usize, words: &[u64])
+    requires table { OfTable seat.old.table_id board.now.table_id (key_of board.now.key) }
+    requires ready { IsReady seat.old.me.0 id (map seen mine.now.items) }
+    requires near { (cell < capacity (key_of board.now.key)) × (cell < 2 ^ 32) }
+    requires may { MayPutWords (key_of board.now.key) (caught_up seat.old.me.0 id (map seen mine.now.items)) cell }
+    requires five { length words.now ≡ 5 }
+    ensures seat { (seat.new.table_id ≡ seat.old.table_id) × (seat.new.id ≡ seat.old.id) × (seat.new.me.1 ≡ seat.old.me.1) }
+    ensures ready { IsReady seat.new.me.0 id (map seen mine.now.items) }
+    ensures stored { caught_up seat.new.me.0 id (map seen mine.now.items) ≡ record (caught_up seat.old.me.0 id (map seen mine.now.items)) { stored = words.now } }
+{
+    for (i, word) in words.iter().enumerate() {
+        put_word::<Brand>(board, seat, id, mine, cell, i, *word);
+    }
+}
+
+// Publishes an act, by which the list's state became `state`.
+pub(crate) fn publish(
+    board: &Board,
+    pass: &mut Pass,
+    cells: u64,
+    act: &Act,
+    value: i64,
+    state: &ListState,
+) -> u64
+    requires table { OfTable pass.old.own.table board.now.table_id (key_of board.now.key) }
+    requires cells { (cells ≡ capacity (key_of board.now.key)) × (cells < 2 ^ 32) }
+    requires idle { pass.old.own.drawn ≡ [] }
+    requires spare { 0 < pass.old.spare }
+    requires may { MayPublishAct (key_of board.now.key) pass.old act.now value state.now }
+    ensures published { pass.new ≡ published_act pass.old act.now value result state.now }
+    ensures later { pass.old.seen ≤ result }
+{
+    let words = pack(pass.id, act);
+    put_words(
+        board,
+        &mut pass.seat,
+        pass.id,
+        &pass.mine,
+        (pass.seen % cells) as usize,
+        &words,
+    );
+    let at = publish_act::<Brand>(
+        board,
+        &mut pass.seat,
+        pass.id,
+        &pass.mine,
+        act,
+        value,
+        state,
+    );
+    pass.mine.push_reserved(Entry::Sync {
+        at,
+        act: *act,
+        value,
+    });
+    pass.seen = at + 1;
+    at
+}
+
+// Draws the number of a plain access on a held row, and stores its entry.
+pub(crate) fn mark_plain(
+    board: &Board,
+    pass: &mut Pass,
+    var: u16,
+    write: bool,
+    value: i64,
+    raised: bool,
+) -> u64
+    requires table { OfTable pass.old.own.table board.now.table_id (key_of board.now.key) }
+    requires near { var < 1024 }
+    requires spare { 0 < pass.old.spare }
+    requires may { MayMarkPlain (key_of board.now.key).setting pass.old var write value raised }
+    ensures marked { pass.new ≡ marked_plain pass.old var result write value raised }
+{
+    let nth = draw_number::<Brand>(
+        board,
+        &mut pass.seat,
+        pass.id,
+        &pass.mine,
+        var,
+        write,
+        value,
+        raised,
+    );
+    pass.mine.push_reserved(Entry::Plain {
+        var,
+        nth,
+        cached: false,
+        write,
+        value,
+        raised,
+    });
+    nth
+}
