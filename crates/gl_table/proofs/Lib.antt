@@ -12,3 +12,4 @@ pub mod Doneness
 pub mod RightOf
 pub mod Aborts
 pub mod Commitments
+pub mod Unpacking

@@ -12,6 +12,7 @@ mod rule;
 mod sealed;
 mod shared;
 mod telling;
+mod unpack;
 #[cfg(test)]
 mod tests;
 
