@@ -13,3 +13,4 @@ pub mod RightOf
 pub mod Aborts
 pub mod Commitments
 pub mod Unpacking
+pub mod FiveWords

@@ -1,7 +1,7 @@
 -- The pass after it loaded words of the event at a position.
-use Rattle.std.specs.Prelude.{ℕ, ◌+◌, List, [], ◌∷◌}
+use Rattle.std.specs.Prelude.{ℕ}
 use Rattle.gl_model.specs.declared.event.Stamp.{Stamp}
-use Rattle.gl_rule.specs.View.{View, CellWord, saw_cell, knows}
+use Rattle.gl_rule.specs.View.{CellWord, saw_cell, knows}
 use Rattle.gl_table.specs.PassView.{PassView, view_of, after}
 
 abbrev pub word_at : ℕ → ℕ → ℕ → CellWord

@@ -23,8 +23,8 @@ ghost use Rattle.gl_rule.specs.declared.slot.Slot.TheVariants as slot;
 
 use crate::layout::Layout;
 use crate::rule::{
-    Closes, Commits, Leaves, Lowers, Marks, Opens, Order, Pays, SeesCell, SeesEvent, Publishes, Puts, Raises, SeesFloor,
-    SeesHold, SeesStop, SeesTail, Stops, Takes, Told,
+    Closes, Commits, Leaves, Lowers, Marks, Opens, Order, Pays, Publishes, Puts, Raises, SeesCell,
+    SeesEvent, SeesFloor, SeesHold, SeesStop, SeesTail, Stops, Takes, Told,
 };
 use gl_model::{Act, Entry, Row, Tx};
 use gl_rule::{Know, Slot};

@@ -1,5 +1,4 @@
-use Rattle.std.proofs.Common.{◌≡◌}
-use Rattle.gl_table.proofs.Unpacking.{as_commit, as_act, commit_ids}
+use Rattle.gl_table.proofs.Unpacking.{as_commit, commit_ids}
 use Rattle.gl_table.proofs.unpack.unpack.Goals as goal
 
 pub vars_of-vars-requires-clause-ids : goal.vars_of-vars-requires-clause-ids

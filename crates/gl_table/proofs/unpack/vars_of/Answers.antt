@@ -1,4 +1,4 @@
-use Rattle.std.proofs.Common.{◌≡◌, ◌<◌, length, get_or, ap, ◌∙◌, arith}
+use Rattle.std.proofs.Common.{◌<◌, length, get_or, ap, ◌∙◌, arith}
 use Rattle.gl_model.specs.Rising.{with_one}
 use Rattle.gl_table.proofs.Unpacking.{next_id}
 use Rattle.gl_table.proofs.unpack.vars_of.Goals as goal
