@@ -4,7 +4,6 @@ use Rattle.std.specs.Prelude.{ℤ, pos, Contains, ◌⊎◌, Option, slice_get, 
 use Rattle.std.specs.List.{All}
 use Rattle.std.proofs.lemmas.List.{take-append-drop, length-take-le}
 use Rattle.std.proofs.lemmas.List.Elements.{All-contains}
-use native.Mathlib.Decide.{ℕ_discrete}
 use Rattle.atomic_table.specs.Table as table
 use Rattle.gl_model.specs.declared.event.Event.TheVariants.{Commit as Commits}
 use Rattle.gl_model.specs.declared.event.Stamp.{Stamp}
@@ -23,7 +22,7 @@ use Rattle.gl_draws.specs.RowFacts.{RowStands, IsWithin}
 use Rattle.gl_draws.specs.Ties.{Drawn, IsStill, IsKept, in_list, in_flight, count_by}
 use Rattle.gl_draws.specs.Verdicts.{DrawsHold}
 use Rattle.gl_draws.proofs.CommitLaw.{commit_holds}
-use Rattle.gl_draws.proofs.DrawCounts.{count_own, count_other}
+use Rattle.gl_draws.proofs.Resolves.{count_resolved, length_resolved}
 use Rattle.gl_draws.proofs.DrawPlaces.{one_draw}
 use Rattle.gl_draws.proofs.EntryKinds.{is_in-contains, contains-is_in}
 use Rattle.gl_draws.proofs.Sets.{map_contains}
@@ -153,25 +152,15 @@ module _ (key : Key) (w : World) (b : Board) (id : ℕ) (v : View) (s : Shelf) (
   after_out : (y : ℕ) → is_in y ys ≡ false → after y ≡ w.draws y
   after_out y c = rw c refl
 
+  -- what stands last on each of the commit's variables
+  heads : (y : ℕ) → is_in y ys ≡ true → (ds : List Draw) × (w.draws y ≡ draw s.thread p Open ∷ ds)
+  heads y c = let r = open_row y c in (r.0, r.1)
+
   same_count : (u y : ℕ) → count_by u (after y) ≡ count_by u (w.draws y)
-  same_count u y = by (is_in y ys) refl
-    where
-      by : (c : Bool) → is_in y ys ≡ c → count_by u (after y) ≡ count_by u (w.draws y)
-      by false c = ap (count_by u) (after_out y c)
-      by true c =
-          let r = open_row y c in
-          let a = after_in y c r.0 r.1 in
-          elim (ℕ_discrete s.thread u) [
-            | yes e ↦ ap (count_by u) a ∙ count_own u d r.0 e ∙ sym (ap (count_by u) r.1 ∙ count_own u (draw s.thread p Open) r.0 e)
-            | no ne ↦ ap (count_by u) a ∙ count_other u d r.0 ne ∙ sym (ap (count_by u) r.1 ∙ count_other u (draw s.thread p Open) r.0 ne)
-          ]
+  same_count u y = count_resolved w.draws s.thread p ys d refl heads u y
 
   same_length : (y : ℕ) → length (after y) ≡ length (w.draws y)
-  same_length y = by (is_in y ys) refl
-    where
-      by : (c : Bool) → is_in y ys ≡ c → length (after y) ≡ length (w.draws y)
-      by false c = ap length (after_out y c)
-      by true c = let r = open_row y c in ap length (after_in y c r.0 r.1) ∙ sym (ap length r.1)
+  same_length y = length_resolved w.draws s.thread p ys d refl heads y
 
   -- the counters count the draws after the commit as before
   pub numbers_after : (count : ℕ → ℕ) → NumbersHold count w.draws → NumbersHold count after

@@ -4,7 +4,6 @@ use Rattle.std.specs.Prelude.{ℤ, Contains, ◌⊎◌, Option}
 use Rattle.std.specs.List.{All}
 use Rattle.std.proofs.lemmas.List.{take-append-drop, length-take-le}
 use Rattle.std.proofs.lemmas.List.Elements.{All-contains}
-use native.Mathlib.Decide.{ℕ_discrete}
 use mathlib.Core.Option.{some}
 use lib.ListN.{get_elem?}
 use Rattle.atomic_table.specs.Table as table
@@ -23,7 +22,7 @@ use Rattle.gl_draws.specs.Resolved.{resolved}
 use Rattle.gl_draws.specs.RowFacts.{RowStands}
 use Rattle.gl_draws.specs.Ties.{Drawn, IsFor, IsInBlock, IsKept, in_list, in_flight, count_by}
 use Rattle.gl_draws.specs.Verdicts.{DrawsHold, IsRight, IsNamed, IsBehind, IsCommitWhat, BlockIs}
-use Rattle.gl_draws.proofs.DrawCounts.{count_own, count_other}
+use Rattle.gl_draws.proofs.Resolves.{count_resolved, length_resolved}
 use Rattle.gl_draws.proofs.DrawPlaces.{one_draw}
 use Rattle.gl_draws.proofs.EntryKinds.{contains-is_in}
 use Rattle.gl_draws.proofs.EventTies.{events_push}
@@ -128,25 +127,15 @@ module _ (key : Key) (w : World) (st : table.State Slot View) (id : ℕ) (v : Vi
     after_out : (y : ℕ) → is_in y zs ≡ false → after y ≡ w.draws y
     after_out y c = rw c refl
 
+    -- what stands last on each of the attempt's variables
+    heads : (y : ℕ) → is_in y zs ≡ true → (ds : List Draw) × (w.draws y ≡ draw s.thread p Open ∷ ds)
+    heads y c = let r = open_row y c in (r.0, r.1)
+
     same_count : (u y : ℕ) → count_by u (after y) ≡ count_by u (w.draws y)
-    same_count u y = by (is_in y zs) refl
-      where
-        by : (c : Bool) → is_in y zs ≡ c → count_by u (after y) ≡ count_by u (w.draws y)
-        by false c = ap (count_by u) (after_out y c)
-        by true c =
-            let r = open_row y c in
-            let a = after_in y c r.0 r.1 in
-            elim (ℕ_discrete s.thread u) [
-              | yes q ↦ ap (count_by u) a ∙ count_own u d r.0 q ∙ sym (ap (count_by u) r.1 ∙ count_own u (draw s.thread p Open) r.0 q)
-              | no ne ↦ ap (count_by u) a ∙ count_other u d r.0 ne ∙ sym (ap (count_by u) r.1 ∙ count_other u (draw s.thread p Open) r.0 ne)
-            ]
+    same_count u y = count_resolved w.draws s.thread p zs d refl heads u y
 
     same_length : (y : ℕ) → length (after y) ≡ length (w.draws y)
-    same_length y = by (is_in y zs) refl
-      where
-        by : (c : Bool) → is_in y zs ≡ c → length (after y) ≡ length (w.draws y)
-        by false c = ap length (after_out y c)
-        by true c = let r = open_row y c in ap length (after_in y c r.0 r.1) ∙ sym (ap length r.1)
+    same_length y = length_resolved w.draws s.thread p zs d refl heads y
 
     waits : (y k : ℕ) → Draws (Abort tx why) y k → (look : Option ℤ) × Contains v.drawn (record { var = y; nth = k; look = look })
     waits y k (inl l) = (Some l.0, (may.looks y k l.0).1 l.1)

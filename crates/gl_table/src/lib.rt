@@ -12,6 +12,8 @@ mod rule;
 mod sealed;
 mod shared;
 mod telling;
+#[cfg(test)]
+mod tests;
 
 pub use layout::Layout;
 pub use pass::Pass;
