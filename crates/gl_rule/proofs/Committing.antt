@@ -26,7 +26,8 @@ use Rattle.gl_draws.proofs.Resolves.{count_resolved, length_resolved}
 use Rattle.gl_draws.proofs.DrawPlaces.{one_draw}
 use Rattle.gl_draws.proofs.EntryKinds.{is_in-contains, contains-is_in}
 use Rattle.gl_draws.proofs.Sets.{map_contains}
-use Rattle.gl_draws.proofs.Resolving.{drawn_commit, drawn_foreign}
+use Rattle.gl_draws.proofs.Resolving.{drawn_commit}
+use Rattle.gl_draws.proofs.EndedAttempts.{foreign, foreign_back}
 use Rattle.gl_draws.proofs.RowGrowth.{row_grows}
 use Rattle.gl_draws.proofs.Running.{running_law}
 use Rattle.gl_draws.proofs.VerdictGrowth.{draws_grow}
@@ -49,7 +50,6 @@ use Rattle.gl_rule.proofs.FittingLaws.{front_fits_at, infos_front}
 use Rattle.gl_draws.specs.Draws.{last_write}
 use Rattle.gl_draws.specs.Events.{AreEvents}
 use Rattle.gl_draws.proofs.EventTies.{events_other}
-use Rattle.gl_draws.proofs.Resolving.{foreign_back}
 use Rattle.gl_draws.specs.Repeated.{IsCalm}
 use Rattle.gl_rule.specs.Owed.{OwedOne, repeats_of}
 use Rattle.gl_rule.proofs.Owing.{calm_write, calm_any, write_past, open_unrepeated}
@@ -228,7 +228,7 @@ module _ (key : Key) (w : World) (b : Board) (id : ℕ) (v : View) (s : Shelf) (
   -- another thread's numbers stay
   pub numbers_foreign : (r : Shelf) (drawn : List Drawn) → r.thread ≢ s.thread → ShelfDraws w.draws drawn r → ShelfDraws after drawn r
   numbers_foreign r drawn apart k = record {
-    numbers = drawn_foreign w.draws s.thread p (length w.log) tx (λ y c. let q = open_row y c in (q.0, q.1)) r.thread r.marked drawn apart k.numbers;
+    numbers = foreign w.draws s.thread p (length w.log) (variables_of tx) (Entered (Commit (length w.log) tx)) (λ y c. let q = open_row y c in (q.0, q.1)) r.thread r.marked drawn apart k.numbers;
     few = λ y. let a = k.few y in let e = same_count r.thread y in omega arith;
     two = k.two;
     above = k.above;
@@ -351,7 +351,7 @@ publishes_commit key slots id v c s h l l' tx p m question one may all =
         repeats = λ y k g at own. repeats_after key w b id v s tx p m question one may mine y k g at own;
         calm = λ shelves y o other. calm_after key w b id v s tx p m question one may mine w.now H.whole.machine.allowed H.whole.verdicts shelves y o other;
         calmly = λ shelves y o other calm. calmly_after key w b id v s tx p m question one may mine w.now H.whole.machine.allowed H.whole.verdicts shelves y o other calm;
-        foreign = λ u y k g ne own at. foreign_back w.draws s.thread p (length w.log) tx (λ z c. let q = open_row key w b id v s tx p m question one may mine z c in (q.0, q.1)) u y k g ne own at;
+        foreign = λ u y k g ne own at. foreign_back w.draws s.thread p (length w.log) (variables_of tx) (Entered (Commit (length w.log) tx)) (λ z c. let q = open_row key w b id v s tx p m question one may mine z c in (q.0, q.1)) u y k g ne own at;
         elsewhere = elsewhere key w b id v s tx p m question one may mine;
         others = numbers_foreign key w b id v s tx p m question one may mine;
         own = numbers_own key w b id v s tx p m question one may mine;

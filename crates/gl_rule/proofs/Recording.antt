@@ -53,7 +53,7 @@ use Rattle.gl_rule.specs.Rule.{Fits, Holds}
 use Rattle.gl_rule.proofs.Each.{each_set}
 use Rattle.gl_rule.proofs.HeldLists.{all_map, both_map, all_mapped, in_mapped, only_shelf, one_shelf}
 use Rattle.gl_rule.proofs.Committing.{held_open, still_none, still_some, cons_tail, the_then, the_else}
-use Rattle.gl_draws.proofs.Dropping.{AreDropped, drawn_dropped}
+use Rattle.gl_draws.proofs.EndedAttempts.{AreEnded, drawn_ended}
 use Rattle.gl_draws.proofs.Forming.{formed_push, counted_push, store_running}
 use Rattle.gl_rule.proofs.Frames.{machine_same, turns_kept}
 use Rattle.gl_rule.proofs.Marking.{placed_at}
@@ -148,7 +148,7 @@ module _ (key : Key) (w : World) (st : table.State Slot View) (id : ℕ) (v : Vi
         let same : f.0 ≡ g.0 = one_draw (w.draws y) k f.0 g.0 f.1 g.1 in
         still_some g.0.what value g.3 (sym (ap (λ (z : Draw). z.what) same) ∙ still_none f.0.what f.3)
 
-    are_dropped : AreDropped w.draws s.thread p zs w0 tx e s.marked v.drawn
+    are_dropped : AreEnded w.draws s.thread p p zs w0 tx e s.marked v.drawn
     are_dropped = record {
       heads = λ y c. let r = open_row y c in (r.0, r.1, number_of y r.0 r.1);
       looks = λ y k value c. let l = (may.looks y k value).0 c in (inl (value, l), B.looks y k value l (not_own y k value c));
@@ -162,7 +162,7 @@ module _ (key : Key) (w : World) (st : table.State Slot View) (id : ℕ) (v : Vi
 
     numbers_own : ShelfDraws after [] (shelf s.thread (s.marked ++ e ∷ []))
     numbers_own = record {
-      numbers = drawn_dropped w.draws s.thread p zs w0 tx e s.marked v.drawn draws.numbers are_dropped;
+      numbers = drawn_ended w.draws s.thread p p zs w0 tx e s.marked v.drawn draws.numbers are_dropped;
       few = λ y. let a = draws.few y in let t = draws.two y in let q = same_count s.thread y in let g = counted_push s.marked e (λ z. z) in omega arith;
       two = λ y. omega arith;
       above = λ y n i j g o at dr has. absurd (let l = has.1 in omega arith);
@@ -370,14 +370,14 @@ module _ (key : Key) (w : World) (st : table.State Slot View) (id : ℕ) (v : Vi
                   shelves = both_map (ShelfFits w.log w.seat j) (ShelfDraws w.draws o.drawn) (ShelfDraws after o.drawn) o.shelves
                       (λ r q k.
                       let apart : r.thread ≢ s.thread = λ z. away (sym q.here ∙ ap w.seat z ∙ fits.here) in
-                      record { numbers = Rattle.gl_draws.proofs.DroppingForeign.foreign w.draws s.thread p zs w0 (λ y c. let a = open_row y c in (a.0, a.1)) r.thread r.marked o.drawn apart k.numbers; few = λ y. let a = k.few y in let g = same_count r.thread y in omega arith; two = k.two; above = k.above; runs = k.runs })
+                      record { numbers = Rattle.gl_draws.proofs.EndedAttempts.foreign w.draws s.thread p p zs w0 (λ y c. let a = open_row y c in (a.0, a.1)) r.thread r.marked o.drawn apart k.numbers; few = λ y. let a = k.few y in let g = same_count r.thread y in omega arith; two = k.two; above = k.above; runs = k.runs })
                       f.positions.shelves f.numbers.shelves;
                 };
                 knowledge = f.knowledge;
                 ring = f.ring;
                 quiet = f.quiet;
                 owed = owed_others w.draws after o.owed o.shelves (λ x q. write_same x) (λ x q calm. calm_same x calm)
-                    (λ r c x k g at own. let q : ShelfFits w.log w.seat j r = All-contains (ShelfFits w.log w.seat j) o.shelves r f.positions.shelves c in Rattle.gl_draws.proofs.DroppingForeign.foreign_back w.draws s.thread p zs w0 (λ y c. let a = open_row y c in (a.0, a.1)) r.thread x k g (λ z. away (sym q.here ∙ ap w.seat z ∙ fits.here)) own at)
+                    (λ r c x k g at own. let q : ShelfFits w.log w.seat j r = All-contains (ShelfFits w.log w.seat j) o.shelves r f.positions.shelves c in Rattle.gl_draws.proofs.EndedAttempts.foreign_back w.draws s.thread p p zs w0 (λ y c. let a = open_row y c in (a.0, a.1)) r.thread x k g (λ z. away (sym q.here ∙ ap w.seat z ∙ fits.here)) own at)
                     f.owed;
                 carries = f.carries;
                 refusals = record {

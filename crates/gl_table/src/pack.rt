@@ -16,7 +16,7 @@ fn act_word(act: &Act) -> u64
         Act::Rel(o) => 4 + 65536 * o as u64,
         Act::VRead(x) => 5 + 65536 * x as u64,
         Act::VWrite(x) => 6 + 65536 * x as u64,
-        Act::Fork { child, func: _ } => 7 + 65536 * child as u64,
+        Act::Fork { child, func } => 7 + 65536 * (child as u64 + 16 * func as u64),
         Act::Join(u) => 8 + 65536 * u as u64,
         Act::Alloc(c) => 9 + 65536 * c as u64,
         Act::Print => 10,

@@ -1,4 +1,4 @@
-ghost use Rattle.std.specs.Prelude.{◌≡◌, ◌<◌};
+ghost use Rattle.std.specs.Prelude.{◌≡◌, ◌<◌, ◌≤◌};
 ghost use Rattle.gl_segments.specs.Rings.{IsRing};
 ghost use Rattle.gl_model.specs.declared.limits.TheConstants.{VARIABLES};
 
@@ -7,6 +7,10 @@ use gl_model::{Classes, Inputs};
 use gl_segments::Ring;
 use std::alloc::Global;
 use std::test::Fail;
+use std::thread;
+use std::thread::Threads;
+
+const ROUNDS: u32 = 1000;
 
 fn layout(alloc: Global) -> Layout
     ensures { IsRing result.ring }
@@ -67,5 +71,49 @@ fn a_table_begins(rt: HostRuntime) -> Result<(), Fail> {
     shared.set_stop(&mut pass);
     assert!(rt; shared.stopped(&mut pass));
     assert!(rt; !pass.is_done());
+    Ok(())
+}
+
+// How often the list was taken and put back, in so many tries.
+fn rounds(shared: &Shared, pass: &mut Pass, tries: u32) -> u32
+    requires table { pass.old.own.table ≡ shared.now.id }
+    ensures table { pass.new.own.table ≡ pass.old.own.table }
+    ensures few { result ≤ tries }
+{
+    let mut taken = 0;
+    for _ in 0..tries {
+        if live(shared, pass).is_some() {
+            taken += 1;
+        }
+    }
+    taken
+}
+
+// The same of two passes, each in a thread of its own.
+fn both<R: Threads + Sync>(rt: &R, shared: &Shared, mut one: Pass, mut other: Pass) -> (u32, u32)
+    requires table { (one.own.table ≡ shared.now.id) × (other.own.table ≡ shared.now.id) }
+{
+    thread::join(
+        rt,
+        move || -> u32
+            requires { one.own.table ≡ shared.now.id }
+        { rounds(shared, &mut one, ROUNDS) },
+        move || -> u32
+            requires { other.own.table ≡ shared.now.id }
+        { rounds(shared, &mut other, ROUNDS) },
+    )
+}
+
+// Two threads take the list 1,000 times each, as far as they find it free.
+#[test]
+fn two_threads_take_turns(rt: HostRuntime) -> Result<(), Fail> {
+    let Ok((shared, mut passes)) = Shared::new(rt.alloc(), layout(rt.alloc())) else {
+        panic!(rt; "no memory")
+    };
+    let (Some(one), Some(other)) = (passes.pop(), passes.pop()) else {
+        panic!(rt; "no pass")
+    };
+    let (first, second) = both(&rt, &shared, one, other);
+    assert!(rt; first > 0 && second > 0);
     Ok(())
 }

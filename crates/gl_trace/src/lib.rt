@@ -7,6 +7,7 @@ mod kept;
 mod laws;
 mod limits;
 mod phrase;
+mod quick;
 mod reader;
 mod standing;
 mod stated;

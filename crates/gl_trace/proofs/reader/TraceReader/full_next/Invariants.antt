@@ -1,7 +1,7 @@
 use Rattle.std.proofs.Common.{◌≤◌, ℕ, List, length}
 use Rattle.gl_trace.specs.Reads.{IsReadTo}
 use Rattle.gl_trace.specs.TraceLine.{TraceLine}
-use Rattle.gl_trace.proofs.reader.TraceReader.next_line.Given as goal
+use Rattle.gl_trace.proofs.reader.TraceReader.full_next.Given as goal
 
 -- no line since said anything
 abbrev pub invariant-loop-line : goal.invariant-loop-line
