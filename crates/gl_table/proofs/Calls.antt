@@ -16,18 +16,18 @@ use Rattle.gl_table.specs.PassInside.{IsReady}
 use Rattle.gl_state.specs.ListView.{ListView}
 use Rattle.gl_rule.specs.Objects.{Key, objects, capacity, cell_at}
 use Rattle.gl_rule.specs.View.{View, Held, Shelf, shelf, Hold, Stop}
-use Rattle.gl_rule.specs.Fitting.{MayPublish, MayMark, MayOpen, MayStoreWord, MayRaise, MayTrim}
+use Rattle.gl_rule.specs.Fitting.{MayPublish, MayMark, MayOpen, MayWalk, MayStoreWord, MayRaise, MayTrim}
 use Rattle.gl_table.specs.Putting.{MayPutBack}
 use Rattle.gl_rule.specs.Rule.{Rule}
 use Rattle.gl_table.specs.Says.{EventSaid, MarkSaid}
-use Rattle.gl_rule.specs.Told.{Took, Left, SawTail, Saw, PutWord, PublishedAct, Marked, Opened, SawFloor, Raised, Lowered}
+use Rattle.gl_rule.specs.Told.{Took, Left, SawTail, Saw, PutWord, PublishedAct, Marked, Opened, SawCell, SawEvent, SawFloor, Raised, Lowered}
 use Rattle.gl_table.specs.Told.{Kept, PaidLeft, PublishedTx}
 use Rattle.gl_table.specs.Committing.{commit_stamp}
 use Rattle.gl_model.specs.declared.tx.Tx.{Tx}
 use Rattle.gl_rule.proofs.Committing.{publishes_commit}
 use Rattle.gl_rule.proofs.Aborting.{record_first}
 use Rattle.gl_rule.proofs.Acting.{publishes_act}
-use Rattle.gl_rule.proofs.Loading.{loads_tail, loads_hold, loads_stop}
+use Rattle.gl_rule.proofs.Loading.{loads_tail, loads_hold, loads_stop, loads_cell, loads_event}
 use Rattle.gl_rule.proofs.Marking.{marks_plain, marks_open}
 use Rattle.gl_rule.proofs.Paying.{writes_back}
 use Rattle.gl_rule.specs.Commits.{MayCommit, MayPay, paid}
@@ -151,3 +151,18 @@ module _ (key : Key) (slots id : ℕ) (me : table.Me Slot View) (t : ℕ) (es : 
       (subst (λ q. table.Allows (Rule key) slots id me 0 (λ n. (n + 1) % 2 ^ 64) (PublishedTx (shelf t es) z q u me.1)) (sym state)
       (subst (λ q. table.Allows (Rule key) slots id me 0 (λ n. (n + 1) % 2 ^ 64) (PublishedTx (shelf t es) q (slot.List l') u me.1)) (sym same)
       (as_told 0 (λ n. (n + 1) % 2 ^ 64) (λ w. PublishedTx (shelf t es) tx (slot.List l') w me.1) (publishes_commit key slots id (caught_up me.0 t es) me.1 (shelf t es) h l l' tx p m question refl commits may))))
+
+  pub may_cell : (k : Key) (y o i j cell : ℕ) → k ≡ key → y ≡ o → j ≡ i → cell ≡ o % capacity key → i < 5 → (o < (caught_up me.0 t es).seen) × MayWalk (caught_up me.0 t es) o → table.Allows (Rule key) slots id me (3076 + 5 * cell + i) (λ n. n) (SawCell (capacity k) y j u me.1)
+  may_cell k y o i j cell is same word here few may =
+      subst (λ q. table.Allows (Rule key) slots id me (3076 + 5 * q + i) (λ n. n) (SawCell (capacity k) y j u me.1)) (sym here)
+      (subst (λ q. table.Allows (Rule key) slots id me (3076 + 5 * (o % capacity key) + i) (λ n. n) (SawCell (capacity q) y j u me.1)) (sym is)
+      (subst (λ q. table.Allows (Rule key) slots id me (3076 + 5 * (o % capacity key) + i) (λ n. n) (SawCell (capacity key) q j u me.1)) (sym same)
+      (subst (λ q. table.Allows (Rule key) slots id me (3076 + 5 * (o % capacity key) + i) (λ n. n) (SawCell (capacity key) o q u me.1)) (sym word)
+      (as_told (cell_at (capacity key) o i) (λ n. n) (λ z. SawCell (capacity key) o i z me.1) (loads_cell key slots id o i (caught_up me.0 t es) me.1 few may.0 may.1)))))
+
+  pub may_event : (k : Key) (y o cell : ℕ) → k ≡ key → y ≡ o → cell ≡ o % capacity key → (o < (caught_up me.0 t es).seen) × MayWalk (caught_up me.0 t es) o → table.Allows (Rule key) slots id me (3076 + 5 * cell + 4) (λ n. n) (SawEvent (capacity k) y u me.1)
+  may_event k y o cell is same here may =
+      subst (λ q. table.Allows (Rule key) slots id me (3076 + 5 * q + 4) (λ n. n) (SawEvent (capacity k) y u me.1)) (sym here)
+      (subst (λ q. table.Allows (Rule key) slots id me (3076 + 5 * (o % capacity key) + 4) (λ n. n) (SawEvent (capacity q) y u me.1)) (sym is)
+      (subst (λ q. table.Allows (Rule key) slots id me (3076 + 5 * (o % capacity key) + 4) (λ n. n) (SawEvent (capacity key) q u me.1)) (sym same)
+      (as_told (cell_at (capacity key) o 4) (λ n. n) (λ z. SawEvent (capacity key) o z me.1) (loads_event key slots id o (caught_up me.0 t es) me.1 may.0 may.1))))

@@ -12,3 +12,5 @@ pub mod Doneness
 pub mod RightOf
 pub mod Aborts
 pub mod Commitments
+pub mod Unpacking
+pub mod FiveWords

@@ -18,3 +18,5 @@ pub mod Lowering
 pub mod Doneness
 pub mod RightOf
 pub mod Committing
+pub mod Unpacking
+pub mod Walking

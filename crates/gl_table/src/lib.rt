@@ -14,6 +14,8 @@ mod shared;
 mod telling;
 #[cfg(test)]
 mod tests;
+mod unpack;
+mod walking;
 
 pub use layout::Layout;
 pub use pass::Pass;

@@ -5,7 +5,7 @@ ghost use Rattle.gl_model.specs.declared.row.Row.{Row as ARow};
 ghost use Rattle.gl_model.specs.declared.row.Question.{Question};
 ghost use Rattle.gl_model.specs.Entries.{Commit, Sync, seen};
 ghost use Rattle.gl_table.specs.CaughtUp.{caught_up, block_of};
-ghost use Rattle.gl_rule.specs.Fitting.{MayPublish, MayMark, MayOpen, MayStoreWord, MayRaise, MayTrim};
+ghost use Rattle.gl_rule.specs.Fitting.{MayPublish, MayMark, MayOpen, MayWalk, MayStoreWord, MayRaise, MayTrim};
 ghost use Rattle.gl_table.specs.Committing.{commit_stamp};
 ghost use Rattle.gl_table.specs.Ending.{ClosedTold};
 ghost use Rattle.gl_table.specs.Told.{Kept, PaidLeft, PublishedTx, head_slot};
@@ -16,15 +16,15 @@ ghost use Rattle.gl_rule.specs.Objects.{capacity, objects};
 ghost use Rattle.gl_table.specs.OfTable.{OfTable};
 ghost use Rattle.gl_table.specs.PassInside.{IsReady};
 ghost use Rattle.gl_table.specs.Putting.{MayPutBack, held_at};
-ghost use Rattle.gl_rule.specs.Told.{Took, Left, SawTail, Saw, PutWord, PublishedAct, Marked, Opened, SawFloor, Raised, Lowered};
+ghost use Rattle.gl_rule.specs.Told.{Took, Left, SawTail, Saw, PutWord, PublishedAct, Marked, Opened, SawCell, SawEvent, SawFloor, Raised, Lowered};
 ghost use Rattle.gl_rule.specs.View.{Shelf, shelf, Held, Hold, Stop};
 ghost use Rattle.gl_rule.specs.declared.slot.Slot.{Slot as ASlot};
 ghost use Rattle.gl_rule.specs.declared.slot.Slot.TheVariants as slot;
 
 use crate::layout::Layout;
 use crate::rule::{
-    Closes, Commits, Leaves, Lowers, Marks, Opens, Order, Pays, Publishes, Puts, Raises, SeesFloor,
-    SeesHold, SeesStop, SeesTail, Stops, Takes, Told,
+    Closes, Commits, Leaves, Lowers, Marks, Opens, Order, Pays, Publishes, Puts, Raises, SeesCell,
+    SeesEvent, SeesFloor, SeesHold, SeesStop, SeesTail, Stops, Takes, Told,
 };
 use gl_model::{Act, Entry, Row, Tx};
 use gl_rule::{Know, Slot};
@@ -297,6 +297,47 @@ pub fn publish_tx<B: Told>(
     ensures published { PublishedTx (shelf id (map seen mine.now.items)) tx.now (slot.List state.now) (caught_up seat.old.me.0 id (map seen mine.now.items)) seat.old.me.1 result seat.new.me }
 {
     board.fetch_add::<Commits<B>>(seat, 0, 1)
+}
+
+// Loads a word, but the last, of the event at a position.
+pub fn load_cell<B: Told>(
+    board: &Board,
+    seat: &mut Seat,
+    id: u8,
+    mine: &Vec<Entry>,
+    pos: u64,
+    cell: usize,
+    index: usize,
+) -> u64
+    requires table { OfTable seat.old.table_id board.now.table_id (key_of board.now.key) }
+    requires ready { IsReady seat.old.me.0 id (map seen mine.now.items) }
+    requires told { (B.view ≡ caught_up seat.old.me.0 id (map seen mine.now.items)) × (B.key ≡ key_of board.now.key) × (B.object ≡ pos) × (B.index ≡ index) }
+    requires near { (cell ≡ pos % capacity (key_of board.now.key)) × (cell < capacity (key_of board.now.key)) × (cell < 2 ^ 32) × (index < 5) }
+    requires may { (pos < (caught_up seat.old.me.0 id (map seen mine.now.items)).seen) × MayWalk (caught_up seat.old.me.0 id (map seen mine.now.items)) pos }
+    ensures seat { (seat.new.table_id ≡ seat.old.table_id) × (seat.new.id ≡ seat.old.id) }
+    ensures saw { SawCell (capacity (key_of board.now.key)) pos index (caught_up seat.old.me.0 id (map seen mine.now.items)) seat.old.me.1 result seat.new.me }
+{
+    board.load::<SeesCell<B>>(seat, 3076 + 5 * cell + index)
+}
+
+// Loads the last word of the event at a position, which tells the event.
+pub fn load_event<B: Told>(
+    board: &Board,
+    seat: &mut Seat,
+    id: u8,
+    mine: &Vec<Entry>,
+    pos: u64,
+    cell: usize,
+) -> u64
+    requires table { OfTable seat.old.table_id board.now.table_id (key_of board.now.key) }
+    requires ready { IsReady seat.old.me.0 id (map seen mine.now.items) }
+    requires told { (B.view ≡ caught_up seat.old.me.0 id (map seen mine.now.items)) × (B.key ≡ key_of board.now.key) × (B.object ≡ pos) }
+    requires near { (cell ≡ pos % capacity (key_of board.now.key)) × (cell < capacity (key_of board.now.key)) × (cell < 2 ^ 32) }
+    requires may { (pos < (caught_up seat.old.me.0 id (map seen mine.now.items)).seen) × MayWalk (caught_up seat.old.me.0 id (map seen mine.now.items)) pos }
+    ensures seat { (seat.new.table_id ≡ seat.old.table_id) × (seat.new.id ≡ seat.old.id) }
+    ensures saw { SawEvent (capacity (key_of board.now.key)) pos (caught_up seat.old.me.0 id (map seen mine.now.items)) seat.old.me.1 result seat.new.me }
+{
+    board.load::<SeesEvent<B>>(seat, 3076 + 5 * cell + 4)
 }
 
 // A load by the seat that has all lists, which tells what the record of them is.

@@ -47,6 +47,9 @@ pub trait Told {
     ghost look: { Option ℤ };
 
     ghost tx: { Tx };
+
+    // of a word of a cell, which one
+    ghost index: { ℕ };
 }
 
 impl Told for Brand {
@@ -74,6 +77,8 @@ impl Told for Brand {
     ghost look = { None };
 
     ghost tx = { no_tx };
+
+    ghost index = { 0 };
 }
 
 pub struct Takes<B>(PhantomData<B>);
@@ -237,4 +242,22 @@ impl<B: Told> Play<Slot, Know> for Commits<B> {
     ghost use Rattle.gl_table.specs.Told.{PublishedTx};
 
     ghost then = { λ s v n w. PublishedTx B.event.shelf B.tx B.event.state B.view v.1 n w };
+}
+
+pub struct SeesCell<B>(PhantomData<B>);
+
+impl<B: Told> Play<Slot, Know> for SeesCell<B> {
+    ghost use Rattle.gl_rule.specs.Objects.{capacity};
+    ghost use Rattle.gl_rule.specs.Told.{SawCell};
+
+    ghost then = { λ s v n w. SawCell (capacity B.key) B.object B.index B.view v.1 n w };
+}
+
+pub struct SeesEvent<B>(PhantomData<B>);
+
+impl<B: Told> Play<Slot, Know> for SeesEvent<B> {
+    ghost use Rattle.gl_rule.specs.Objects.{capacity};
+    ghost use Rattle.gl_rule.specs.Told.{SawEvent};
+
+    ghost then = { λ s v n w. SawEvent (capacity B.key) B.object B.view v.1 n w };
 }

@@ -4,9 +4,10 @@ ghost use Rattle.gl_model.specs.declared.limits.TheConstants.{MONITORS, VARIABLE
 ghost use Rattle.gl_segments.specs.Rings.{IsRing};
 ghost use Rattle.gl_rule.specs.Objects.{capacity, objects};
 ghost use Rattle.gl_model.specs.declared.row.Row.{Row as ARow};
-ghost use Rattle.gl_rule.specs.Fitting.{MayRaise, MayTrim};
+ghost use Rattle.gl_rule.specs.Fitting.{MayRaise, MayTrim, MayWalk};
 ghost use Rattle.gl_model.specs.Records.{variables_of};
 ghost use Rattle.gl_table.specs.Committing.{MayPublishTx, published_tx};
+ghost use Rattle.gl_table.specs.Walking.{four_words, knew};
 ghost use Rattle.gl_table.specs.Lowering.{lowered_pass};
 ghost use Rattle.gl_table.specs.PassView.{view_of, shelf_of, after};
 ghost use Rattle.gl_table.specs.Putting.{MayPutBack, MayPublishAct, MayMarkPlain, MayOpenOn, MayPayOn, held_at, marked_plain, opened, paid_back, published_act};
@@ -20,8 +21,9 @@ use crate::pass::{
 };
 use crate::rule::Order;
 use crate::telling::{commit, mark_plain, open, publish, put_paid};
+use crate::walking::event_at;
 use atomic_table::Table;
-use gl_model::{Act, Row, Tx, VarSet};
+use gl_model::{Act, Row, Stamp, Tx, VarSet};
 use gl_rule::{Know, Slot};
 use gl_segments::Ring;
 use gl_state::{KeptRow, ListState};
@@ -146,6 +148,17 @@ impl Shared {
             vars,
             state,
         )
+    }
+
+    /// The event at a position that the pass has seen and may walk from: it holds a row of which an Info stands there or below, or whose hold it
+    /// raised that far. The pass knows the event from then on, and has seen no more than a ring's length behind it.
+    pub fn event_at(&self, pass: &mut Pass, pos: u64) -> Stamp
+        requires table { pass.old.own.table ≡ self.now.id }
+        requires may { (pos < pass.old.seen) × MayWalk (view_of pass.old) pos }
+        ensures pass { (a : ℕ) × (b : ℕ) × (c : ℕ) × (d : ℕ) × (e : ℕ) × (pass.new ≡ knew (four_words pass.old pos a b c d) pos e result) }
+        ensures ring { pass.old.seen ≤ pos + capacity self.now.key }
+    {
+        event_at(&self.table.shared, pass, self.layout.ring.len(), pos)
     }
 
     /// Tries to take a row.
