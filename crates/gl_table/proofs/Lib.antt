@@ -8,3 +8,4 @@ pub mod Depths
 pub mod Doing
 pub mod Gathering
 pub mod Closings
+pub mod Starts
