@@ -13,6 +13,10 @@ mod sealed;
 mod setting;
 mod shared;
 mod telling;
+#[cfg(test)]
+mod tests;
+mod unpack;
+mod walking;
 
 pub use layout::Layout;
 pub use pass::Pass;
