@@ -1,6 +1,6 @@
 -- An act that the state allows: it is a step of the machine, and its entry has the form of one.
-use Rattle.std.proofs.Common.{◌≡◌, ◌≢◌, ℕ, ◌+◌, ◌-◌, ◌<◌, List, [], ◌∷◌, refl, sym, ap, subst, arith, ◌∙◌, Some, None, inl, inr}
-use Rattle.std.specs.Prelude.{◌⊎◌, pos, ℤ, slice_get}
+use Rattle.std.proofs.Common.{◌≡◌, ℕ, ◌+◌, ◌-◌, ◌<◌, sym, ap, subst, arith, ◌∙◌, Some, inl, inr}
+use Rattle.std.specs.Prelude.{pos, ℤ}
 use Rattle.gl_model.specs.declared.event.Act.{Act}
 use Rattle.gl_model.specs.declared.event.Act.TheVariants.{Begin, End, Acq, Rel, VRead, VWrite, Fork, Join, Alloc, Print, Input, Fail}
 use Rattle.gl_model.specs.Elements.{IsActInRange}

@@ -1,6 +1,6 @@
 -- What a call answers says which act it published.
-use Rattle.std.proofs.Common.{◌≡◌, ℕ, refl, sym, subst, ap, ◌∙◌, inl, inr}
-use Rattle.std.specs.Prelude.{ℤ, pos}
+use Rattle.std.proofs.Common.{◌≡◌, ℕ, refl, sym, subst, inl, inr}
+use Rattle.std.specs.Prelude.{ℤ}
 use Rattle.gl_model.specs.declared.event.Act.{Act}
 use Rattle.gl_events.specs.Calls.{IsFor, HasCode, act_of, value_of, done_of}
 use Rattle.gl_events.specs.declared.call.Call.{Call}

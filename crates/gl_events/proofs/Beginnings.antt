@@ -1,20 +1,19 @@
 -- What is true of each state that the machine allows: threads begin with main or a function that may be forked, and an owned monitor was
 -- entered.
-use Rattle.std.proofs.Common.{◌≡◌, ℕ, zero, suc, ◌+◌, ◌<◌, ◌==◌, List, [], ◌∷◌, refl, sym, ap, subst, arith, ◌∙◌, inl, inr, true, false, Bool, Some, ne_eqb}
-use Rattle.std.specs.Prelude.{ℤ, pos, ◌⊎◌, Contains, if◌then◌else◌, Option}
+use Rattle.std.proofs.Common.{◌≡◌, ℕ, zero, suc, ◌+◌, ◌<◌, List, [], ◌∷◌, sym, ap, subst, arith, ◌∙◌, inl, inr, ne_eqb}
+use Rattle.std.specs.Prelude.{ℤ, pos, Contains, if◌then◌else◌}
 use native.Mathlib.Decide.{ℕ_discrete}
 use Rattle.gl_model.specs.declared.event.Act.TheVariants.{Begin, End, Acq, Rel, VRead, VWrite, Fork, Join, Alloc, Print, Input, Fail}
 use Rattle.gl_model.specs.declared.event.Event.{Event}
 use Rattle.gl_model.specs.declared.event.Event.TheVariants.{Act as Does, Commit}
 use Rattle.gl_model.specs.declared.event.Stamp.{Stamp}
 use Rattle.gl_model.specs.declared.limits.TheConstants.{FUNCTIONS}
-use Rattle.gl_model.specs.Machine.{Setting, State, ThreadState, NeverForked, Forked, Running, Ended, MonitorState, Free, Owned, Entered, Effect, Run, Allows, start, with_at, left_once}
+use Rattle.gl_model.specs.Machine.{Setting, State, ThreadState, NeverForked, Forked, Running, Ended, MonitorState, Free, Owned, Entered, Effect, Run, start, with_at, left_once}
 use Rattle.gl_draws.proofs.DrawTies.{with_here, with_else}
 use Rattle.gl_state.specs.declared.state.Stage.TheVariants as stage
 use Rattle.gl_state.specs.Acts.{stage_of}
-use Rattle.gl_state.specs.Entering.{monitor_of}
 use Rattle.gl_state.specs.ListView.{ListView}
-use Rattle.gl_state.specs.States.{IsStateOf, thread_state, monitor_state}
+use Rattle.gl_state.specs.States.{thread_state, monitor_state}
 use Rattle.gl_rule.specs.Taken.{StateTold}
 use Rattle.gl_rule.specs.View.{View}
 use Rattle.gl_table.proofs.Doing.{shallow}

@@ -1,11 +1,11 @@
 -- A list that has not begun.
-use Rattle.std.proofs.Common.{◌≡◌, ℕ, zero, suc, List, [], ◌∷◌, length, refl, sym, ap, subst, ◌∙◌, Bool, true, false, Some}
+use Rattle.std.proofs.Common.{◌≡◌, ℕ, zero, suc, List, [], ◌∷◌, refl, sym, ap, subst, ◌∙◌, Bool, true, false, Some}
 use Rattle.gl_model.specs.declared.event.Act.{Act}
 use Rattle.gl_model.specs.declared.event.Act.TheVariants.{Begin, End, Acq, Rel, VRead, VWrite, Fork, Join, Alloc, Print, Input, Fail}
 use Rattle.gl_model.specs.Entries.{Entry, Sync, Commit, Plain, Abort, Trim, Over}
 use Rattle.gl_model.specs.Form.{At, EntryForm, IsEnd, IsOver}
 use Rattle.gl_draws.specs.Forming.{MayStore}
-use Rattle.gl_rule.specs.Lives.{Life, Unbegun, Running, Ended, Closed, life_act, life_entry, life_after, life_from, life_of}
+use Rattle.gl_rule.specs.Lives.{Life, Unbegun, Running, Ended, Closed, life_act, life_after, life_from, life_of}
 
 has_begun : Life → Bool
 has_begun Unbegun = false

@@ -1,16 +1,14 @@
 -- A pass between taking the list and putting it back.
-use Rattle.std.proofs.Common.{◌≡◌, ℕ, zero, suc, ◌==◌, cond, inl, inr, ne_eqb, ◌+◌, ◌*◌, ◌<◌, ◌≤◌, List, [], ◌∷◌, ◌++◌, refl, sym, ap, subst, arith, ◌∙◌, false, true, Bool, Some}
-use Rattle.std.specs.Prelude.{ℤ, Contains, pos, ◌||◌, count_by, slice_index_or}
+use Rattle.std.proofs.Common.{◌≡◌, ℕ, zero, suc, ◌==◌, cond, ne_eqb, ◌+◌, ◌≤◌, List, [], ◌∷◌, ◌++◌, refl, sym, ap, subst, arith, ◌∙◌, false, true, Bool}
+use Rattle.std.specs.Prelude.{ℤ, Contains, ◌||◌, count_by, slice_index_or}
 use Rattle.gl_model.specs.declared.event.Act.{Act}
 use Rattle.gl_model.specs.declared.event.Act.TheVariants.{Begin, End, Acq, Rel, VRead, VWrite, Fork, Join, Alloc, Print, Input, Fail}
 use Rattle.gl_model.specs.declared.event.Event.TheVariants.{Act as Does}
-use Rattle.gl_model.specs.Elements.{IsActInRange}
-use Rattle.gl_model.specs.Entries.{Entry, Sync}
+use Rattle.gl_model.specs.Entries.{Sync}
 use Rattle.gl_model.specs.Machine.{Setting, State, Step}
 use Rattle.gl_draws.specs.Forming.{MayStore}
 use Rattle.gl_rule.specs.declared.slot.Slot.TheVariants as slot
-use Rattle.gl_rule.specs.Lives.{Unbegun, Running, life_of}
-use Rattle.gl_rule.specs.Objects.{Key, capacity}
+use Rattle.gl_rule.specs.Lives.{Running, life_of}
 use Rattle.gl_rule.specs.Taken.{StateTold}
 use Rattle.gl_rule.specs.View.{View, Shelf, new_held, with_tail, Hold, Taken, left}
 use Rattle.gl_state.specs.ListView.{ListView}
@@ -19,8 +17,8 @@ use Rattle.gl_state.specs.declared.state.Stage.{Stage}
 use Rattle.gl_state.specs.declared.state.Stage.TheVariants as stage
 use Rattle.gl_state.specs.Acts.{is_live}
 use Rattle.gl_state.proofs.Steps.{none_live}
-use Rattle.gl_table.specs.Doing.{IsStepOf, announced}
-use Rattle.gl_table.specs.PassView.{PassView, view_of, shelf_of, after}
+use Rattle.gl_table.specs.Doing.{announced}
+use Rattle.gl_table.specs.PassView.{PassView, view_of, shelf_of}
 use Rattle.gl_table.specs.Putting.{MayPublishAct, MayPutBack}
 use Rattle.gl_table.specs.TableView.{TableView}
 use Rattle.gl_table.proofs.Doing.{with_list, with_room, may_store, state_runs, is_step}

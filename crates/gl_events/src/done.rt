@@ -61,11 +61,6 @@ pub(crate) fn answer(at: u64, act: &Act, value: i64) -> Done
             func: 0,
             code,
         },
-        Act::End
-        | Act::Acq(_)
-        | Act::Rel(_)
-        | Act::VWrite(_)
-        | Act::Join(_)
-        | Act::Print => none,
+        Act::End | Act::Acq(_) | Act::Rel(_) | Act::VWrite(_) | Act::Join(_) | Act::Print => none,
     }
 }

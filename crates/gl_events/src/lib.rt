@@ -10,6 +10,4 @@ mod look;
 
 pub use call::Call;
 pub use done::{Done, Stop};
-pub use events::{
-    alloc_object, begin, end, enter, exit, fork, input, join, print, vread, vwrite,
-};
+pub use events::{alloc_object, begin, end, enter, exit, fork, input, join, print, vread, vwrite};

@@ -1,16 +1,14 @@
-use Rattle.std.proofs.Common.{rules, refl, sym, ap, subst, ◌∙◌, false, inl, inr, ℕ}
+use Rattle.std.proofs.Common.{rules, sym, ap, subst, ◌∙◌, false}
 use Rattle.std.proofs.Common.{FitsSigned, w64}
 use Rattle.std.proofs.lemmas.Int.{to_z-of_z}
-use Rattle.std.specs.Prelude.{◌≡◌, ◌<◌, ◌≤◌, ◌⊎◌}
+use Rattle.std.specs.Prelude.{◌≤◌}
 use Rattle.gl_rule.specs.declared.slot.Slot.TheVariants as slot
 use Rattle.gl_rule.specs.View.{saw, saw_tail, Hold}
-use Rattle.gl_model.specs.declared.limits.TheConstants.{FUNCTIONS}
 use Rattle.gl_table.specs.Doing.{announced}
 use Rattle.gl_table.specs.PassView.{PassView, view_of, shelf_of, after}
 use Rattle.gl_table.specs.Putting.{MayPutBack, MayPublishAct}
 use Rattle.gl_table.proofs.Doing.{may_put_full}
-use Rattle.gl_events.specs.Acting.{IsPlan, IsSound, Becomes, MayStart}
-use Rattle.gl_events.specs.Answers.{Refuses, says_quiet}
+use Rattle.gl_events.specs.Acting.{IsPlan, Becomes}
 use Rattle.gl_events.proofs.Beginnings.{sound, start_near}
 use Rattle.gl_events.proofs.Publishing.{put_refused, publishable, answered}
 use Rattle.gl_events.proofs.event.event.Goals as goal

@@ -1,5 +1,4 @@
-use Rattle.std.proofs.Common.{rules, inl, sym, ap, ◌∙◌}
-use Rattle.gl_events.specs.Acting.{MayAct}
+use Rattle.std.proofs.Common.{rules, inl, sym, ◌∙◌}
 use Rattle.gl_events.proofs.Acts.{may_leave, may_rel}
 use Rattle.gl_events.proofs.look.exit.Goals as goal
 
