@@ -10,7 +10,10 @@ ghost use Rattle.gl_draws.specs.RowFacts.{Fails, SomeFails, read_of};
 ghost use Rattle.gl_model.specs.Entries.{Entry};
 ghost use Rattle.gl_model.specs.Machine.{Setting};
 ghost use Rattle.gl_draws.specs.Draws.{Draw};
+ghost use Rattle.gl_draws.specs.Added.{IsAdded, IsAddedAs};
 ghost use Rattle.gl_draws.specs.NextRaces.{IsRacyNext};
+ghost use Rattle.gl_model.specs.HappensBefore.{IsRacy};
+ghost use Rattle.gl_model.specs.Records.{Lists, Place};
 ghost use Rattle.gl_judge.specs.Standing.{StandsFor, AsksFor};
 ghost use Rattle.gl_judge.specs.Asked.{IsFrom, IsAbsentOrFrom, IsRowFrom};
 
@@ -103,13 +106,15 @@ fn some_conflict_fails(row: &Row, q: &Question, from: u64, window: &[Stamp]) -> 
 }
 
 /// Whether a next access of the row's variable completes a race: Race exactly where the lockset of some Info that conflicts
-/// with it does not let it pass. The window is the list of events from a position on; no Info's position is outside of it.
+/// with it does not let it pass. Over a row that stands that is exactly where the access is racy, and in any record to which its entry is added
+/// exactly where that entry is, by the race law. The window is the list of events from a position on; no Info's position is outside of it.
 pub fn judge(row: &Row, q: &Question, from: u64, window: &[Stamp], _cuts: &Cuts) -> Verdict
     requires thread { q.now.thread < THREADS }
     requires stamps { All IsStampInRange window.now }
     requires within { IsRowFrom from window.now row.now }
     ensures fails { (h : List AStamp) → drop from h ≡ window.now → (result ≡ Race) ↔ SomeFails h row.now q.now }
     ensures racy { (setting : Setting) (h : List AStamp) (x : ℕ) (ds : List Draw) (f : Entry) → drop from h ≡ window.now → StandsFor setting h x ds row.now q.now.thread → AsksFor q.now f x → (result ≡ Race) ↔ IsRacyNext h x ds q.now.thread q.now.commit f }
+    ensures record { (setting : Setting) (h later : List AStamp) (x m : ℕ) (before after : ℕ → List Draw) (R : Lists) (d : Place) (f : Entry) → drop from h ≡ window.now → StandsFor setting h x (before x) row.now q.now.thread → AsksFor q.now f x → d.thread ≡ q.now.thread → IsAdded h later R before after d f x m → IsAddedAs setting h later R d q.now.commit → (result ≡ Race) ↔ IsRacy R d x }
 {
     if some_conflict_fails(row, q, from, window) {
         Verdict::Race
