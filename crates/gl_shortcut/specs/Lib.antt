@@ -1,0 +1,4 @@
+pub mod Ordering
+pub mod Asking
+pub mod Facts
+pub mod Keeping
