@@ -1,5 +1,6 @@
 -- What short cuts are asked about, and where an early one says yes for sure.
-use Rattle.std.specs.Prelude.{◌≡◌, ℕ, ◌<◌, true, IsSome, Contains}
+use Rattle.std.specs.Prelude.{◌≡◌, ℕ, ◌<◌, ◌==◌, ◌||◌, Bool, true, IsSome, Contains}
+use Rattle.gl_model.specs.declared.event.Stamp.{Stamp}
 use Rattle.gl_model.specs.declared.limits.TheConstants.{THREADS}
 use Rattle.gl_model.specs.declared.row.Info.{Info}
 use Rattle.gl_model.specs.declared.row.Question.{Question}
@@ -23,3 +24,7 @@ HoldsAt Never info q = ⊥
 HoldsAt SameThread info q = info.thread ≡ q.thread
 HoldsAt BothCommits info q = AreBothCommits info q
 HoldsAt SharedMonitor info q = ShareMonitor info q
+
+-- one of the two threads made the event
+abbrev pub is_of_two : ℕ → ℕ → Stamp → Bool
+is_of_two t u s = (s.thread == t) || (s.thread == u)

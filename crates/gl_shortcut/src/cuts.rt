@@ -92,10 +92,22 @@ impl Cuts {
         ensures count { IfOk result (λ cuts. count_of cuts.first cuts.second cuts.third cuts.fourth ≡ count_of self.first self.second self.third self.fourth + 1) }
     {
         match (self.first, self.second, self.third, self.fourth) {
-            (None, _, _, _) => Ok(Cuts { first: Some(cut), ..self }),
-            (_, None, _, _) => Ok(Cuts { second: Some(cut), ..self }),
-            (_, _, None, _) => Ok(Cuts { third: Some(cut), ..self }),
-            (_, _, _, None) => Ok(Cuts { fourth: Some(cut), ..self }),
+            (None, _, _, _) => Ok(Cuts {
+                first: Some(cut),
+                ..self
+            }),
+            (_, None, _, _) => Ok(Cuts {
+                second: Some(cut),
+                ..self
+            }),
+            (_, _, None, _) => Ok(Cuts {
+                third: Some(cut),
+                ..self
+            }),
+            (_, _, _, None) => Ok(Cuts {
+                fourth: Some(cut),
+                ..self
+            }),
             (Some(_), Some(_), Some(_), Some(_)) => Err(self),
         }
     }

@@ -9,6 +9,6 @@ mod testing;
 
 pub use cuts::{Cuts, ShortCut};
 pub use kept::{EarlyFn, LateFn};
-pub use offered::same_thread;
+pub use offered::{both_commits, same_thread, shared_monitor, two_threads};
 pub use sure::Sure;
 pub use testing::passes;
