@@ -2,3 +2,4 @@ pub mod Ordering
 pub mod Asking
 pub mod Facts
 pub mod Keeping
+pub mod Surely

@@ -71,6 +71,8 @@ fn says_late(kept: &Option<ShortCut>, info: &Info, q: &Question, window: &[Stamp
 }
 
 impl Cuts {
+    ghost use Rattle.gl_shortcut.specs.Surely.{SayYesSurely};
+
     /// No short cut: each judgement walks.
     pub fn none() -> Cuts
         ensures none { (x : _) → IsOneOf x result.first result.second result.third result.fourth → ⊥ }
@@ -118,7 +120,7 @@ impl Cuts {
         ensures yes { IsTrue result → Orders info.now q.now }
         ensures asked { IsTrue result → (c : _) × IsOneOf (Early c) self.now.first self.now.second self.now.third self.now.fourth × EarlyFn.post c.ask info.entry q.entry true }
         ensures asks { result ≡ false → (c : _) → IsOneOf (Early c) self.now.first self.now.second self.now.third self.now.fourth → EarlyFn.post c.ask info.entry q.entry false }
-        ensures sure { (c : _) → IsOneOf (Early c) self.now.first self.now.second self.now.third self.now.fourth → HoldsAt c.sure info.now q.now → IsTrue result }
+        ensures sure { SayYesSurely self.now info.now q.now → IsTrue result }
     {
         if says_early(&self.first, info, q) {
             return true;

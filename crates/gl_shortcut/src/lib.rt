@@ -12,3 +12,6 @@ pub use kept::{EarlyFn, LateFn};
 pub use offered::{both_commits, same_thread, shared_monitor, two_threads};
 pub use sure::Sure;
 pub use testing::passes;
+
+#[cfg(test)]
+mod tests;
