@@ -409,6 +409,77 @@ def random_body(tr, r, threads=4, mons=3, vols=2, vars_=4, wild=0.3):
                     tr.put(t, r.choice(["rd", "wr"]), r.choice(xs))
 
 
+@family
+def slow_refused(tr, r):
+    """refused accesses over a long window: words written by 0, wide commits of others, then writes by 1, each of them refused, again and again"""
+    tr.forks()
+    for x in range(200):
+        tr.put(0, "wr", x)
+    while tr.room(8000, 8000 * 9 + 90):
+        xs = r.sample(range(908, VAR), 16)
+        tr.commit(r.randrange(3, T), xs[:8], xs[8:])
+    k = 0
+    while tr.room():
+        tr.put(1, "wr", k % 200)
+        k += 1
+
+
+@family
+def slow_readers(tr, r):
+    """many readers before a writer: 14 readers of 740 variables, a long window of wide commits, a chain of joins, then written"""
+    tr.forks()
+    n = 740
+    for u in range(1, 15):
+        for x in range(n):
+            tr.put(u, "rd", x)
+    while tr.room(n + 20, 9 * (n + 20) + 100):
+        xs = r.sample(range(900, 1000), 16)
+        tr.commit(15, xs[:8], xs[8:])
+    for u in range(1, 14):
+        tr.put(u + 1, "join", u)
+    tr.put(0, "join", 14)
+    for x in range(n):
+        tr.put(0, "wr", x)
+
+
+@family
+def slow_wide(tr, r):
+    """wide commits: sixteen variables each, all of which the commits before it have touched"""
+    tr.forks()
+    while tr.room(1, 100):
+        xs = r.sample(range(900, 932), 16)
+        tr.commit(r.randrange(T), xs[:4], xs[4:])
+
+
+@family
+def slow_third(tr, r):
+    """ordered through a third thread: words handed from 0 to 1 over volatiles of thread 2, and back, with a window of others between"""
+    tr.forks()
+    while tr.room(360):
+        for x in range(100):
+            tr.put(0, "wr", x)
+        filler(tr, 40, list(range(3, T)), list(range(8, 64)))
+        for a, b in ((0, 1), (1, 0)):
+            tr.put(a, "vw", a)
+            tr.put(2, "vr", a)
+            tr.put(2, "vw", 2 + a)
+            tr.put(b, "vr", 2 + a)
+            for x in range(100):
+                tr.put(b, "wr" if b == 1 else "rd", x)
+
+
+@family
+def text_comments(tr, r):
+    """a text of comments alone"""
+    tr.out = [f"# line {n + 1} says nothing" for n in range(tr.max)]
+
+
+@family
+def text_blanks(tr, r):
+    """a text of blanks alone, in lines of 4,000 bytes"""
+    tr.out = [" " * 3999] * min(tr.max, BYTES // 4000)
+
+
 def make(name, lines=LINES):
     tr = Trace(lines)
     FAMILIES[name](tr, random.Random("goldi " + name))

@@ -1,7 +1,7 @@
 #!/usr/bin/env bash
-# That the documents do not drift from the code: the picture of the crates is that of crates.txt, each file that they name is
-# there, in docs/claims.md the files on the way from the top call to the definitions have the names from which it goes on and
-# each call is a function of the code, and README's example is the one of examples/.
+# That the documents do not drift from the code: the picture of the crates is that of crates.txt, no claim has more to believe than
+# is said, each file that they name is there, in docs/claims.md the files on the way from the top call to the definitions have the
+# names from which it goes on and each call is a function of the code, and README's example is the one of examples/.
 cd "$(dirname "$0")/.." || exit 2
 passed=0
 failed=0
@@ -17,6 +17,9 @@ check() {
 
 python3 docs/crates.py --check
 check "the picture of the crates" $?
+
+python3 docs/believed.py --check
+check "what a reader has to believe has grown" $?
 
 missing=$(grep -Eoh 'crates/[a-z_]*/[A-Za-z_/.]*[A-Za-z]|(docs|bench|checks|examples)/[A-Za-z_]*\.[a-z]*' README.md docs/*.md bench/README.md |
     sort -u | while read -r file; do

@@ -1,3 +1,4 @@
+pub mod BuiltPrograms
 pub mod IndexLemmas
 pub mod ListedLengths
 pub mod ListedLimits
@@ -12,5 +13,6 @@ pub mod ListedTable
 pub mod ListedWalk
 pub mod ListedWords
 pub mod ListingLemmas
+pub mod OneReading
 pub mod Reading
 pub mod Values

@@ -18,9 +18,9 @@ use Rattle.gl_bytecode.specs.Programs.{Bytecode, Function, function_at, instr_at
 use Rattle.gl_bytecode.proofs.Faultless.{IsNamed, all_from, catch_named, faultless_is_sound, holds, instr_right}
 use Rattle.gl_asm.specs.declared.table.Operand.TheVariants.{Label}
 use Rattle.gl_asm.specs.Code.{code_of}
-use Rattle.gl_asm.specs.Listable.{AreBuilt, AreTyped, IsTyped, OperandsAreTyped}
+use Rattle.gl_asm.specs.Listable.{AreTyped, IsTyped, OperandsAreTyped}
 use Rattle.gl_asm.specs.Listing.{catch_names, is_label}
-use Rattle.gl_asm.specs.Words.{is_built, operand_of}
+use Rattle.gl_asm.specs.Words.{operand_of}
 use Rattle.gl_asm.proofs.ListingLemmas.{neither, none_at, not_more}
 use Rattle.gl_asm.proofs.ListedWalk.{IsHandler, IsLabel, IsListable, IsSayable, IsShortClass, IsThere}
 use Rattle.gl_asm.proofs.ListedWords.{Fits}
@@ -53,12 +53,16 @@ short_classes P short = all_from IsShortClass P.classes (λ k fields is.
     let ends = neither _ _ (none_at is_long_class P.classes k fields (limits_of P short).each_class is) in
     (not_more VARIABLES fields.plain ends.0, not_more VOLATILES fields.volatile ends.1))
 
-main_there : (o : Option Function) → has_args 0 o ≡ true → (F : Function) × (o ≡ Some F)
-main_there None is = cc
-main_there (Some F) is = (F, refl)
+args_there : (n : ℕ) (o : Option Function) → has_args n o ≡ true → (F : Function) × (o ≡ Some F)
+args_there n None is = cc
+args_there n (Some F) is = (F, refl)
+
+-- a function that has so many arguments is there
+function_there : (P : Bytecode) (n f : ℕ) → has_args n (function_at P f) ≡ true → f < length P.functions
+function_there P n f is = let there = args_there n (function_at P f) is in slice_get_within P.functions f there.0 there.1
 
 pub has_main : (P : Bytecode) → IsFaultless P → P.main < length P.functions
-has_main P ok = let found = main_there (function_at P P.main) ok.main in slice_get_within P.functions P.main found.0 found.1
+has_main P ok = function_there P 0 P.main ok.main
 
 -- ## Labels
 
@@ -118,14 +122,14 @@ handler_there P F named k h is =
 
 -- ## Operands
 
-there_of : (P : Bytecode) (F : Function) (at : ℕ) (i : Instr) → slice_get F.code at ≡ Some i → instr_fault P F i ≡ None → is_built i ≡ true → IsThere P F (operand_of i)
-there_of P F at (Jump to) there right built = jump_label F at (Jump to) to there refl (holds (nat_lt to (length F.code)) _ right)
-there_of P F at (Jz to) there right built = jump_label F at (Jz to) to there refl (holds (nat_lt to (length F.code)) _ right)
-there_of P F at (Jnz to) there right built = jump_label F at (Jnz to) to there refl (holds (nat_lt to (length F.code)) _ right)
-there_of P F at (Call f) there right built = less f (length P.functions) (holds (nat_lt f (length P.functions)) _ right)
-there_of P F at (Fork f) there right built = cc
-there_of P F at (New c) there right built = less c (length P.classes) (holds (nat_lt c (length P.classes)) _ right)
-there_of P F at _ there right built = tt
+there_of : (P : Bytecode) (F : Function) (at : ℕ) (i : Instr) → slice_get F.code at ≡ Some i → instr_fault P F i ≡ None → IsThere P F (operand_of i)
+there_of P F at (Jump to) there right = jump_label F at (Jump to) to there refl (holds (nat_lt to (length F.code)) _ right)
+there_of P F at (Jz to) there right = jump_label F at (Jz to) to there refl (holds (nat_lt to (length F.code)) _ right)
+there_of P F at (Jnz to) there right = jump_label F at (Jnz to) to there refl (holds (nat_lt to (length F.code)) _ right)
+there_of P F at (Call f) there right = less f (length P.functions) (holds (nat_lt f (length P.functions)) _ right)
+there_of P F at (Fork f) there right = function_there P 1 f (holds (has_args 1 (function_at P f)) _ right)
+there_of P F at (New c) there right = less c (length P.classes) (holds (nat_lt c (length P.classes)) _ right)
+there_of P F at _ there right = tt
 
 fits_if : (i : Instr) → ThrowsInRange i → IsTyped (operand_of i) → Fits (operand_of i)
 fits_if (Push n) thrown typed = typed
@@ -162,8 +166,8 @@ fits_at P thrown typed f at i is =
 
 -- ## Functions
 
-pub listable : (P : Bytecode) → IsFaultless P → AllThrowInRange P.functions → OperandsAreTyped P → AreBuilt P → (f : ℕ) (F : Function) → function_at P f ≡ Some F → IsListable P F
-listable P ok thrown typed built f F is =
+pub listable : (P : Bytecode) → IsFaultless P → AllThrowInRange P.functions → OperandsAreTyped P → (f : ℕ) (F : Function) → function_at P f ≡ Some F → IsListable P F
+listable P ok thrown typed f F is =
     let sound = (faultless_is_sound P ok).1 in
     let locals = sound.locals f F is in
     let named = (ok.right f F is).named in
@@ -178,9 +182,8 @@ listable P ok thrown typed built f F is =
       code = sound.short f F is;
       catches = not_more CATCHES (length F.catches) many.0;
       instrs = all_from (IsSayable P F) F.code (λ at i there. record {
-        built = built f at i (here at i there);
         fits = fits_at P thrown typed f at i (here at i there);
-        there = there_of P F at i there (instr_right P F named at i there) (built f at i (here at i there));
+        there = there_of P F at i there (instr_right P F named at i there);
       });
       handlers = all_from (IsHandler F) F.catches (λ k h there. handler_there P F named k h there);
     }

@@ -13,9 +13,9 @@ use Rattle.gl_asm.specs.declared.limits.TheConstants.{LONGEST}
 use Rattle.gl_asm.specs.Additions.{meaning_of, meant}
 use Rattle.gl_asm.specs.Definitions.{definitions, first_definition}
 use Rattle.gl_asm.specs.Forms.{none_yet}
-use Rattle.gl_asm.specs.Listable.{AreBuilt, OperandsAreTyped}
+use Rattle.gl_asm.specs.Listable.{OperandsAreTyped}
 use Rattle.gl_asm.specs.Listing.{listing}
-use Rattle.gl_asm.specs.Texts.{IsText, LineFault, built, lines_read, text_read}
+use Rattle.gl_asm.specs.Texts.{IsText, LineFault, lines_read, text_read}
 use Rattle.gl_asm.proofs.ListedLimits.{has_main, limits_of, listable, short_classes}
 use Rattle.gl_asm.proofs.ListedLines.{lines_of_ended}
 use Rattle.gl_asm.proofs.ListedNames.{main_is}
@@ -52,10 +52,10 @@ read_short : (text : List ℕ) → length text ≤ LONGEST → text_read text �
 unfolding text_read
 read_short text short = rw (not_over LONGEST (length text) short) refl
 
-pub listing_is_text : (P : Bytecode) → IsFaultless P → AllThrowInRange P.functions → OperandsAreTyped P → AreBuilt P → IsText (listing P) P []
-listing_is_text P ok thrown typed built =
+pub listing_is_text : (P : Bytecode) → IsFaultless P → AllThrowInRange P.functions → OperandsAreTyped P → IsText (listing P) P []
+listing_is_text P ok thrown typed =
     let classes = short_classes P ok.short in
-    let functions = all_from (IsListable P) P.functions (λ f F is. listable P ok thrown typed built f F is) in
+    let functions = all_from (IsListable P) P.functions (λ f F is. listable P ok thrown typed f F is) in
     let are = rows_fit P (limits_of P ok.short) classes functions in
     let same : lines (listing P) ≡ rows P = ap lines (sym (listing_is P)) ∙ lines_of_ended (rows P) are.0 in
     record {
@@ -67,8 +67,8 @@ same_draft : (r : Result (Draft × List ℤ) LineFault) (a b : Draft × List ℤ
 same_draft r a b one two = cc
 
 -- what the listing is a text of is the program
-pub listing_is_of_one : (P : Bytecode) → IsFaultless P → AllThrowInRange P.functions → OperandsAreTyped P → AreBuilt P
+pub listing_is_of_one : (P : Bytecode) → IsFaultless P → AllThrowInRange P.functions → OperandsAreTyped P
     → (Q : Bytecode) (inputs : List ℤ) → IsText (listing P) Q inputs → (Q ≡ P) × (inputs ≡ [])
-listing_is_of_one P ok thrown typed built Q inputs is =
-    let same = same_draft (text_read (listing P)) (draft_of P, []) (draft_of Q, inputs) (listing_is_text P ok thrown typed built).read is.read in
+listing_is_of_one P ok thrown typed Q inputs is =
+    let same = same_draft (text_read (listing P)) (draft_of P, []) (draft_of Q, inputs) (listing_is_text P ok thrown typed).read is.read in
     (ap (λ d. program_of d.0) same, ap (λ d. d.1) same)

@@ -2,7 +2,7 @@
 use Rattle.std.proofs.Common.{◌≡◌, ◌≤◌, ℕ, ℤ, pos, List, [], ◌∷◌, Bool, true, false, not, ◌&&◌, nat_lt, Option, Some, Ok, Err, refl, ap, ◌∙◌, arith}
 use Rattle.std.specs.Prelude.{Result, ◌==◌}
 use Rattle.std.proofs.lemmas.Bool.{and_from, cond-false, cond-true, not_from_false}
-use Rattle.gl_text.specs.declared.kinds.TheConstants.{BAD_BYTE, MISPLACED, NOT_BUILT}
+use Rattle.gl_text.specs.declared.kinds.TheConstants.{BAD_BYTE, MISPLACED}
 use Rattle.std.specs.Fmt.{decimal, signed_decimal}
 use Rattle.gl_model.specs.declared.limits.TheConstants.{CLASSES, FUNCTIONS, VARIABLES, VOLATILES}
 use Rattle.gl_bytecode.specs.declared.instr.Catch.{Catch}
@@ -27,7 +27,7 @@ use Rattle.gl_asm.specs.Definitions.{defined_word}
 use Rattle.gl_asm.specs.Forms.{form_of}
 use Rattle.gl_asm.specs.Listing.{function_name, label_name}
 use Rattle.gl_asm.specs.Sayings.{form_says, is_placed, said, words_say}
-use Rattle.gl_asm.specs.Words.{filled, is_built, operand_of}
+use Rattle.gl_asm.specs.Words.{filled, operand_of}
 use Rattle.gl_asm.proofs.ListedLines.{IsPlain, indented, not_bad, plain_indented, plain_spaced, spaced, words_indented, words_spaced}
 use Rattle.gl_asm.proofs.ListedNames.{class_name, label_of_colon}
 use Rattle.gl_asm.specs.Listable.{IsValue}
@@ -110,56 +110,10 @@ operands_are table c main Commit fits known = refl
 operands_are table c main Print fits known = refl
 operands_are table c main Input fits known = refl
 
-template_built : (i : Instr) → is_built (template_for i) ≡ is_built i
-template_built (Push n) = refl
-template_built Pop = refl
-template_built Dup = refl
-template_built Swap = refl
-template_built (Load k) = refl
-template_built (Store k) = refl
-template_built (Inc k n) = refl
-template_built Add = refl
-template_built Sub = refl
-template_built Mul = refl
-template_built Div = refl
-template_built Rem = refl
-template_built Neg = refl
-template_built Eq = refl
-template_built Lt = refl
-template_built Le = refl
-template_built Not = refl
-template_built And = refl
-template_built Or = refl
-template_built Xor = refl
-template_built (Jump to) = refl
-template_built (Jz to) = refl
-template_built (Jnz to) = refl
-template_built (Call f) = refl
-template_built Ret = refl
-template_built Halt = refl
-template_built (Throw code) = refl
-template_built Nop = refl
-template_built (New c) = refl
-template_built (Get k) = refl
-template_built (Put k) = refl
-template_built (Vget k) = refl
-template_built (Vput k) = refl
-template_built Enter = refl
-template_built Exit = refl
-template_built (Fork f) = refl
-template_built Join = refl
-template_built SelfId = refl
-template_built Txbegin = refl
-template_built Commit = refl
-template_built Print = refl
-template_built Input = refl
-
-says_instr : (table : List Definition) (c : Counts) (main : ℕ) (i : Instr) → Fits (operand_of i) → Known table c main (operand_of i) → is_built i ≡ true
+says_instr : (table : List Definition) (c : Counts) (main : ℕ) (i : Instr) → Fits (operand_of i) → Known table c main (operand_of i)
     → instruction_of table c (template_for i) (operand_words main (operand_of i)) ≡ Ok (AddsInstruction i)
 unfolding instruction_of
-says_instr table c main i fits known built =
-    cond-true (is_built (template_for i)) (with_operands table c (template_for i) (operand_of (template_for i)) (operand_words main (operand_of i)) >>= (λ j. Ok (AddsInstruction j))) (Err NOT_BUILT) (template_built i ∙ built)
-    ∙ ap (λ r. r >>= (λ j. Ok (AddsInstruction j))) (operands_are table c main i fits known)
+says_instr table c main i fits known = ap (λ r. r >>= (λ j. Ok (AddsInstruction j))) (operands_are table c main i fits known)
 
 -- ## What lines say
 
@@ -179,13 +133,13 @@ before_inputs : (c : Counts) (inside : Bool) → c.given ≡ false → inside �
 before_inputs c inside first is = and_from (not c.given) inside (not_from_false c.given first) is
 
 pub said_instr : (table : List Definition) (c : Counts) (line have main : ℕ) (i : Instr) → c.given ≡ false → (c.functions == 0) ≡ false
-    → Fits (operand_of i) → Known table c main (operand_of i) → is_built i ≡ true
+    → Fits (operand_of i) → Known table c main (operand_of i)
     → said table c line have (indented (instr_words main i)) ≡ Ok (AddsInstruction i)
-said_instr table c line have main i first inside fits known built =
+said_instr table c line have main i first inside fits known =
     let are = instr_are_words main i fits in
     says table c line have (indented (instr_words main i)) (instr_words main i) (Some (forms.Instruction (template_for i))) (AddsInstruction i)
     (plain_indented (instr_words main i) are) (words_indented (instr_words main i) are) (instr_form main i)
-    (before_inputs c (not (c.functions == 0)) first (not_from_false (c.functions == 0) inside)) (says_instr table c main i fits known built)
+    (before_inputs c (not (c.functions == 0)) first (not_from_false (c.functions == 0) inside)) (says_instr table c main i fits known)
 
 says_class : (table : List Definition) (c : Counts) (line k : ℕ) (fields : Fields) → new_name table Classes line (nat_lt c.classes CLASSES) (class_name k) ≡ Ok tt
     → fields.plain ≤ VARIABLES → fields.volatile ≤ VOLATILES

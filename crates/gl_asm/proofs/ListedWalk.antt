@@ -27,7 +27,7 @@ use Rattle.gl_asm.specs.Forms.{counted, form_of}
 use Rattle.gl_asm.specs.Listing.{function_name, label_name}
 use Rattle.gl_asm.specs.Sayings.{said}
 use Rattle.gl_asm.specs.Texts.{LineFault, added, inputs_in}
-use Rattle.gl_asm.specs.Words.{is_built, operand_of}
+use Rattle.gl_asm.specs.Words.{operand_of}
 use Rattle.gl_asm.proofs.ListedLines.{words_indented, words_spaced}
 use Rattle.gl_asm.proofs.ListedNames.{class_name, is_class_name, is_function_name, is_label_name, label_of_colon}
 use Rattle.gl_asm.proofs.ListedRows.{catch_row, catch_rows, class_row, class_rows, code_rows, function_rows, functions_rows, header_row, instr_row, label_row, label_rows, names_of}
@@ -129,15 +129,15 @@ module _ {M : Type 0} {T : List Definition} {whole : Result (Draft × List ℤ) 
       in
       stands_on s form ws [] a k label are is adds says none count free
 
-  instr_step : (n g p label : ℕ) (i : Instr) (left : List (List ℕ)) (D : Draft) → p < MOST_INDEX → is_built i ≡ true → Fits (operand_of i)
+  instr_step : (n g p label : ℕ) (i : Instr) (left : List (List ℕ)) (D : Draft) → p < MOST_INDEX → Fits (operand_of i)
       → (M → Known T (counts n (g + 1) p 0) main (operand_of i))
       → Stands M T whole main (counts n (g + 1) p 0) label (instr_row main i ∷ left) D
       → Stands M T whole main (counts n (g + 1) (p + 1) 0) label left (added D (AddsInstruction i))
-  instr_step n g p label i left D most built fits knows s =
+  instr_step n g p label i left D most fits knows s =
       let c = counts n (g + 1) p 0 in
       plain_step c (counts n (g + 1) (p + 1) 0) label (instr_row main i) left D s (forms.Instruction (template_for i)) (instr_words main i) (AddsInstruction i)
       (words_indented (instr_words main i) (instr_are_words main i fits)) (instr_form main i) refl
-      (λ m. said_instr T c s.line 0 main i refl (some_function g) fits (knows m) built) refl
+      (λ m. said_instr T c s.line 0 main i refl (some_function g) fits (knows m)) refl
       (ap (λ q. counts n (g + 1) q 0) (more_is p most)) refl refl
 
   catch_step : (n g p k label : ℕ) (h : Catch) (left : List (List ℕ)) (D : Draft) → k < CATCHES → h.from ≤ MOST_INDEX → h.to ≤ MOST_INDEX → h.target ≤ MOST_INDEX
@@ -205,7 +205,6 @@ IsThere P F (Code code) = Unit {0}
 
 -- a line can say the instruction
 pub record IsSayable (P : Bytecode) (F : Function) (i : Instr) : Type 0 where
-  pub built : is_built i ≡ true
   pub fits : Fits (operand_of i)
   pub there : IsThere P F (operand_of i)
 
@@ -264,7 +263,7 @@ module _ (P : Bytecode) (F : Function) (T : List Definition) (whole : Result (Dr
       let D = draft_with Cs Fs (part F done []) m in
       let next = code_rows P.main (names_of F) (at + 1) is rest in
       let slot = slot_step (names_of F at) n g at (instr_row P.main i ∷ next) D (omega arith) s in
-      let said = instr_step n g at (at + 1) i next D (omega arith) sayable.0.built sayable.0.fits
+      let said = instr_step n g at (at + 1) i next D (omega arith) sayable.0.fits
       (λ known. knows P F T n (g + 1) at 0 (operand_of i) sayable.0.there known.0 known.1) slot.0 in
       let onward = moved (counts n (g + 1) (at + 1) 0) (counts n (g + 1) (at + 1) 0) (at + 1) (at + 1) (added D (AddsInstruction i)) (draft_with Cs Fs (part F (done ++ i ∷ []) []) m) refl refl
       (ap (λ l. record { classes = Cs; functions = l; main = m }) (last_changed (λ G. record G { code = G.code ++ i ∷ [] }) Fs (part F done []))) said in

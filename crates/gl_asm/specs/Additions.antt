@@ -1,7 +1,7 @@
 -- What a line adds to a program, or the kind of its fault: the checks come in the order in which they are made.
 use Rattle.std.specs.Prelude.{ℕ, ℤ, pos, ◌<◌, ◌≤◌, length, ◌+◌, ◌-◌, List, [], ◌∷◌, Bool, true, false, not, nat_lt, Option, Some, None, Result, Ok, Err, if◌then◌else◌, slice_get, is_some}
 use Rattle.gl_text.specs.Number.{number_of}
-use Rattle.gl_text.specs.declared.kinds.TheConstants.{WORD_COUNT, BAD_NUMBER, NAME_TAKEN, NAME_UNKNOWN, NOT_BUILT, BAD_NAME, TOO_MANY}
+use Rattle.gl_text.specs.declared.kinds.TheConstants.{WORD_COUNT, BAD_NUMBER, NAME_TAKEN, NAME_UNKNOWN, BAD_NAME, TOO_MANY}
 use Rattle.gl_model.specs.declared.limits.TheConstants.{CLASSES, FUNCTIONS, INPUTS, VARIABLES, VOLATILES}
 use Rattle.gl_asm.specs.declared.additions.Addition.{Addition}
 use Rattle.gl_asm.specs.declared.additions.Addition.TheVariants.{Nothing as AddsNothing, Class as AddsClass, Function as AddsFunction, Instruction as AddsInstruction, Catch as AddsCatch, Inputs as AddsInputs}
@@ -15,7 +15,7 @@ use Rattle.gl_asm.specs.declared.table.Operand.{Operand}
 use Rattle.gl_asm.specs.declared.table.Operand.TheVariants as operands
 use Rattle.gl_asm.specs.Definitions.{first_definition}
 use Rattle.gl_asm.specs.Names.{is_name}
-use Rattle.gl_asm.specs.Words.{filled, is_built, operand_of}
+use Rattle.gl_asm.specs.Words.{filled, operand_of}
 use Rattle.gl_bytecode.specs.declared.instr.Instr.{Instr}
 use Rattle.gl_bytecode.specs.declared.instr.Instr.TheVariants.{Throw}
 use Rattle.gl_bytecode.specs.Faults.{ThrowsInRange}
@@ -184,7 +184,7 @@ with_operands table c i (operands.Class k) others = with_meaning table Classes i
 -- what an instruction's line adds
 unfoldable pub instruction_of : List Definition → Counts → Instr → List Word → Result Addition ℕ
 instruction_of table c i others =
-    if is_built i then with_operands table c i (operand_of i) others >>= (λ j. Ok (AddsInstruction j)) else Err NOT_BUILT
+    with_operands table c i (operand_of i) others >>= (λ j. Ok (AddsInstruction j))
 
 -- what is added to a function has one, where there are so many; the inputs are no more than there is room for
 abbrev pub IsPlaced : ℕ → ℕ → Addition → Type 0

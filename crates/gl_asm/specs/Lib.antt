@@ -8,4 +8,5 @@ pub mod NameIndex
 pub mod Names
 pub mod Sayings
 pub mod Texts
+pub mod Unbuilt
 pub mod Words

@@ -1,16 +1,12 @@
 -- What a program has to be for its listing to be a program text again.
-use Rattle.std.specs.Prelude.{◌≡◌, ◌≤◌, ◌≤ℤ◌, ℕ, ℤ, List, true, Some, slice_get}
+use Rattle.std.specs.Prelude.{◌≡◌, ◌≤◌, ◌≤ℤ◌, ℕ, ℤ, List, Some, slice_get}
 use Rattle.gl_asm.specs.declared.limits.TheConstants.{LEAST_VALUE, MOST_INDEX, MOST_VALUE}
 use Rattle.gl_asm.specs.declared.table.Operand.{Operand}
 use Rattle.gl_asm.specs.declared.table.Operand.TheVariants.{Nothing, Value, Index, IndexAndValue, Code, Label, Function, Class}
 use Rattle.gl_asm.specs.Code.{code_of}
-use Rattle.gl_asm.specs.Words.{is_built, operand_of}
+use Rattle.gl_asm.specs.Words.{operand_of}
 use Rattle.gl_bytecode.specs.declared.instr.Instr.{Instr}
-use Rattle.gl_bytecode.specs.Programs.{Bytecode, function_at, instr_at}
-
--- programs may have all instructions of this one yet
-abbrev pub AreBuilt : Bytecode → Type 0
-AreBuilt P = (f at : ℕ) (i : Instr) → instr_at P f at ≡ Some i → is_built i ≡ true
+use Rattle.gl_bytecode.specs.Programs.{Bytecode, function_at}
 
 -- an integer of 64 bits
 abbrev pub IsValue : ℤ → Type 0

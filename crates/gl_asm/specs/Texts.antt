@@ -123,29 +123,40 @@ fault_line ls fault =
 
 -- ## Texts and their first faults
 
--- the text has no fault, and this program and these inputs
-pub record IsText (text : List ℕ) (program : Bytecode) (inputs : List ℤ) : Type 0 where
-  pub read : text_read text ≡ Ok (draft_of program, inputs)
+-- by this reading the text has no fault, and this program and these inputs
+pub record IsTextBy (reading : Result (Draft × List ℤ) LineFault) (program : Bytecode) (inputs : List ℤ) : Type 0 where
+  pub read : reading ≡ Ok (draft_of program, inputs)
   pub faultless : IsFaultless program
 
--- the lines have no fault, but the program that they make has this one
-pub record HasProgramFault (text : List ℕ) (line kind : ℕ) : Type 0 where
+-- by this reading the lines have no fault, but the program that they make has this one
+pub record HasProgramFault (reading : Result (Draft × List ℤ) LineFault) (text : List ℕ) (line kind : ℕ) : Type 0 where
   pub draft : Draft
   pub inputs : List ℤ
   pub fault : ProgFault
-  pub read : text_read text ≡ Ok (draft, inputs)
+  pub read : reading ≡ Ok (draft, inputs)
   pub first : IsProgramsFirstFault draft fault
   pub line_is : line ≡ fault_line (lines text) fault
   pub kind_is : kind ≡ PROGRAM_FAULT_BASE + fault.kind
 
--- the first fault of a text: one of a line, and only where there is none, one of the program
+-- by this reading the first fault: one of a line, and only where there is none, one of the program
+abbrev pub IsFirstFaultBy : Result (Draft × List ℤ) LineFault → List ℕ → ℕ → ℕ → Type 0
+IsFirstFaultBy reading text line kind = (reading ≡ Err (line, kind)) ⊎ HasProgramFault reading text line kind
+
+-- the text has no fault, and this program and these inputs
+abbrev pub IsText : List ℕ → Bytecode → List ℤ → Type 0
+IsText text program inputs = IsTextBy (text_read text) program inputs
+
+-- the first fault of a text
 abbrev pub IsFirstFault : List ℕ → ℕ → ℕ → Type 0
-IsFirstFault text line kind = (text_read text ≡ Err (line, kind)) ⊎ HasProgramFault text line kind
+IsFirstFault text line kind = IsFirstFaultBy (text_read text) text line kind
 
 -- an error that is not want of memory is the first fault
+abbrev pub TellsFirstBy : Result (Draft × List ℤ) LineFault → List ℕ → TextError → Type 0
+TellsFirstBy reading text (Fault f) = IsFirstFaultBy reading text f.line f.kind
+TellsFirstBy reading text (Memory e) = Unit {0}
+
 abbrev pub TellsFirst : List ℕ → TextError → Type 0
-TellsFirst text (Fault f) = IsFirstFault text f.line f.kind
-TellsFirst text (Memory e) = Unit {0}
+TellsFirst text error = TellsFirstBy (text_read text) text error
 
 -- an error that is not want of memory is that of the lines
 abbrev pub TellsLine : {A : Type 0} → Result A LineFault → TextError → Type 0

@@ -143,7 +143,7 @@ filled Input index value = Input
 abbrev pub template_of : List ℕ → Option Instr
 template_of word = find (λ i. bytes_eq (word_of i) word) INSTRUCTIONS
 
--- programs may have it yet
+-- `run` does it; the others speak of another thread or of a transaction, and wait for the workers
 abbrev pub is_built : Instr → Bool
 is_built (Push n) = true
 is_built Pop = true

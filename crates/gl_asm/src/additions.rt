@@ -10,12 +10,10 @@ use crate::definitions::{DefinedNames, Scope};
 use crate::forms::Counts;
 use crate::limits::{LEAST_VALUE, MOST_INDEX, MOST_VALUE};
 use crate::names::is_name;
-use crate::table::{Operand, filled, is_built, operand_of};
+use crate::table::{Operand, filled, operand_of};
 use gl_bytecode::{CATCHES, Catch, Instr, LEAST_THROWN, LOCALS, MOST_THROWN};
 use gl_model::{CLASSES, FUNCTIONS, Inputs, VARIABLES, VOLATILES};
-use gl_text::kinds::{
-    BAD_NAME, BAD_NUMBER, NAME_TAKEN, NAME_UNKNOWN, NOT_BUILT, TOO_MANY, WORD_COUNT,
-};
+use gl_text::kinds::{BAD_NAME, BAD_NUMBER, NAME_TAKEN, NAME_UNKNOWN, TOO_MANY, WORD_COUNT};
 use gl_text::{Words, number};
 
 /// What a line adds.
@@ -302,9 +300,6 @@ pub fn instruction_of<'a>(
     ensures value { result ≡ instruction_of table.now counts instr others.entry }
     ensures placed { ThrowsInRange instr → IfOk result (λ a. (functions room : ℕ) → 0 < functions → IsPlaced functions room a) }
 {
-    if !is_built(instr) {
-        return Err(NOT_BUILT);
-    }
     let instr = with_operands(table, counts, instr, others)?;
     Ok(Addition::Instruction(instr))
 }

@@ -2,9 +2,10 @@
 ghost use Rattle.std.specs.Prelude.{◌≡◌, ℕ, ℤ, List, []};
 ghost use Rattle.gl_bytecode.specs.Faults.{AllThrowInRange, IsFaultless};
 ghost use Rattle.gl_bytecode.specs.Programs.{Bytecode, draft_of};
-ghost use Rattle.gl_asm.specs.Listable.{AreBuilt, OperandsAreTyped};
+ghost use Rattle.gl_asm.specs.Listable.{OperandsAreTyped};
 ghost use Rattle.gl_asm.specs.Listing.{listing};
 ghost use Rattle.gl_asm.specs.Texts.{IsFirstFault, IsText};
+ghost use Rattle.gl_asm.specs.Unbuilt.{AreBuilt, IsFirstFaultToRun, IsTextToRun};
 
 /// A text has one meaning: a program and its inputs, or its first fault.
 pub fn one_meaning()
@@ -15,10 +16,20 @@ pub fn one_meaning()
     gl_bytecode::one_meaning();
 }
 
+/// What a text means for `run` is one meaning too, and nothing else than what the text means.
+pub fn one_meaning_to_run()
+    ensures apart { (text : List ℕ) (program : Bytecode) (inputs : List ℤ) (line kind : ℕ) → IsTextToRun text program inputs → IsFirstFaultToRun text line kind → ⊥ }
+    ensures faults { (text : List ℕ) (a b j k : ℕ) → IsFirstFaultToRun text a j → IsFirstFaultToRun text b k → (a ≡ b) × (j ≡ k) }
+    ensures same { (text : List ℕ) (program : Bytecode) (inputs : List ℤ) → IsTextToRun text program inputs → IsText text program inputs }
+    ensures built { (text : List ℕ) (program : Bytecode) (inputs : List ℤ) → IsTextToRun text program inputs → AreBuilt program }
+{
+    gl_bytecode::one_meaning();
+}
+
 /// The canonical listing of a program is a text of the same program and of no inputs, and of nothing else.
 ///
-/// That is so of each `Program` whose instructions programs may all have yet.
+/// What it asks of the program is so of each `Program`.
 pub fn listing_is_text()
-    ensures text { (P : Bytecode) → IsFaultless P → AllThrowInRange P.functions → OperandsAreTyped P → AreBuilt P → IsText (listing P) P [] }
-    ensures only { (P : Bytecode) → IsFaultless P → AllThrowInRange P.functions → OperandsAreTyped P → AreBuilt P → (Q : Bytecode) (inputs : List ℤ) → IsText (listing P) Q inputs → (Q ≡ P) × (inputs ≡ []) }
+    ensures text { (P : Bytecode) → IsFaultless P → AllThrowInRange P.functions → OperandsAreTyped P → IsText (listing P) P [] }
+    ensures only { (P : Bytecode) → IsFaultless P → AllThrowInRange P.functions → OperandsAreTyped P → (Q : Bytecode) (inputs : List ℤ) → IsText (listing P) Q inputs → (Q ≡ P) × (inputs ≡ []) }
 {}

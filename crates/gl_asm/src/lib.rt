@@ -13,9 +13,10 @@ mod places;
 mod refusal;
 mod sayings;
 mod table;
+mod unbuilt;
 
-pub use assembling::{Assembled, assemble};
-pub use laws::{listing_is_text, one_meaning};
+pub use assembling::{Assembled, assemble, assemble_to_run};
+pub use laws::{listing_is_text, one_meaning, one_meaning_to_run};
 pub use listing::list;
 
 #[cfg(test)]

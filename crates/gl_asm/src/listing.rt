@@ -4,7 +4,7 @@ ghost use Rattle.std.specs.List.{flat_map, list_any};
 ghost use Rattle.gl_bytecode.specs.Programs.{function_at, Bytecode, Function};
 ghost use Rattle.gl_asm.specs.Code.{IsShort, catches_of, code_of, text_of};
 ghost use Rattle.gl_asm.specs.Words.{operand_of};
-ghost use Rattle.gl_asm.specs.Listable.{AreBuilt, AreTyped, IsTyped, OperandsAreTyped};
+ghost use Rattle.gl_asm.specs.Listable.{AreTyped, IsTyped, OperandsAreTyped};
 ghost use Rattle.gl_asm.specs.Texts.{IsText};
 ghost use Rattle.gl_asm.specs.Listing.{each_from, function_name, operand_text, instr_line, is_label, catch_names, is_named, label_line, code_line, catch_line, header, body, class_line, function_text, listing};
 
@@ -268,11 +268,10 @@ fn push_classes(out: &mut String, program: &Program) -> Result<(), AllocError>
     Ok(())
 }
 
-/// The canonical listing of a program. Where programs may have all its instructions yet, it is a text of the same program, and of no
-/// inputs.
+/// The canonical listing of a program: a text of the same program, and of no inputs.
 pub fn list(alloc: Global, program: &Program) -> Result<Vec<u8>, AllocError>
     ensures listing { IfOk result (λ bytes. bytes.items ≡ listing program.now) }
-    ensures text { AreBuilt program.now → IfOk result (λ bytes. IsText bytes.items program.now []) }
+    ensures text { IfOk result (λ bytes. IsText bytes.items program.now []) }
 {
     let main = program.main();
     let mut out = String::new(alloc);

@@ -77,8 +77,8 @@ fn is_in_section(counts: Counts, form: Form) -> bool
     }
 }
 
-// May a line of this form stand here?
-fn is_placed(counts: Counts, form: Option<Form>) -> bool
+/// May a line of this form stand here?
+pub fn is_placed(counts: Counts, form: Option<Form>) -> bool
     ensures { result ≡ is_placed counts form }
 {
     match form {

@@ -231,7 +231,7 @@ pub fn template_of(word: &[u8]) -> Option<Instr>
     instr_of(word)
 }
 
-/// Whether programs may have the instruction yet.
+/// Whether `run` does the instruction yet.
 pub fn is_built(instr: Instr) -> bool
     ensures { result ≡ is_built instr }
 {

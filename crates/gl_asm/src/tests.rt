@@ -1,4 +1,4 @@
-use crate::{assemble, list};
+use crate::{Assembled, assemble, assemble_to_run, list};
 use gl_text::TextError;
 use std::alloc::{AllocError, Global};
 use std::process::Abort;
@@ -8,7 +8,7 @@ use std::test::Fail;
 const TEXTS: &str = "func main 0 0;  push 5;  print;  halt => ok
 func main 0 0 => 1 46
 # nothing => 0 48
-func main 0 0;txbegin;halt => 2 9
+func main 0 0;txbegin;halt => ok
 func main 0 0;pop;halt => 1 45
 func main 0 0;jump a;halt => 2 8
 func main 0 0;push 9223372036854775808;halt => 2 6
@@ -71,9 +71,11 @@ func main 0 0;nop => 2 46
 func main 0 0;nop;catch a b c;halt => 3 8
 func main 0 0;a:;nop;b:;halt;h:;halt;catch a b h => ok
 func main 0 0;a:;nop;b:;halt;h:;halt;catch b a h => 8 41
-func main 0 0;halt;fork f => 3 9
+func main 0 0;halt;fork f => 3 8
+func main 0 0;push 0;fork main;halt => 3 42
+func main 0 0;push 0;fork f;join;halt;func f 1 1;load 0;ret => ok
 fork f => 1 10
-func main 0 0;commit x => 2 9
+func main 0 0;commit x => 2 5
 func main 0 0;halt x => 2 5
 func main 0;halt => 1 5
 func;halt => 1 5
@@ -89,6 +91,17 @@ func main 0 0;call main;ret => ok
 func main 0 0;call f;halt;func f 1 1;load 0;ret => 1 45
 func main 0 0;jump;halt => 2 5";
 
+// The same for `run`.
+const TEXTS_TO_RUN: &str = "func main 0 0;push 5;print;halt => ok
+func main 0 0;txbegin;halt => 2 9
+func main 0 0;halt;fork f => 3 9
+fork f => 1 10
+func main 0 0;commit x => 2 9
+func main 0 0;hlt;join => 2 4
+func main 0 0;join;hlt => 2 9
+func f 0 0;join => 2 9
+func main 0 0;halt;input 5;join => 4 10";
+
 // The bytes of a text, with `;` for the end of a line.
 fn with_lines(alloc: Global, text: &str) -> Result<Vec<u8>, AllocError> {
     let mut bytes = Vec::new(alloc);
@@ -98,9 +111,9 @@ fn with_lines(alloc: Global, text: &str) -> Result<Vec<u8>, AllocError> {
     Ok(bytes)
 }
 
-// What a text is answered: `ok`, or a line and a kind.
-fn answer(alloc: Global, bytes: &[u8]) -> Result<String, AllocError> {
-    match assemble(alloc, bytes) {
+// What is said of a text: `ok`, or a line and a kind.
+fn told(alloc: Global, answer: Result<Assembled, TextError>) -> Result<String, AllocError> {
+    match answer {
         Ok(_) => String::from_str(alloc, "ok"),
         Err(TextError::Memory(error)) => Err(error),
         Err(TextError::Fault(fault)) => {
@@ -111,10 +124,22 @@ fn answer(alloc: Global, bytes: &[u8]) -> Result<String, AllocError> {
     }
 }
 
+fn answer(alloc: Global, bytes: &[u8]) -> Result<String, AllocError> {
+    told(alloc, assemble(alloc, bytes))
+}
+
 fn answers(rt: &impl Abort, alloc: Global, case: &str) -> Result<(), Fail> {
     let (text, wanted) = case.split_once(" => ").ok_or("a case has no answer")?;
     let bytes = with_lines(alloc, text)?;
     let given = answer(alloc, &bytes)?;
+    assert_eq!(rt; given.as_str(), wanted, "{text}");
+    Ok(())
+}
+
+fn answers_to_run(rt: &impl Abort, alloc: Global, case: &str) -> Result<(), Fail> {
+    let (text, wanted) = case.split_once(" => ").ok_or("a case has no answer")?;
+    let bytes = with_lines(alloc, text)?;
+    let given = told(alloc, assemble_to_run(alloc, &bytes))?;
     assert_eq!(rt; given.as_str(), wanted, "{text}");
     Ok(())
 }
@@ -124,13 +149,17 @@ fn texts(rt: HostRuntime) -> Result<(), Fail> {
     for case in TEXTS.lines() {
         answers(&rt, rt.alloc(), case)?;
     }
+    for case in TEXTS_TO_RUN.lines() {
+        answers_to_run(&rt, rt.alloc(), case)?;
+    }
     Ok(())
 }
 
 // Programs, `;` for the end of a line, in the form of their listings.
 const LISTINGS: &str = "func main 0 0;  push 5;  print;  halt;
 class c0 1 2;class c1 0 0;func f0 1 2;L0:;  load 0;  inc 1 -7;  jnz L0;  push 3;  ret;func main 0 1;L0:;  new c1;  store 0;L2:;  push 1;  call f0;  pop;  halt;L6:;  throw 199;  catch L0 L2 L6;
-func main 0 0;  jump L1;L1:;  nop;L2:;  halt;L3:;  print;  halt;L5:;  catch L2 L5 L3;";
+func main 0 0;  jump L1;L1:;  nop;L2:;  halt;L3:;  print;  halt;L5:;  catch L2 L5 L3;
+func f0 1 1;  txbegin;  commit;  load 0;  ret;func main 0 0;  push 7;  fork f0;  join;  halt;";
 
 fn lists(rt: &impl Abort, alloc: Global, text: &str) -> Result<(), Fail> {
     let bytes = with_lines(alloc, text)?;

@@ -1,7 +1,8 @@
 -- Over a clean trace the detector and the plain judge say the same, since what is rightly said is settled.
-use Rattle.std.proofs.Common.{◌≡◌, ℕ, ◌+◌, ◌<◌, List, [], ◌∷◌, ◌++◌, length, take, drop, get_or, refl, ap, subst, sym, ◌∙◌, arith, Some, None}
-use Rattle.std.specs.Prelude.{All, slice_get, option_map}
-use Rattle.std.proofs.lemmas.List.{take_more, take-append-le, take-append-drop}
+use Rattle.std.proofs.Common.{◌≡◌, ℕ, ◌+◌, ◌<◌, ◌≤◌, List, [], ◌∷◌, ◌++◌, length, take, drop, get_or, refl, ap, subst, sym, ◌∙◌, arith, Some, None}
+use Rattle.std.specs.Prelude.{All, slice_get, option_map, map, fold}
+use Rattle.std.proofs.lemmas.List.{map-append}
+use Rattle.std.proofs.lemmas.List.{take_more, take_all, take-append-le, take-append-drop}
 use Rattle.std.proofs.lemmas.List.Elements.{All-get_or}
 use Rattle.std.proofs.lemmas.Option.{slice_get-map, slice_get_within, get_or_from_slice_get}
 use Rattle.gl_model.specs.declared.row.Judged.{Judged}
@@ -12,20 +13,28 @@ use Rattle.gl_lines.proofs.TraceSound.{steps_push}
 use Rattle.gl_lines.proofs.VerdictLaw.{settled_law}
 use Rattle.gl_core.specs.Follows.{Follows, IsStepped}
 use Rattle.gl_core.specs.declared.detector.Detector.{Detector}
+use Rattle.gl_compare.specs.declared.compare.Tally.{Tally}
+use Rattle.gl_compare.specs.Counted.{AreJudged, one_trace, one_line, counted}
 use Rattle.gl_slow.specs.Follows.{Follows as FollowsPlainly, IsStepped as IsPlainlyStepped}
 use Rattle.gl_slow.specs.declared.judge.SlowJudge.{SlowJudge}
 use Rattle.gl_slow.proofs.Places.{get_kept}
 
--- both were given these steps, with right verdicts
-pub record AreGiven (steps : List Step) (d : Detector) (j : SlowJudge) : Type 0 where
+-- both were given these steps, with right verdicts, and they were counted
+pub record AreGiven (steps : List Step) (d : Detector) (j : SlowJudge) (old new : Tally) : Type 0 where
   pub lines : List Line
+  pub count : new ≡ counted old (map (λ l. l.judged) lines)
   pub said : steps_of lines ≡ steps
   pub right : AreVerdicts lines
   pub fast : Follows lines d
   pub plain : FollowsPlainly lines j
 
-pub none_given : (d : Detector) (j : SlowJudge) → Follows [] d → FollowsPlainly [] j → AreGiven [] d j
-none_given d j fast plain = record { lines = []; said = refl; right = λ k l e. absurd (cc); fast = fast; plain = plain }
+-- one line more is counted
+pub count_more : (t : Tally) (xs : List Judged) (x : Judged) → fold one_line t (xs ++ x ∷ []) ≡ one_line (fold one_line t xs) x
+count_more t [] x = refl
+count_more t (y ∷ xs) x = count_more (one_line t y) xs x
+
+pub none_given : (d : Detector) (j : SlowJudge) (t new : Tally) → new ≡ one_trace t → Follows [] d → FollowsPlainly [] j → AreGiven [] d j t new
+none_given d j t new count fast plain = record { lines = []; count = count; said = refl; right = λ k l e. absurd (cc); fast = fast; plain = plain }
 
 -- lines whose steps are a front of a clean trace are sound
 front_sound : (lines : List Line) (trace more : List Step) → steps_of lines ++ more ≡ trace → All IsStep trace → AreClean trace → AreSound lines
@@ -47,7 +56,7 @@ front_sound lines trace more whole all clean = record {
         let at = there k s e in
         subst IsStep (get_or_from_slice_get trace k s s at) (All-get_or IsStep trace k s (slice_get_within trace k s at) all)
 
-module _ (trace : List Step) (all : All IsStep trace) (clean : AreClean trace) (k : ℕ) (r : Step) (less : k < length trace) (is : r ≡ get_or trace k r) (d d' : Detector) (j j' : SlowJudge) (given : AreGiven (take k trace) d j) (a b : Judged)
+module _ (trace : List Step) (all : All IsStep trace) (clean : AreClean trace) (k : ℕ) (r : Step) (less : k < length trace) (is : r ≡ get_or trace k r) (d d' : Detector) (j j' : SlowJudge) (t now now' : Tally) (given : AreGiven (take k trace) d j t now) (a b : Judged)
     (fast : IsStepped r.0 r.1 a d d') (plain : IsPlainlyStepped r.0 r.1 b j j') where
   abbrev line : Judged → Line
   line judged = record { thread = r.0; item = r.1; judged = judged }
@@ -61,11 +70,17 @@ module _ (trace : List Step) (all : All IsStep trace) (clean : AreClean trace) (
   pub same_said : a ≡ b
   same_said = settled_law given.lines r.0 r.1 a b (sound a) (fast given.lines (sound a) given.right given.fast).0 (plain given.lines (sound b) given.right given.plain).0
 
-  pub given_more : AreGiven (take (k + 1) trace) d' j'
-  given_more = record {
+  pub given_more : now' ≡ one_line now a → AreGiven (take (k + 1) trace) d' j' t now'
+  given_more more' = record {
     lines = given.lines ++ line a ∷ [];
+    count = more' ∙ ap (λ z. one_line z a) given.count ∙ sym (count_more (one_trace t) (map (λ l. l.judged) given.lines) a)
+        ∙ sym (ap (fold one_line (one_trace t)) (map-append (λ (l : Line). l.judged) given.lines (line a ∷ [])));
     said = said_more a;
     right = (fast given.lines (sound a) given.right given.fast).0;
     fast = (fast given.lines (sound a) given.right given.fast).1;
     plain = subst (λ c. FollowsPlainly (given.lines ++ line c ∷ []) j') (sym same_said) (plain given.lines (sound b) given.right given.plain).1;
   }
+
+-- all of a trace was given
+pub all_given : (trace : List Step) (k : ℕ) (d : Detector) (j : SlowJudge) (t now : Tally) → length trace ≤ k → AreGiven (take k trace) d j t now → (judged : List Judged) × AreJudged trace judged × (now ≡ counted t judged)
+all_given trace k d j t now past g = (map (λ l. l.judged) g.lines, (g.lines, g.said ∙ take_all k trace past, refl, g.right), g.count)

@@ -1,5 +1,7 @@
 // The detector and the plain judge, side by side.
-ghost use Rattle.std.specs.Prelude.{All, IfOk, IsTrue};
+ghost use Rattle.std.specs.Prelude.{◌≡◌, All, IfOk, IsTrue, List};
+ghost use Rattle.gl_compare.specs.Counted.{AreJudged, counted};
+ghost use Rattle.gl_model.specs.declared.row.Judged.{Judged as AJudged};
 ghost use Rattle.gl_model.specs.TraceSteps.{IsStep, AreClean};
 
 use gl_core::Detector;
@@ -28,6 +30,9 @@ pub struct Outcome {
 }
 
 impl Tally {
+    ghost use Rattle.std.specs.Prelude.{◌≡◌};
+    ghost use Rattle.gl_compare.specs.Counted.{one_line};
+
     pub fn new() -> Tally {
         Tally {
             traces: 0,
@@ -36,7 +41,9 @@ impl Tally {
         }
     }
 
-    fn count(&mut self, judged: Judged) {
+    fn count(&mut self, judged: Judged)
+        ensures { self.new ≡ one_line self.old judged }
+    {
         self.lines = self.lines.saturating_add(1);
         if matches!(judged, Judged::Raised { .. }) {
             self.raised = self.raised.saturating_add(1);
@@ -44,10 +51,12 @@ impl Tally {
     }
 }
 
-/// Whether both say the same of each line of a trace, up to the first of which they do not.
+/// Whether both say the same of each line of a trace, up to the first of which they do not: over a clean trace they do, what they say is what
+/// the race law says, and all of it is counted.
 pub fn agree(alloc: Global, trace: &[Line], tally: &mut Tally) -> Result<bool, AllocError>
     requires { All IsStep trace.now }
-    ensures { AreClean trace.now → IfOk result IsTrue }
+    ensures same { AreClean trace.now → IfOk result IsTrue }
+    ensures counted { AreClean trace.now → IfOk result (λ same. (judged : List AJudged) × AreJudged trace.now judged × (tally.new ≡ counted tally.old judged)) }
 {
     let cuts = Cuts::none();
     let mut detector = Detector::new(alloc)?;

@@ -56,7 +56,9 @@ fn raise_at(table: &mut [[u32; ALL]], i: usize, by: &[u32; ALL], ticks: &mut u64
     ensures joined { (j : ℕ) (u : ℕ) → cell table.new j u ≡ (if j == i then max (cell table.old j u) (at by.now u) else cell table.old j u) }
     ensures cost { ticks.new ≤ ticks.old + THREADS }
 {
-    join(&mut table[i], by, ticks);
+    let mut clock = table[i];
+    join(&mut clock, by, ticks);
+    table[i] = clock;
 }
 
 // Room for so many clocks. A clock is only put there when it comes to know something, so no page of the room is touched before.
@@ -79,7 +81,8 @@ fn make_clock(table: &mut Vec<[u32; ALL]>, i: u16, most: u16)
     }
 }
 
-// One clock of a table joined with a clock, where there is room for so many.
+// One clock of a table joined with a clock, where there is room for so many. It is joined in a copy, which nothing else can name, so
+// that all threads are joined at once.
 fn raise_in(table: &mut Vec<[u32; ALL]>, i: u16, most: u16, by: &[u32; ALL], ticks: &mut u64)
     requires within { i < most }
     requires room { most ≤ vec_capacity table.old }
@@ -88,7 +91,9 @@ fn raise_in(table: &mut Vec<[u32; ALL]>, i: u16, most: u16, by: &[u32; ALL], tic
     ensures cost { ticks.new ≤ ticks.old + THREADS }
 {
     make_clock(table, i, most);
-    join(&mut table[i as usize], by, ticks);
+    let mut clock = table[i as usize];
+    join(&mut clock, by, ticks);
+    table[i as usize] = clock;
 }
 
 // The threads' clocks, which know nothing.

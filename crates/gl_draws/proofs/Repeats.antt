@@ -8,7 +8,7 @@ use Rattle.gl_model.specs.Entries.{Entry, Commit, Plain, Abort}
 use Rattle.gl_model.specs.Machine.{with_at}
 use Rattle.gl_model.specs.Next.{HappensBeforeNext}
 use Rattle.gl_model.specs.Records.{IsPerformed, variables_of}
-use Rattle.gl_draws.specs.Draws.{What, Entered, Looked, Open, Draw, DrawAt, Among, access_of, is_write, last_write}
+use Rattle.gl_draws.specs.Draws.{What, Entered, Looked, Open, Draw, DrawAt, Among, is_write, last_write}
 use Rattle.gl_draws.specs.NextRaces.{IsRacyNext}
 use Rattle.gl_draws.specs.Repeated.{with_repeats, repeated, IsCalm}
 use Rattle.gl_draws.specs.Ties.{Drawn, AreDrawn, IsKept, IsFor, IsInBlock, in_list, in_flight, count_by}
@@ -16,7 +16,7 @@ use Rattle.gl_draws.specs.Verdicts.{IsCommitWhat}
 use Rattle.gl_draws.proofs.DrawCounts.{count_own, count_other}
 use Rattle.gl_draws.proofs.DrawPlaces.{draw_below}
 use Rattle.gl_draws.proofs.DrawTies.{with_here, with_else}
-use Rattle.gl_draws.proofs.Repeating.{IsSame, at_write, past, repeated_long, among_back, among_on}
+use Rattle.gl_draws.proofs.Repeating.{IsSame, at_write, past, repeated_long, among_back, among_on, same_access}
 use Rattle.gl_draws.specs.Refusals.{IsRefusedRightly, RefusalRight, RefusalsHold}
 
 module _ (x : ℕ) (vs : List ℤ) where
@@ -131,9 +131,6 @@ module _ (x : ℕ) (vs : List ℤ) where
       here true w rec = ap (count_by t) (at_write x vs d ds w) ∙ cons (with_repeats vs d) d ds ds refl refl
       here false w rec = ap (count_by t) (past x vs d ds w) ∙ cons d d (repeated x vs ds) ds refl rec
 
-  same_access : (a b : Draw) → IsSame x vs a b → access_of a ≡ access_of b
-  same_access a b s = λ i. record { thread = s.thread i; block = s.block i; variables = Rattle.gl_draws.specs.Draws.variables_in (s.what i) }
-
   next_on : (h : List Stamp) (ds : List Draw) (t : ℕ) (o : Option (List ℕ)) (f : Entry) → IsRacyNext h x ds t o f → IsRacyNext h x (repeated x vs ds) t o f
   next_on h ds t o f r = let m = among_on x vs ds r.earlier r.among in let s = m.2 in record {
     earlier = m.0;
@@ -143,7 +140,7 @@ module _ (x : ℕ) (vs : List ℤ) where
     performed = r.performed;
     apart = λ e. r.apart (s.thread ∙ e);
     conflict = r.conflict;
-    unordered = λ q. r.unordered (subst (λ a. HappensBeforeNext h a t o) (sym (same_access r.earlier m.0 s)) q);
+    unordered = λ q. r.unordered (subst (λ a. HappensBeforeNext h a t o) (sym (same_access x vs r.earlier m.0 s)) q);
   }
 
   next_off : (h : List Stamp) (ds : List Draw) (t : ℕ) (o : Option (List ℕ)) (f : Entry) → IsRacyNext h x (repeated x vs ds) t o f → IsRacyNext h x ds t o f
@@ -155,7 +152,7 @@ module _ (x : ℕ) (vs : List ℤ) where
     performed = r.performed;
     apart = λ e. r.apart (s.thread ∙ e);
     conflict = r.conflict;
-    unordered = λ q. r.unordered (subst (λ a. HappensBeforeNext h a t o) (sym (same_access r.earlier m.0 s)) q);
+    unordered = λ q. r.unordered (subst (λ a. HappensBeforeNext h a t o) (sym (same_access x vs r.earlier m.0 s)) q);
   }
 
   refused_right : (h : List Stamp) (until : ℕ → ℕ) (ds : List Draw) (t p : ℕ) (w : What) → ((e : Entry) → w ≡ Entered e → IsPerformed e → ⊥) → RefusalRight h until x ds t p w → RefusalRight h until x (repeated x vs ds) t p w

@@ -53,7 +53,7 @@ use Rattle.gl_rule.specs.Rule.{Fits, Holds, Rule}
 use Rattle.gl_rule.proofs.Caching.{caches}
 use Rattle.gl_rule.proofs.Each.{at_within, set_twice}
 use Rattle.gl_rule.proofs.HeldLists.{all_map, only_shelf, one_shelf}
-use Rattle.gl_draws.proofs.Dropping.{draws_front}
+use Rattle.gl_draws.proofs.DrawFronts.{draws_front}
 use Rattle.gl_rule.proofs.FittingLaws.{front_fits_at, infos_front}
 use Rattle.gl_draws.proofs.Forming.{formed_push}
 use Rattle.gl_rule.proofs.Frames.{reviews}

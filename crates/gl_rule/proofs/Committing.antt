@@ -4,7 +4,6 @@ use Rattle.std.specs.Prelude.{ℤ, pos, Contains, ◌⊎◌, Option, slice_get, 
 use Rattle.std.specs.List.{All}
 use Rattle.std.proofs.lemmas.List.{take-append-drop, length-take-le}
 use Rattle.std.proofs.lemmas.List.Elements.{All-contains}
-use native.Mathlib.Decide.{ℕ_discrete}
 use Rattle.atomic_table.specs.Table as table
 use Rattle.gl_model.specs.declared.event.Event.TheVariants.{Commit as Commits}
 use Rattle.gl_model.specs.declared.event.Stamp.{Stamp}
@@ -23,11 +22,12 @@ use Rattle.gl_draws.specs.RowFacts.{RowStands, IsWithin}
 use Rattle.gl_draws.specs.Ties.{Drawn, IsStill, IsKept, in_list, in_flight, count_by}
 use Rattle.gl_draws.specs.Verdicts.{DrawsHold}
 use Rattle.gl_draws.proofs.CommitLaw.{commit_holds}
-use Rattle.gl_draws.proofs.DrawCounts.{count_own, count_other}
+use Rattle.gl_draws.proofs.Resolves.{count_resolved, length_resolved}
 use Rattle.gl_draws.proofs.DrawPlaces.{one_draw}
 use Rattle.gl_draws.proofs.EntryKinds.{is_in-contains, contains-is_in}
 use Rattle.gl_draws.proofs.Sets.{map_contains}
-use Rattle.gl_draws.proofs.Resolving.{drawn_commit, drawn_foreign}
+use Rattle.gl_draws.proofs.Resolving.{drawn_commit}
+use Rattle.gl_draws.proofs.EndedAttempts.{foreign, foreign_back}
 use Rattle.gl_draws.proofs.RowGrowth.{row_grows}
 use Rattle.gl_draws.proofs.Running.{running_law}
 use Rattle.gl_draws.proofs.VerdictGrowth.{draws_grow}
@@ -50,7 +50,6 @@ use Rattle.gl_rule.proofs.FittingLaws.{front_fits_at, infos_front}
 use Rattle.gl_draws.specs.Draws.{last_write}
 use Rattle.gl_draws.specs.Events.{AreEvents}
 use Rattle.gl_draws.proofs.EventTies.{events_other}
-use Rattle.gl_draws.proofs.Resolving.{foreign_back}
 use Rattle.gl_draws.specs.Repeated.{IsCalm}
 use Rattle.gl_rule.specs.Owed.{OwedOne, repeats_of}
 use Rattle.gl_rule.proofs.Owing.{calm_write, calm_any, write_past, open_unrepeated}
@@ -153,25 +152,15 @@ module _ (key : Key) (w : World) (b : Board) (id : ℕ) (v : View) (s : Shelf) (
   after_out : (y : ℕ) → is_in y ys ≡ false → after y ≡ w.draws y
   after_out y c = rw c refl
 
+  -- what stands last on each of the commit's variables
+  heads : (y : ℕ) → is_in y ys ≡ true → (ds : List Draw) × (w.draws y ≡ draw s.thread p Open ∷ ds)
+  heads y c = let r = open_row y c in (r.0, r.1)
+
   same_count : (u y : ℕ) → count_by u (after y) ≡ count_by u (w.draws y)
-  same_count u y = by (is_in y ys) refl
-    where
-      by : (c : Bool) → is_in y ys ≡ c → count_by u (after y) ≡ count_by u (w.draws y)
-      by false c = ap (count_by u) (after_out y c)
-      by true c =
-          let r = open_row y c in
-          let a = after_in y c r.0 r.1 in
-          elim (ℕ_discrete s.thread u) [
-            | yes e ↦ ap (count_by u) a ∙ count_own u d r.0 e ∙ sym (ap (count_by u) r.1 ∙ count_own u (draw s.thread p Open) r.0 e)
-            | no ne ↦ ap (count_by u) a ∙ count_other u d r.0 ne ∙ sym (ap (count_by u) r.1 ∙ count_other u (draw s.thread p Open) r.0 ne)
-          ]
+  same_count u y = count_resolved w.draws s.thread p ys d refl heads u y
 
   same_length : (y : ℕ) → length (after y) ≡ length (w.draws y)
-  same_length y = by (is_in y ys) refl
-    where
-      by : (c : Bool) → is_in y ys ≡ c → length (after y) ≡ length (w.draws y)
-      by false c = ap length (after_out y c)
-      by true c = let r = open_row y c in ap length (after_in y c r.0 r.1) ∙ sym (ap length r.1)
+  same_length y = length_resolved w.draws s.thread p ys d refl heads y
 
   -- the counters count the draws after the commit as before
   pub numbers_after : (count : ℕ → ℕ) → NumbersHold count w.draws → NumbersHold count after
@@ -239,7 +228,7 @@ module _ (key : Key) (w : World) (b : Board) (id : ℕ) (v : View) (s : Shelf) (
   -- another thread's numbers stay
   pub numbers_foreign : (r : Shelf) (drawn : List Drawn) → r.thread ≢ s.thread → ShelfDraws w.draws drawn r → ShelfDraws after drawn r
   numbers_foreign r drawn apart k = record {
-    numbers = drawn_foreign w.draws s.thread p (length w.log) tx (λ y c. let q = open_row y c in (q.0, q.1)) r.thread r.marked drawn apart k.numbers;
+    numbers = foreign w.draws s.thread p (length w.log) (variables_of tx) (Entered (Commit (length w.log) tx)) (λ y c. let q = open_row y c in (q.0, q.1)) r.thread r.marked drawn apart k.numbers;
     few = λ y. let a = k.few y in let e = same_count r.thread y in omega arith;
     two = k.two;
     above = k.above;
@@ -362,7 +351,7 @@ publishes_commit key slots id v c s h l l' tx p m question one may all =
         repeats = λ y k g at own. repeats_after key w b id v s tx p m question one may mine y k g at own;
         calm = λ shelves y o other. calm_after key w b id v s tx p m question one may mine w.now H.whole.machine.allowed H.whole.verdicts shelves y o other;
         calmly = λ shelves y o other calm. calmly_after key w b id v s tx p m question one may mine w.now H.whole.machine.allowed H.whole.verdicts shelves y o other calm;
-        foreign = λ u y k g ne own at. foreign_back w.draws s.thread p (length w.log) tx (λ z c. let q = open_row key w b id v s tx p m question one may mine z c in (q.0, q.1)) u y k g ne own at;
+        foreign = λ u y k g ne own at. foreign_back w.draws s.thread p (length w.log) (variables_of tx) (Entered (Commit (length w.log) tx)) (λ z c. let q = open_row key w b id v s tx p m question one may mine z c in (q.0, q.1)) u y k g ne own at;
         elsewhere = elsewhere key w b id v s tx p m question one may mine;
         others = numbers_foreign key w b id v s tx p m question one may mine;
         own = numbers_own key w b id v s tx p m question one may mine;

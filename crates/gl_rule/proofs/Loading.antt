@@ -9,7 +9,10 @@ use lib.ListN.{get_elem?}
 use Rattle.atomic_table.specs.Table as table
 use Rattle.gl_model.specs.declared.event.Stamp.{Stamp}
 use Rattle.gl_model.specs.declared.limits.TheConstants.{VARIABLES}
-use Rattle.gl_model.specs.Machine.{Setting}
+use Rattle.gl_model.specs.declared.event.Act.TheVariants.{Fail}
+use Rattle.gl_model.specs.declared.event.Event.TheVariants.{Act as Does}
+use Rattle.gl_model.specs.Machine.{Setting, State, Step, Effect, Refuses, not_owner, heap_full, threads_full, input_end, bad_thread}
+use Rattle.gl_rule.specs.Cells.{HasSmallCode}
 use Rattle.gl_draws.specs.RowFacts.{IsWithin}
 use Rattle.gl_draws.proofs.RowGrowth.{stands_within}
 use Rattle.gl_rule.specs.declared.slot.Slot.{Slot}
@@ -222,6 +225,19 @@ all_at (y ∷ xs) zero x all e = let same : y ≡ x = cc in subst IsStampInRange
 all_at (y ∷ xs) (suc p) x all e = all_at xs p x (All-tail IsStampInRange y xs all) e
 
 -- loading an event's last word tells the event
+refused_small : (setting : Setting) (s : State) (t code : ℕ) (value : _) → Refuses setting s t code value → code < 256
+refused_small setting s t code value (not_owner is o a b c) = omega arith
+refused_small setting s t code value (heap_full is c a f b d) = omega arith
+refused_small setting s t code value (threads_full is a) = omega arith
+refused_small setting s t code value (input_end is a) = omega arith
+refused_small setting s t code value (bad_thread is u a b c) = omega arith
+
+-- the code of a refusal that the machine allows fits in its byte
+small_code : (setting : Setting) (old new : State) (x : Stamp) (value : _) → Step setting old x value new → HasSmallCode x
+small_code setting old new x value step code is =
+    let e : Effect setting old x.thread (Does (Fail code)) value new = subst (λ z. Effect setting old x.thread z value new) is step.effect in
+    refused_small setting old x.thread code value e.0
+
 pub loads_event : (key : Key) (slots id p : ℕ) (v : View) (c : List (ℕ × Slot)) → p < v.seen → MayWalk v p → table.Allows (Rule key) slots id (v, c) (cell_at (capacity key) p 4) (λ n. n) (SawEvent (capacity key) p v c)
 loads_event key slots id p v c below may s rule long here fits =
     let w = rule.0 in
@@ -239,5 +255,5 @@ loads_event key slots id p v c below may s rule long here fits =
       table.keeps,
       tt,
       loads_word key s id (cell_at (capacity key) p 4) u (w, reviews key w s id v u here (λ g o. o) H (fits_knows key b w id p (saw_cell v q) at.0 at.1 f)),
-      (at.0, all_at w.log p at.0 H.whole.positions.kept at.1, (λ r has same. (All-contains P (saw_cell v q).loaded r f.knowledge.loaded has).1 at.0 (ap (slice_get w.log) same ∙ at.1)), seen_within key w s id p v H here may, refl),
+      (at.0, all_at w.log p at.0 H.whole.positions.kept at.1, small_code key.setting (w.states p) (w.states (suc p)) at.0 (w.values p) (H.whole.machine.steps p at.0 at.1), (λ r has same. (All-contains P (saw_cell v q).loaded r f.knowledge.loaded has).1 at.0 (ap (slice_get w.log) same ∙ at.1)), seen_within key w s id p v H here may, refl),
     )

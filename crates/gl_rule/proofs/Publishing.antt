@@ -129,9 +129,6 @@ trims_push trims t es e not k = record {
   kept = λ low c. let q = k.kept low c in (q.0, at_kept es (e ∷ []) q.0 (Trim low) q.1);
 }
 
-shelf_is : (P : Shelf → Type 0) (s : Shelf) → P s → P (shelf s.thread s.marked)
-shelf_is P s p = p
-
 -- the one shelf of a view has one thread
 pub same_thread : (v : View) (a b : Shelf) → v.shelves ≡ a ∷ [] → v.shelves ≡ b ∷ [] → a.thread ≡ b.thread
 same_thread v a b e f = let same : a ∷ [] ≡ b ∷ [] = sym e ∙ f in head a b same

@@ -4,7 +4,6 @@ use Rattle.std.specs.Prelude.{ℤ, Contains, ◌⊎◌, Option}
 use Rattle.std.specs.List.{All}
 use Rattle.std.proofs.lemmas.List.{take-append-drop, length-take-le}
 use Rattle.std.proofs.lemmas.List.Elements.{All-contains}
-use native.Mathlib.Decide.{ℕ_discrete}
 use mathlib.Core.Option.{some}
 use lib.ListN.{get_elem?}
 use Rattle.atomic_table.specs.Table as table
@@ -23,7 +22,7 @@ use Rattle.gl_draws.specs.Resolved.{resolved}
 use Rattle.gl_draws.specs.RowFacts.{RowStands}
 use Rattle.gl_draws.specs.Ties.{Drawn, IsFor, IsInBlock, IsKept, in_list, in_flight, count_by}
 use Rattle.gl_draws.specs.Verdicts.{DrawsHold, IsRight, IsNamed, IsBehind, IsCommitWhat, BlockIs}
-use Rattle.gl_draws.proofs.DrawCounts.{count_own, count_other}
+use Rattle.gl_draws.proofs.Resolves.{count_resolved, length_resolved}
 use Rattle.gl_draws.proofs.DrawPlaces.{one_draw}
 use Rattle.gl_draws.proofs.EntryKinds.{contains-is_in}
 use Rattle.gl_draws.proofs.EventTies.{events_push}
@@ -54,7 +53,7 @@ use Rattle.gl_rule.specs.Rule.{Fits, Holds}
 use Rattle.gl_rule.proofs.Each.{each_set}
 use Rattle.gl_rule.proofs.HeldLists.{all_map, both_map, all_mapped, in_mapped, only_shelf, one_shelf}
 use Rattle.gl_rule.proofs.Committing.{held_open, still_none, still_some, cons_tail, the_then, the_else}
-use Rattle.gl_draws.proofs.Dropping.{AreDropped, drawn_dropped}
+use Rattle.gl_draws.proofs.EndedAttempts.{AreEnded, drawn_ended}
 use Rattle.gl_draws.proofs.Forming.{formed_push, counted_push, store_running}
 use Rattle.gl_rule.proofs.Frames.{machine_same, turns_kept}
 use Rattle.gl_rule.proofs.Marking.{placed_at}
@@ -128,25 +127,15 @@ module _ (key : Key) (w : World) (st : table.State Slot View) (id : ℕ) (v : Vi
     after_out : (y : ℕ) → is_in y zs ≡ false → after y ≡ w.draws y
     after_out y c = rw c refl
 
+    -- what stands last on each of the attempt's variables
+    heads : (y : ℕ) → is_in y zs ≡ true → (ds : List Draw) × (w.draws y ≡ draw s.thread p Open ∷ ds)
+    heads y c = let r = open_row y c in (r.0, r.1)
+
     same_count : (u y : ℕ) → count_by u (after y) ≡ count_by u (w.draws y)
-    same_count u y = by (is_in y zs) refl
-      where
-        by : (c : Bool) → is_in y zs ≡ c → count_by u (after y) ≡ count_by u (w.draws y)
-        by false c = ap (count_by u) (after_out y c)
-        by true c =
-            let r = open_row y c in
-            let a = after_in y c r.0 r.1 in
-            elim (ℕ_discrete s.thread u) [
-              | yes q ↦ ap (count_by u) a ∙ count_own u d r.0 q ∙ sym (ap (count_by u) r.1 ∙ count_own u (draw s.thread p Open) r.0 q)
-              | no ne ↦ ap (count_by u) a ∙ count_other u d r.0 ne ∙ sym (ap (count_by u) r.1 ∙ count_other u (draw s.thread p Open) r.0 ne)
-            ]
+    same_count u y = count_resolved w.draws s.thread p zs d refl heads u y
 
     same_length : (y : ℕ) → length (after y) ≡ length (w.draws y)
-    same_length y = by (is_in y zs) refl
-      where
-        by : (c : Bool) → is_in y zs ≡ c → length (after y) ≡ length (w.draws y)
-        by false c = ap length (after_out y c)
-        by true c = let r = open_row y c in ap length (after_in y c r.0 r.1) ∙ sym (ap length r.1)
+    same_length y = length_resolved w.draws s.thread p zs d refl heads y
 
     waits : (y k : ℕ) → Draws (Abort tx why) y k → (look : Option ℤ) × Contains v.drawn (record { var = y; nth = k; look = look })
     waits y k (inl l) = (Some l.0, (may.looks y k l.0).1 l.1)
@@ -159,7 +148,7 @@ module _ (key : Key) (w : World) (st : table.State Slot View) (id : ℕ) (v : Vi
         let same : f.0 ≡ g.0 = one_draw (w.draws y) k f.0 g.0 f.1 g.1 in
         still_some g.0.what value g.3 (sym (ap (λ (z : Draw). z.what) same) ∙ still_none f.0.what f.3)
 
-    are_dropped : AreDropped w.draws s.thread p zs w0 tx e s.marked v.drawn
+    are_dropped : AreEnded w.draws s.thread p p zs w0 tx e s.marked v.drawn
     are_dropped = record {
       heads = λ y c. let r = open_row y c in (r.0, r.1, number_of y r.0 r.1);
       looks = λ y k value c. let l = (may.looks y k value).0 c in (inl (value, l), B.looks y k value l (not_own y k value c));
@@ -173,7 +162,7 @@ module _ (key : Key) (w : World) (st : table.State Slot View) (id : ℕ) (v : Vi
 
     numbers_own : ShelfDraws after [] (shelf s.thread (s.marked ++ e ∷ []))
     numbers_own = record {
-      numbers = drawn_dropped w.draws s.thread p zs w0 tx e s.marked v.drawn draws.numbers are_dropped;
+      numbers = drawn_ended w.draws s.thread p p zs w0 tx e s.marked v.drawn draws.numbers are_dropped;
       few = λ y. let a = draws.few y in let t = draws.two y in let q = same_count s.thread y in let g = counted_push s.marked e (λ z. z) in omega arith;
       two = λ y. omega arith;
       above = λ y n i j g o at dr has. absurd (let l = has.1 in omega arith);
@@ -381,14 +370,14 @@ module _ (key : Key) (w : World) (st : table.State Slot View) (id : ℕ) (v : Vi
                   shelves = both_map (ShelfFits w.log w.seat j) (ShelfDraws w.draws o.drawn) (ShelfDraws after o.drawn) o.shelves
                       (λ r q k.
                       let apart : r.thread ≢ s.thread = λ z. away (sym q.here ∙ ap w.seat z ∙ fits.here) in
-                      record { numbers = Rattle.gl_draws.proofs.DroppingForeign.foreign w.draws s.thread p zs w0 (λ y c. let a = open_row y c in (a.0, a.1)) r.thread r.marked o.drawn apart k.numbers; few = λ y. let a = k.few y in let g = same_count r.thread y in omega arith; two = k.two; above = k.above; runs = k.runs })
+                      record { numbers = Rattle.gl_draws.proofs.EndedAttempts.foreign w.draws s.thread p p zs w0 (λ y c. let a = open_row y c in (a.0, a.1)) r.thread r.marked o.drawn apart k.numbers; few = λ y. let a = k.few y in let g = same_count r.thread y in omega arith; two = k.two; above = k.above; runs = k.runs })
                       f.positions.shelves f.numbers.shelves;
                 };
                 knowledge = f.knowledge;
                 ring = f.ring;
                 quiet = f.quiet;
                 owed = owed_others w.draws after o.owed o.shelves (λ x q. write_same x) (λ x q calm. calm_same x calm)
-                    (λ r c x k g at own. let q : ShelfFits w.log w.seat j r = All-contains (ShelfFits w.log w.seat j) o.shelves r f.positions.shelves c in Rattle.gl_draws.proofs.DroppingForeign.foreign_back w.draws s.thread p zs w0 (λ y c. let a = open_row y c in (a.0, a.1)) r.thread x k g (λ z. away (sym q.here ∙ ap w.seat z ∙ fits.here)) own at)
+                    (λ r c x k g at own. let q : ShelfFits w.log w.seat j r = All-contains (ShelfFits w.log w.seat j) o.shelves r f.positions.shelves c in Rattle.gl_draws.proofs.EndedAttempts.foreign_back w.draws s.thread p p zs w0 (λ y c. let a = open_row y c in (a.0, a.1)) r.thread x k g (λ z. away (sym q.here ∙ ap w.seat z ∙ fits.here)) own at)
                     f.owed;
                 carries = f.carries;
                 refusals = record {

@@ -1,5 +1,5 @@
 -- What is said of a table whose passes are done.
-use Rattle.std.specs.Prelude.{◌≡◌, ◌⊎◌, ℕ, ◌+◌, ◌*◌, ◌<◌, ◌≤◌, List, [], length, Contains}
+use Rattle.std.specs.Prelude.{◌≡◌, ◌⊎◌, ℕ, ◌+◌, ◌-◌, ◌*◌, ◌/◌, ◌<◌, ◌≤◌, List, [], length, Contains}
 use mathlib.Core.Option.{some}
 use lib.ListN.{get_elem?}
 use Rattle.atomic_table.specs.Table as table
@@ -41,3 +41,9 @@ abbrev pub ClosedIsTrimmed : Type 0
 ClosedIsTrimmed =
     (key : Key) (s : table.State Slot View) (id : ℕ) (v : View) → Rule key s → get_elem? s.views id ≡ some v → HasAll v →
     (h : List Stamp) × IsEventList h (lists_in v.shelves) × AreTrims key.cells key.segments (lists_in v.shelves) (length h)
+
+-- by segments: the greatest low is at most the segment of the tail, and with the ring's segments it is above that of the last event
+abbrev pub TrimsBySegments : Type 0
+TrimsBySegments =
+    (cells segments : ℕ) (R : Lists) (events : ℕ) → 0 < cells → (t : AreTrims cells segments R events) →
+    (t.greatest ≤ events / cells) × (0 < events → (events - 1) / cells < t.greatest + segments)

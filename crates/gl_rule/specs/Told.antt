@@ -11,7 +11,7 @@ use Rattle.gl_model.specs.Machine.{Setting}
 use Rattle.gl_draws.specs.RowFacts.{IsWithin}
 use Rattle.gl_rule.specs.declared.slot.Slot.TheVariants as slot
 use Rattle.gl_rule.specs.Taken.{TakenTold}
-use Rattle.gl_rule.specs.Cells.{packed}
+use Rattle.gl_rule.specs.Cells.{packed, HasSmallCode}
 use Rattle.gl_model.specs.Elements.{IsStampInRange}
 use Rattle.gl_rule.specs.declared.slot.Slot.{Slot}
 use Rattle.gl_model.specs.Entries.{Entry, Plain, Sync}
@@ -47,7 +47,7 @@ SawCell cap p i v c n w = (v.seen ≤ p + cap) × (w ≡ (saw_cell v (record { p
 -- the last word of the event at p: the event, with all words of it that were loaded
 abbrev pub SawEvent : ℕ → ℕ → View → List (ℕ × Slot) → ℕ → Seat → Type 0
 SawEvent cap p v c n w =
-    (x : Stamp) × IsStampInRange x × ((q : CellWord) → Contains (saw_cell v (record { position = p; index = 4; word = n })).loaded q → q.position ≡ p → q.word ≡ slice_index (packed x) q.index) × (v.seen ≤ p + cap)
+    (x : Stamp) × IsStampInRange x × HasSmallCode x × ((q : CellWord) → Contains (saw_cell v (record { position = p; index = 4; word = n })).loaded q → q.position ≡ p → q.word ≡ slice_index (packed x) q.index) × (v.seen ≤ p + cap)
     × (w ≡ (knows (saw_cell v (record { position = p; index = 4; word = n })) p x, c))
 
 -- an event was published: the entry, the stamp and the list's new state

@@ -2,7 +2,7 @@
 #![tactic(auto)]
 
 ghost use Rattle.gl_rule.specs.Agreeing.{KnownEventsAgree, KnownSetsAgree, KnownTestsAgree, OwnPlainStands, OwnCommitStands};
-ghost use Rattle.gl_rule.specs.Laws.{ClosedIsLawful, ClosedIsTrimmed};
+ghost use Rattle.gl_rule.specs.Laws.{ClosedIsLawful, ClosedIsTrimmed, TrimsBySegments};
 ghost use Rattle.gl_rule.specs.Safe.{TablesAreSafe, OverwritesUnnamed};
 ghost use Rattle.gl_rule.specs.Steps.{TakesTurn, LeavesTurn, WritesBack, LoadsTail, LoadsHold, LoadsFloor, LoadsStop, LoadsCell, LoadsEvent, StoresWord, SetsStop, RaisesHold, RaisesLow, PublishesAct, PublishesCommit, MarksPlain, MarksOpen, RecordsAdded, Begins, EntersSeat, SplitsSeat, JoinsSeats};
 
@@ -76,4 +76,5 @@ pub fn tables_are_safe()
 pub fn closed_tables_are_lawful()
     ensures lawful { ClosedIsLawful }
     ensures trims { ClosedIsTrimmed }
+    ensures segments { TrimsBySegments }
 {}

@@ -6,6 +6,7 @@ use Rattle.std.specs.Io.KnownBytes.{Consumes}
 use Rattle.std.proofs.KnownBytes.{Appends-nil}
 use Rattle.gl_asm.specs.declared.limits.TheConstants.{LONGEST}
 use Rattle.gl_asm.specs.Texts.{text_read}
+use Rattle.gl_asm.specs.Unbuilt.{read_to_run}
 use Rattle.gl_text.specs.declared.kinds.TheConstants.{TOO_LONG}
 use Rattle.gl_io.specs.Whole.{IsTaken}
 use Rattle.gl_run.specs.Replies.{RepliesTo}
@@ -22,10 +23,15 @@ read_longer : (text : List ℕ) → LONGEST < length text → text_read text ≡
 unfolding text_read
 read_longer text long = let over : nat_lt LONGEST (length text) ≡ true = lt-ltb LONGEST (length text) long in rw over refl
 
+-- so for `run`
+read_longer_to_run : (text : List ℕ) → LONGEST < length text → read_to_run text ≡ Err (0, TOO_LONG)
+unfolding read_to_run
+read_longer_to_run text long = let over : nat_lt LONGEST (length text) ≡ true = lt-ltb LONGEST (length text) long in rw over refl
+
 refused_longer : (keep : Keep) (command : Command) (input : List ℕ) → most_of command < length input → AnswersText keep command input 4 (refusal 0 TOO_LONG) None
 refused_longer keep commands.Check input long = inr (record { line = 0; kind = TOO_LONG; fault = inl (long, refl, refl); status_is = refl; bytes_are = refl; kept_is = refl })
 refused_longer keep commands.List input long = inr (record { line = 0; kind = TOO_LONG; fault = inl (read_longer input long); status_is = refl; bytes_are = refl; kept_is = refl })
-refused_longer keep (commands.Run steps) input long = inr (record { line = 0; kind = TOO_LONG; fault = inl (read_longer input long); status_is = refl; bytes_are = refl; kept_is = refl })
+refused_longer keep (commands.Run steps) input long = inr (record { line = 0; kind = TOO_LONG; fault = inl (read_longer_to_run input long); status_is = refl; bytes_are = refl; kept_is = refl })
 
 pub longer : {E : Type 0} (command : Command) (r : Result Page E) → IfOk r (λ p. p.status ≡ 4) → IfOk r (λ p. p.text.items ≡ refusal 0 TOO_LONG) → IfOk r (λ p. p.kept ≡ None)
     → IfOk r (λ p. AnswersLonger command p.status p.text.items p.kept)

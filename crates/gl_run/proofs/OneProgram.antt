@@ -3,13 +3,14 @@ use Rattle.std.proofs.Common.{◌≡◌, ℕ, ℤ, List, Option, None, Some, ap,
 use Rattle.std.specs.Prelude.{unwrap_or}
 use Rattle.gl_asm.specs.Listing.{listing}
 use Rattle.gl_asm.specs.Texts.{IsText, IsFirstFault}
+use Rattle.gl_asm.specs.Unbuilt.{IsTextToRun, IsFirstFaultToRun}
 use Rattle.gl_bytecode.specs.Programs.{Bytecode, Draft, draft_of}
 use Rattle.gl_model.specs.Entries.{Entry}
 use Rattle.gl_model.specs.Report.{report_of}
 use Rattle.gl_run.specs.Laws.{ChecksAreOne, ListingsAreApart, ListingsAreOne, RepliesAreOne, RepliesAreTold, RunsAreApart, RunsAreLawful, RunsAreTold, IsKeptRun, IsOneAnswer, IsToldByKept}
-use Rattle.gl_run.specs.Listed.{AcceptsProgram, RefusesProgram}
+use Rattle.gl_run.specs.Listed.{AcceptsProgram, Refuses}
 use Rattle.gl_run.specs.Output.{refusal}
-use Rattle.gl_run.specs.Runs.{AcceptsRun, run_status}
+use Rattle.gl_run.specs.Runs.{AcceptsRun, RefusesRun, run_status}
 use Rattle.gl_run.specs.Texts.{AnswersText}
 use Rattle.gl_run.specs.Words.{run_part}
 use Rattle.gl_run.specs.declared.keep.Keep.{Keep}
@@ -29,22 +30,21 @@ same_program P Q same = ap (program_of P) same
 same_kept : (made other : List (ℕ × List Entry)) (kept : Option Kept) → kept ≡ Some (Trace made) → kept ≡ Some (Trace other) → made ≡ other
 same_kept made other kept one two = cc
 
+-- what is refused for one fault has one answer
+refused_once : (IsFault : ℕ → ℕ → Type 0) → ((a b j k : ℕ) → IsFault a j → IsFault b k → (a ≡ b) × (j ≡ k))
+    → (s t : ℕ) (a b : List ℕ) (j k : Option Kept) → Refuses IsFault s a j → Refuses IsFault t b k → (s ≡ t) × (a ≡ b) × (j ≡ k)
+refused_once IsFault faults s t a b j k one two =
+    let same = faults one.line two.line one.kind two.kind one.fault two.fault in (
+      one.status_is ∙ sym two.status_is,
+      one.bytes_are ∙ ap (λ n. refusal n one.kind) same.0 ∙ ap (refusal two.line) same.1 ∙ sym two.bytes_are,
+      one.kept_is ∙ sym two.kept_is,
+    )
+
 module _ (apart : (text : List ℕ) (program : Bytecode) (inputs : List ℤ) (line kind : ℕ) → IsText text program inputs → IsFirstFault text line kind → ⊥)
     (faults : (text : List ℕ) (a b j k : ℕ) → IsFirstFault text a j → IsFirstFault text b k → (a ≡ b) × (j ≡ k))
     (texts : (text : List ℕ) (P Q : Bytecode) (xs ys : List ℤ) → IsText text P xs → IsText text Q ys → (draft_of P ≡ draft_of Q) × (xs ≡ ys)) where
-  refused_same : (input : List ℕ) (s t : ℕ) (a b : List ℕ) (j k : Option Kept) → RefusesProgram input s a j → RefusesProgram input t b k → (s ≡ t) × (a ≡ b) × (j ≡ k)
-  refused_same input s t a b j k one two =
-      let same = faults input one.line two.line one.kind two.kind one.fault two.fault in (
-        one.status_is ∙ sym two.status_is,
-        one.bytes_are ∙ ap (λ n. refusal n one.kind) same.0 ∙ ap (refusal two.line) same.1 ∙ sym two.bytes_are,
-        one.kept_is ∙ sym two.kept_is,
-      )
-
   pub listings_apart : ListingsAreApart
   listings_apart input s t a b j k one two = apart input one.program one.inputs two.line two.kind one.meaning two.fault
-
-  pub runs_apart : RunsAreApart
-  runs_apart steps input s t a b j k one two = apart input one.program one.inputs two.line two.kind one.meaning two.fault
 
   listed_same : (input : List ℕ) (s t : ℕ) (a b : List ℕ) (j k : Option Kept) → AcceptsProgram input s a j → AcceptsProgram input t b k → (s ≡ t) × (a ≡ b) × (j ≡ k)
   listed_same input s t a b j k one two =
@@ -55,8 +55,13 @@ module _ (apart : (text : List ℕ) (program : Bytecode) (inputs : List ℤ) (li
   listings_one input s t a b j k one two =
       elim one [
         | inl x ↦ elim two [ inl y ↦ listed_same input s t a b j k x y | inr y ↦ absurd (listings_apart input s t a b j k x y) ]
-        | inr x ↦ elim two [ inl y ↦ absurd (listings_apart input t s b a k j y x) | inr y ↦ refused_same input s t a b j k x y ]
+        | inr x ↦ elim two [ inl y ↦ absurd (listings_apart input t s b a k j y x) | inr y ↦ refused_once (IsFirstFault input) (faults input) s t a b j k x y ]
       ]
+
+module _ (apart : (text : List ℕ) (program : Bytecode) (inputs : List ℤ) (line kind : ℕ) → IsTextToRun text program inputs → IsFirstFaultToRun text line kind → ⊥)
+    (faults : (text : List ℕ) (a b j k : ℕ) → IsFirstFaultToRun text a j → IsFirstFaultToRun text b k → (a ≡ b) × (j ≡ k)) where
+  pub runs_apart : RunsAreApart
+  runs_apart steps input s t a b j k one two = apart input one.program one.inputs two.line two.kind one.meaning two.fault
 
   ran_same : (steps : ℕ) (input : List ℕ) (s t : ℕ) (a b : List ℕ) (kept : Option Kept) → AcceptsRun steps input s a kept → AcceptsRun steps input t b kept → (s ≡ t) × (a ≡ b)
   ran_same steps input s t a b kept one two =
@@ -72,11 +77,11 @@ module _ (apart : (text : List ℕ) (program : Bytecode) (inputs : List ℤ) (li
         | inr x ↦
             elim two [
               | inl y ↦ absurd (runs_apart steps input t s b a kept kept y x)
-              | inr y ↦ let same = refused_same input s t a b kept kept x y in (same.0, same.1)
+              | inr y ↦ let same = refused_once (IsFirstFaultToRun input) (faults input) s t a b kept kept x y in (same.0, same.1)
             ]
       ]
 
-refused_none : (made : List (ℕ × List Entry)) (input : List ℕ) (s : ℕ) (a : List ℕ) → RefusesProgram input s a (Some (Trace made)) → ⊥
+refused_none : (made : List (ℕ × List Entry)) (input : List ℕ) (s : ℕ) (a : List ℕ) → RefusesRun input s a (Some (Trace made)) → ⊥
 refused_none made input s a refused = let none = refused.kept_is in cc
 
 some_made : (made other : List (ℕ × List Entry)) → Some (Trace made) ≡ Some (Trace other) → other ≡ made

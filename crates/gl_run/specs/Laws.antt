@@ -1,6 +1,6 @@
 -- That an answer is settled: by the words and the input, or by the record that is kept of a run.
 use Rattle.std.specs.Prelude.{◌≡◌, ℕ, ℤ, List, Option, Some, None}
-use Rattle.gl_asm.specs.Texts.{IsText}
+use Rattle.gl_asm.specs.Unbuilt.{IsTextToRun}
 use Rattle.gl_bytecode.specs.Lawful.{Lawful}
 use Rattle.gl_bytecode.specs.Programs.{Bytecode}
 use Rattle.gl_model.specs.Entries.{Entry}
@@ -10,7 +10,7 @@ use Rattle.gl_model.specs.Report.{report_of}
 use Rattle.gl_run.specs.Check.{AcceptsTrace, ChecksText, RefusesTrace}
 use Rattle.gl_run.specs.Command.{Replies}
 use Rattle.gl_run.specs.Listed.{AcceptsProgram, ListsText, RefusesProgram}
-use Rattle.gl_run.specs.Runs.{AcceptsRun, RunsText, run_status}
+use Rattle.gl_run.specs.Runs.{AcceptsRun, RefusesRun, RunsText, run_status}
 use Rattle.gl_run.specs.Words.{run_part}
 use Rattle.gl_run.specs.declared.keep.Keep.{Keep}
 use Rattle.gl_run.specs.declared.kept.Kept.{Kept}
@@ -45,13 +45,13 @@ abbrev pub RunsAreTold : Type 0
 RunsAreTold = (steps : ℕ) (input : List ℕ) → IsToldByKept (RunsText steps input)
 
 abbrev pub RunsAreApart : Type 0
-RunsAreApart = (steps : ℕ) (input : List ℕ) (s t : ℕ) (a b : List ℕ) (j k : Option Kept) → AcceptsRun steps input s a j → RefusesProgram input t b k → ⊥
+RunsAreApart = (steps : ℕ) (input : List ℕ) (s t : ℕ) (a b : List ℕ) (j k : Option Kept) → AcceptsRun steps input s a j → RefusesRun input t b k → ⊥
 
 -- what is kept of a run is a record, and lawful for the program and the inputs that the text says; the status and the bytes are read off it
 pub record IsKeptRun (steps : ℕ) (input : List ℕ) (status : ℕ) (bytes : List ℕ) (made : List (ℕ × List Entry)) : Type 0 where
   pub program : Bytecode
   pub inputs : List ℤ
-  pub meaning : IsText input program inputs
+  pub meaning : IsTextToRun input program inputs
   pub is : IsRecord made
   pub lawful : Lawful program inputs steps (lists_of made)
   pub status_is : status ≡ run_status made

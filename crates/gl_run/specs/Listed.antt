@@ -16,14 +16,18 @@ pub record AcceptsProgram (input : List ℕ) (status : ℕ) (bytes : List ℕ) (
   pub again : IsText bytes program []
   pub kept_is : kept ≡ None
 
--- the status and the bytes for a text that is none
-pub record RefusesProgram (input : List ℕ) (status : ℕ) (bytes : List ℕ) (kept : Option Kept) : Type 0 where
+-- the status and the bytes for a text that is refused for this fault
+pub record Refuses (IsFault : ℕ → ℕ → Type 0) (status : ℕ) (bytes : List ℕ) (kept : Option Kept) : Type 0 where
   pub line : ℕ
   pub kind : ℕ
-  pub fault : IsFirstFault input line kind
+  pub fault : IsFault line kind
   pub status_is : status ≡ 4
   pub bytes_are : bytes ≡ refusal line kind
   pub kept_is : kept ≡ None
+
+-- the status and the bytes for a text that is none
+abbrev pub RefusesProgram : List ℕ → ℕ → List ℕ → Option Kept → Type 0
+RefusesProgram input status bytes kept = Refuses (IsFirstFault input) status bytes kept
 
 -- what a text is answered
 abbrev pub ListsText : List ℕ → ℕ → List ℕ → Option Kept → Type 0

@@ -1,7 +1,7 @@
 -- What `run` answers.
 use Rattle.std.specs.Prelude.{◌≡◌, ◌⊎◌, ℕ, ℤ, List, Bool, true, false, Option, Some, if◌then◌else◌}
 use Rattle.std.specs.List.{list_any}
-use Rattle.gl_asm.specs.Texts.{IsText}
+use Rattle.gl_asm.specs.Unbuilt.{IsFirstFaultToRun, IsTextToRun}
 use Rattle.gl_bytecode.specs.Lawful.{Lawful}
 use Rattle.gl_bytecode.specs.Programs.{Bytecode}
 use Rattle.gl_model.specs.Entries.{Entry, Sync, Commit, Plain, Abort, Trim, Over}
@@ -10,7 +10,7 @@ use Rattle.gl_model.specs.Lists.{lists_of}
 use Rattle.gl_model.specs.Report.{all_entries, report_of}
 use Rattle.gl_model.specs.declared.record.Ending.TheVariants.{Halt, Uncaught, Spent}
 use Rattle.gl_single.specs.Lines.{is_raised}
-use Rattle.gl_run.specs.Listed.{RefusesProgram}
+use Rattle.gl_run.specs.Listed.{Refuses}
 use Rattle.gl_run.specs.declared.kept.Kept.{Kept}
 use Rattle.gl_run.specs.declared.kept.Kept.TheVariants.{Trace}
 
@@ -41,13 +41,17 @@ pub record AnswersRun (program : Bytecode) (inputs : List ℤ) (steps status : �
   pub bytes_are : bytes ≡ report_of made
   pub kept_is : kept ≡ Some (Trace made)
 
--- the same for a text that is a program
+-- the same for a text that is a program which `run` does
 pub record AcceptsRun (steps : ℕ) (input : List ℕ) (status : ℕ) (bytes : List ℕ) (kept : Option Kept) : Type 0 where
   pub program : Bytecode
   pub inputs : List ℤ
-  pub meaning : IsText input program inputs
+  pub meaning : IsTextToRun input program inputs
   pub answer : AnswersRun program inputs steps status bytes kept
+
+-- the status and the bytes for a text that is none
+abbrev pub RefusesRun : List ℕ → ℕ → List ℕ → Option Kept → Type 0
+RefusesRun input status bytes kept = Refuses (IsFirstFaultToRun input) status bytes kept
 
 -- what a text is answered
 abbrev pub RunsText : ℕ → List ℕ → ℕ → List ℕ → Option Kept → Type 0
-RunsText steps input status bytes kept = AcceptsRun steps input status bytes kept ⊎ RefusesProgram input status bytes kept
+RunsText steps input status bytes kept = AcceptsRun steps input status bytes kept ⊎ RefusesRun input status bytes kept

@@ -21,6 +21,7 @@ pub fn programs_are_settled()
     ensures lawful { RunsAreLawful }
 {
     gl_asm::one_meaning();
+    gl_asm::one_meaning_to_run();
 }
 
 /// Words that run no program have one answer for each input: one status, one text, and one record that is kept. Whatever the words

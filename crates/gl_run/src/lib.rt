@@ -9,12 +9,14 @@ mod listed;
 mod output;
 mod page;
 mod run;
+mod stated;
 mod top;
 mod verdicts;
 mod words;
 
 pub use kept::Kept;
 pub use laws::{answers_are_settled, checks_are_settled, programs_are_settled};
+pub use stated::limits_are_stated;
 pub use top::{Answer, goldi, goldi_run, goldi_text, goldi_without_trace};
 
 #[cfg(test)]

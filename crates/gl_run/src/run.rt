@@ -9,7 +9,7 @@ ghost use Rattle.gl_run.specs.Runs.{AnswersRun, RunsText, entries_status, is_unh
 
 use crate::kept::Kept;
 use crate::page::{Page, refused};
-use gl_asm::assemble;
+use gl_asm::assemble_to_run;
 use gl_bytecode::Program;
 use gl_model::{Ending, Entry, Inputs, Record};
 use gl_single::{entries_of, is_raised, report, run_alone};
@@ -82,7 +82,7 @@ pub fn run(alloc: Global, input: &[u8], steps: u32) -> Result<Page, AllocError>
     ensures answer { IfOk result (λ p. RunsText steps input.now p.status p.text.items p.kept) }
     ensures status { IfOk result (λ p. IsVerdict p.status) }
 {
-    match assemble(alloc, input) {
+    match assemble_to_run(alloc, input) {
         Ok(assembled) => ran(alloc, &assembled.program, &assembled.inputs, steps),
         Err(TextError::Fault(fault)) => refused(alloc, fault.line, fault.kind),
         Err(TextError::Memory(error)) => Err(error),

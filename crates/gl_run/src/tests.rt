@@ -251,3 +251,79 @@ fn adapters(rt: HostRuntime) -> Result<(), Fail> {
     assert_eq!(rt; answer.status, 3);
     Ok(())
 }
+
+// A writer that takes one byte a call. What it was given goes on to what stands behind it at a flush, which can fail.
+#[derive(Drop)]
+struct Narrow {
+    given: Vec<u8>,
+    behind: Vec<u8>,
+    fails: bool,
+}
+
+impl Narrow {
+    fn new(alloc: Global, fails: bool) -> Narrow {
+        Narrow {
+            given: Vec::new(alloc),
+            behind: Vec::new(alloc),
+            fails,
+        }
+    }
+}
+
+impl io::Write for Narrow {
+    fn write(&mut self, buf: &[u8]) -> io::Result<usize> {
+        match buf.first() {
+            Some(byte) => match self.given.push(*byte) {
+                Ok(()) => Ok(1),
+                Err(_) => Err(io::Error::from(io::ErrorKind::OutOfMemory)),
+            },
+            None => Ok(0),
+        }
+    }
+
+    fn flush(&mut self) -> io::Result<()> {
+        if self.fails {
+            return Err(io::Error::from(io::ErrorKind::Other));
+        }
+        match self.behind.extend_from_slice(&self.given) {
+            Ok(()) => {
+                self.given.clear();
+                Ok(())
+            }
+            Err(_) => Err(io::Error::from(io::ErrorKind::OutOfMemory)),
+        }
+    }
+}
+
+// What stands behind a writer has all bytes where each flush is good, and none where the first fails. `goldi_run` serves a run.
+#[test]
+fn narrow_writers(rt: HostRuntime) -> Result<(), Fail> {
+    let alloc = rt.alloc();
+    let words = words(alloc, &["goldi", "run"])?;
+    let program = "func main 0 0\n  push 5\n  print\n  halt\n".as_bytes();
+    let mut writer = Narrow::new(alloc, false);
+    let answer = goldi_run(
+        alloc,
+        &words,
+        &mut ReaderSource::new(program),
+        &mut WriterSink::new(&mut writer),
+        &Cuts::none(),
+    );
+    assert_eq!(rt; answer.status, 0);
+    assert_eq!(rt; answer.kept.is_some(), true);
+    assert_eq!(rt;
+        &writer.behind[..],
+        "out 5\nend 0 halt\nraces 0\n".as_bytes()
+    );
+    let mut writer = Narrow::new(alloc, true);
+    let answer = goldi_run(
+        alloc,
+        &words,
+        &mut ReaderSource::new(program),
+        &mut WriterSink::new(&mut writer),
+        &Cuts::none(),
+    );
+    assert_eq!(rt; answer.status, 3);
+    assert_eq!(rt; writer.behind.len(), 0);
+    Ok(())
+}

@@ -1,13 +1,13 @@
 -- What each call owes for its step.
-use Rattle.std.proofs.Common.{◌≡◌, ℕ, suc, max, ◌+◌, ◌*◌, ◌^◌, ◌%◌, ◌<◌, ◌≤◌, ◌==◌, List, [], ◌∷◌, length, sym, refl, subst, arith}
-use Rattle.std.specs.Prelude.{ℤ, Bool, Contains}
+use Rattle.std.proofs.Common.{◌≡◌, ℕ, suc, max, ◌+◌, ◌*◌, ◌^◌, ◌%◌, ◌<◌, ◌≤◌, ◌==◌, List, [], ◌∷◌, length, sym, refl, subst, arith, ◌∙◌}
+use Rattle.std.specs.Prelude.{pos, ℤ, Bool, false, Option, Contains}
 use prog.Atomic.{either}
 use Rattle.atomic_table.specs.Table as table
 use Rattle.gl_model.specs.declared.event.Act.{Act}
 use Rattle.gl_model.specs.declared.event.Event.TheVariants.{Act as Does}
 use Rattle.gl_model.specs.declared.row.Row.{Row}
 use Rattle.gl_model.specs.declared.row.Question.{Question}
-use Rattle.gl_model.specs.Entries.{Entry, Sync}
+use Rattle.gl_model.specs.Entries.{Entry, Commit, Sync}
 use Rattle.gl_model.specs.Machine.{Setting}
 use Rattle.gl_rule.specs.declared.slot.Slot.{Slot}
 use Rattle.gl_rule.specs.declared.slot.Slot.TheVariants as slot
@@ -15,17 +15,23 @@ use Rattle.gl_table.specs.CaughtUp.{caught_up}
 use Rattle.gl_table.specs.PassInside.{IsReady}
 use Rattle.gl_state.specs.ListView.{ListView}
 use Rattle.gl_rule.specs.Objects.{Key, objects, capacity, cell_at}
-use Rattle.gl_rule.specs.View.{View, Held, Shelf, shelf, Hold}
-use Rattle.gl_rule.specs.Fitting.{MayPublish, MayMark, MayStoreWord, MayRaise, MayTrim}
+use Rattle.gl_rule.specs.View.{View, Held, Shelf, shelf, Hold, Stop}
+use Rattle.gl_rule.specs.Fitting.{MayPublish, MayMark, MayOpen, MayWalk, MayStoreWord, MayRaise, MayTrim}
 use Rattle.gl_table.specs.Putting.{MayPutBack}
 use Rattle.gl_rule.specs.Rule.{Rule}
 use Rattle.gl_table.specs.Says.{EventSaid, MarkSaid}
-use Rattle.gl_rule.specs.Told.{Took, Left, SawTail, Saw, PutWord, PublishedAct, Marked, SawFloor, Raised, Lowered}
+use Rattle.gl_rule.specs.Told.{Took, Left, SawTail, Saw, PutWord, PublishedAct, Marked, Opened, SawCell, SawEvent, SawFloor, Raised, Lowered}
+use Rattle.gl_table.specs.Told.{Kept, PaidLeft, PublishedTx}
+use Rattle.gl_table.specs.Committing.{commit_stamp}
+use Rattle.gl_model.specs.declared.tx.Tx.{Tx}
+use Rattle.gl_rule.proofs.Committing.{publishes_commit}
 use Rattle.gl_rule.proofs.Aborting.{record_first}
 use Rattle.gl_rule.proofs.Acting.{publishes_act}
-use Rattle.gl_rule.proofs.Loading.{loads_tail, loads_hold}
-use Rattle.gl_rule.proofs.Marking.{marks_plain}
-use Rattle.gl_rule.proofs.Storing.{puts_word}
+use Rattle.gl_rule.proofs.Loading.{loads_tail, loads_hold, loads_stop, loads_cell, loads_event}
+use Rattle.gl_rule.proofs.Marking.{marks_plain, marks_open}
+use Rattle.gl_rule.proofs.Paying.{writes_back}
+use Rattle.gl_rule.specs.Commits.{MayCommit, MayPay, paid}
+use Rattle.gl_rule.proofs.Storing.{puts_word, sets_stop}
 use Rattle.gl_rule.proofs.Raising.{raises_hold, loads_floor}
 use Rattle.gl_rule.proofs.Lowering.{raises_low}
 use Rattle.gl_rule.proofs.Turning.{takes_turn, leaves_turn}
@@ -54,6 +60,12 @@ module _ (key : Key) (slots id : ℕ) (me : table.Me Slot View) (t : ℕ) (es : 
 
   pub may_hold : (k y : ℕ) → y ≡ k → k < objects → table.Allows (Rule key) slots id me (3 * k + 2) (λ n. n) (λ n. Saw (Hold y n) u me.1)
   may_hold k y is near = subst (λ z. table.Allows (Rule key) slots id me (3 * k + 2) (λ n. n) (λ n. Saw (Hold z n) u me.1)) (sym is) (as_told (3 * k + 2) (λ n. n) (λ z n. Saw (Hold k n) z me.1) (loads_hold key slots id k (caught_up me.0 t es) me.1 near))
+
+  pub may_set : table.Allows (Rule key) slots id me 3075 (λ _. 1) (λ _. Kept u me.1)
+  may_set = as_told 3075 (λ _. 1) (λ z _. Kept z me.1) (sets_stop key slots id 1 (caught_up me.0 t es) me.1)
+
+  pub may_stop : table.Allows (Rule key) slots id me 3075 (λ n. n) (λ n. Saw (Stop n) u me.1)
+  may_stop = as_told 3075 (λ n. n) (λ z n. Saw (Stop n) z me.1) (loads_stop key slots id (caught_up me.0 t es) me.1)
 
   pub may_put : (cell i n : ℕ) → (h : Held) × (tail : ℕ) × MayStoreWord key (caught_up me.0 t es) h tail × (cell ≡ tail % capacity key) → i ≡ length (caught_up me.0 t es).stored → table.Allows (Rule key) slots id me (3076 + 5 * cell + i) (λ _. n) (λ _. PutWord n u me.1)
   may_put cell i n (h, tail, may, here) next =
@@ -98,3 +110,59 @@ module _ (key : Key) (slots id : ℕ) (me : table.Me Slot View) (t : ℕ) (es : 
       subst (λ q. table.Allows (Rule key) slots id me 2 (λ n. max n to) (Lowered q y u me.1)) (sym is)
       (subst (λ q. table.Allows (Rule key) slots id me 2 (λ n. max n to) (Lowered (shelf t es) q u me.1)) (sym same)
       (as_told 2 (λ n. max n to) (λ z. Lowered (shelf t es) to z me.1) (raises_low key slots id to (caught_up me.0 t es) me.1 (shelf t es) refl may)))
+
+  pub may_open : (a b : Shelf) (h g : Held) (x y p q : ℕ) (look o : Option ℤ) → b ≡ a → a ≡ shelf t es → q ≡ p → y ≡ x → g ≡ h → o ≡ look → (taken : Row) × MayOpen (shelf t es) (caught_up me.0 t es) h x taken p look
+      → table.Allows (Rule key) slots id me (3 * (x + 1)) (λ n. (n + 1) % 2 ^ 64) (Opened b g y q o u me.1)
+  may_open a b h g x y p q look o is own block same held word may =
+      let object : h.object ≡ x + 1 = (let e = may.1.draws.object in omega arith) in
+      subst (λ z. table.Allows (Rule key) slots id me (3 * (x + 1)) (λ n. (n + 1) % 2 ^ 64) (Opened z g y q o u me.1)) (sym (is ∙ own))
+      (subst (λ z. table.Allows (Rule key) slots id me (3 * (x + 1)) (λ n. (n + 1) % 2 ^ 64) (Opened (shelf t es) z y q o u me.1)) (sym held)
+      (subst (λ z. table.Allows (Rule key) slots id me (3 * (x + 1)) (λ n. (n + 1) % 2 ^ 64) (Opened (shelf t es) h z q o u me.1)) (sym same)
+      (subst (λ z. table.Allows (Rule key) slots id me (3 * (x + 1)) (λ n. (n + 1) % 2 ^ 64) (Opened (shelf t es) h x z o u me.1)) (sym block)
+      (subst (λ z. table.Allows (Rule key) slots id me (3 * (x + 1)) (λ n. (n + 1) % 2 ^ 64) (Opened (shelf t es) h x p z u me.1)) (sym word)
+      (subst (λ z. table.Allows (Rule key) slots id me (3 * z) (λ n. (n + 1) % 2 ^ 64) (Opened (shelf t es) h x p look u me.1)) object
+      (as_told (3 * h.object) (λ n. (n + 1) % 2 ^ 64) (λ z. Opened (shelf t es) h x p look z me.1) (marks_open key slots id (caught_up me.0 t es) me.1 (shelf t es) h x may.0 p look refl may.1)))))))
+
+  pub may_pay : (x y : ℕ) (h g : Held) (row : Row) (z : Slot) (c : List (ℕ × Slot)) → y ≡ x → g ≡ h → z ≡ slot.Row row → objects ≤ slots → me.1 ≡ (x + 1, slot.Row row) ∷ c
+      → (taken : Row) × (value : ℤ) × MayPay (caught_up me.0 t es) h x taken value × (row ≡ record taken { value = value })
+      → table.Allows (Rule key) slots id me (3 * (x + 1) + 1) (λ _. 0) (λ _. PaidLeft y g z u me.1)
+  may_pay x y h g row z c same held state many out (taken, value, may, is) =
+      let v = caught_up me.0 t es in
+      let r : Row = record taken { value = value } in
+      let object : h.object ≡ x + 1 = (let e = may.object in omega arith) in
+      let next : x + 1 ≡ suc x = omega arith in
+      let A : ℕ → Slot → List (ℕ × Slot) → Type 0 = λ k s l. table.Allows (Rule key) slots id (v, l) (3 * k + 1) (λ _. 0) (λ _. Left k false (paid v h x s) l) in
+      let a : A h.object (slot.Row r) ((h.object, slot.Row r) ∷ c) = writes_back key slots id v c (shelf t es) h x taken value many refl may in
+      let b : A (x + 1) (slot.Row r) ((x + 1, slot.Row r) ∷ c) = subst (λ k. A k (slot.Row r) ((k, slot.Row r) ∷ c)) object a in
+      let d : A (x + 1) (slot.Row row) ((x + 1, slot.Row row) ∷ c) = subst (λ s. A (x + 1) (slot.Row s) ((x + 1, slot.Row s) ∷ c)) (sym is) b in
+      let e : A (x + 1) (slot.Row row) me.1 = subst (λ l. A (x + 1) (slot.Row row) l) (sym out) d in
+      let f : table.Allows (Rule key) slots id (v, me.1) (3 * (x + 1) + 1) (λ _. 0) (λ _. PaidLeft x h (slot.Row row) v me.1) = subst (λ k. table.Allows (Rule key) slots id (v, me.1) (3 * (x + 1) + 1) (λ _. 0) (λ _. Left k false (paid v h x (slot.Row row)) me.1)) next e in
+      subst (λ q. table.Allows (Rule key) slots id me (3 * (x + 1) + 1) (λ _. 0) (λ _. PaidLeft q g z u me.1)) (sym same)
+      (subst (λ q. table.Allows (Rule key) slots id me (3 * (x + 1) + 1) (λ _. 0) (λ _. PaidLeft x q z u me.1)) (sym held)
+      (subst (λ q. table.Allows (Rule key) slots id me (3 * (x + 1) + 1) (λ _. 0) (λ _. PaidLeft x h q u me.1)) (sym state)
+      (as_told (3 * (x + 1) + 1) (λ _. 0) (λ w _. PaidLeft x h (slot.Row row) w me.1) f)))
+
+  pub may_commit : (s : Shelf) (y : Slot) (z : Tx) (tx : Tx) (l' : ListView) → s ≡ shelf t es → y ≡ slot.List l' → z ≡ tx
+      → (h : Held) × (l : ListView) × MayPublish key (shelf t es) (caught_up me.0 t es) h l l' (λ n. Commit n tx) (commit_stamp t tx) (pos 0)
+      → (p : ℕ) × (m : ℕ) × (question : ℕ → Question) × MayCommit key.setting (shelf t es) (caught_up me.0 t es) tx p m question
+      → table.Allows (Rule key) slots id me 0 (λ n. (n + 1) % 2 ^ 64) (PublishedTx s z y u me.1)
+  may_commit s y z tx l' own state same (h, l, may) (p, m, question, commits) =
+      subst (λ q. table.Allows (Rule key) slots id me 0 (λ n. (n + 1) % 2 ^ 64) (PublishedTx q z y u me.1)) (sym own)
+      (subst (λ q. table.Allows (Rule key) slots id me 0 (λ n. (n + 1) % 2 ^ 64) (PublishedTx (shelf t es) z q u me.1)) (sym state)
+      (subst (λ q. table.Allows (Rule key) slots id me 0 (λ n. (n + 1) % 2 ^ 64) (PublishedTx (shelf t es) q (slot.List l') u me.1)) (sym same)
+      (as_told 0 (λ n. (n + 1) % 2 ^ 64) (λ w. PublishedTx (shelf t es) tx (slot.List l') w me.1) (publishes_commit key slots id (caught_up me.0 t es) me.1 (shelf t es) h l l' tx p m question refl commits may))))
+
+  pub may_cell : (k : Key) (y o i j cell : ℕ) → k ≡ key → y ≡ o → j ≡ i → cell ≡ o % capacity key → i < 5 → (o < (caught_up me.0 t es).seen) × MayWalk (caught_up me.0 t es) o → table.Allows (Rule key) slots id me (3076 + 5 * cell + i) (λ n. n) (SawCell (capacity k) y j u me.1)
+  may_cell k y o i j cell is same word here few may =
+      subst (λ q. table.Allows (Rule key) slots id me (3076 + 5 * q + i) (λ n. n) (SawCell (capacity k) y j u me.1)) (sym here)
+      (subst (λ q. table.Allows (Rule key) slots id me (3076 + 5 * (o % capacity key) + i) (λ n. n) (SawCell (capacity q) y j u me.1)) (sym is)
+      (subst (λ q. table.Allows (Rule key) slots id me (3076 + 5 * (o % capacity key) + i) (λ n. n) (SawCell (capacity key) q j u me.1)) (sym same)
+      (subst (λ q. table.Allows (Rule key) slots id me (3076 + 5 * (o % capacity key) + i) (λ n. n) (SawCell (capacity key) o q u me.1)) (sym word)
+      (as_told (cell_at (capacity key) o i) (λ n. n) (λ z. SawCell (capacity key) o i z me.1) (loads_cell key slots id o i (caught_up me.0 t es) me.1 few may.0 may.1)))))
+
+  pub may_event : (k : Key) (y o cell : ℕ) → k ≡ key → y ≡ o → cell ≡ o % capacity key → (o < (caught_up me.0 t es).seen) × MayWalk (caught_up me.0 t es) o → table.Allows (Rule key) slots id me (3076 + 5 * cell + 4) (λ n. n) (SawEvent (capacity k) y u me.1)
+  may_event k y o cell is same here may =
+      subst (λ q. table.Allows (Rule key) slots id me (3076 + 5 * q + 4) (λ n. n) (SawEvent (capacity k) y u me.1)) (sym here)
+      (subst (λ q. table.Allows (Rule key) slots id me (3076 + 5 * (o % capacity key) + 4) (λ n. n) (SawEvent (capacity q) y u me.1)) (sym is)
+      (subst (λ q. table.Allows (Rule key) slots id me (3076 + 5 * (o % capacity key) + 4) (λ n. n) (SawEvent (capacity key) q u me.1)) (sym same)
+      (as_told (cell_at (capacity key) o 4) (λ n. n) (λ z. SawEvent (capacity key) o z me.1) (loads_event key slots id o (caught_up me.0 t es) me.1 may.0 may.1))))

@@ -1,5 +1,5 @@
 -- A pass between taking the list and putting it back.
-use Rattle.std.proofs.Common.{◌≡◌, ℕ, suc, ◌+◌, ◌*◌, ◌<◌, List, [], ◌∷◌, ◌++◌, eq-eqb, refl, sym, ap, subst, arith, ◌∙◌, false, Some}
+use Rattle.std.proofs.Common.{◌≡◌, ℕ, suc, ◌+◌, ◌*◌, ◌<◌, List, [], ◌∷◌, ◌++◌, eq-eqb, refl, sym, ap, subst, arith, ◌∙◌, false, Some, inr}
 use Rattle.std.specs.Prelude.{ℤ, Contains, Option, if◌then◌else◌}
 use Rattle.gl_model.specs.declared.event.Act.{Act}
 use Rattle.gl_model.specs.declared.event.Event.TheVariants.{Act as Does}
@@ -13,6 +13,7 @@ use Rattle.gl_table.specs.Doing.{MayAct, IsStepOf}
 use Rattle.gl_state.specs.Entering.{monitor_of, IsShallow}
 use Rattle.gl_rule.specs.Fitting.{MayLeaveAt}
 use Rattle.gl_state.specs.ListView.{ListView}
+use Rattle.gl_model.specs.declared.row.Row.{Row}
 use Rattle.gl_rule.specs.Lives.{Running, life_of}
 use Rattle.gl_rule.specs.Objects.{Key, capacity}
 use Rattle.gl_table.specs.PassView.{PassView, view_of, shelf_of, after, after_storing}
@@ -145,3 +146,17 @@ is_step setting p l l' act value told step =
     let s : told.shelf ≡ shelf_of p = sym (one_shelf (shelf_of p) told.shelf told.one) in
     let r = step told.now told.is in
     record { log = told.log; now = told.now; allowed = told.allowed; own = subst (λ (z : Shelf). Rattle.gl_draws.specs.Events.AreEvents told.log z.thread z.marked) s told.own; new = r.0; step = r.1 }
+
+-- a row was taken
+abbrev pub with_row : PassView → ℕ → Row → PassView
+with_row p x row = after p (took (view_of p) (suc x) (slot.Row row))
+
+-- and may go back as it was taken
+pub may_put_row : (setting : Setting) (p : PassView) (x : ℕ) (row : Row) → MayPutBack setting (shelf_of (with_row p x row)) (view_of (with_row p x row)) (suc x) (slot.Row row) false
+may_put_row setting p x row = record {
+  held = new_held (suc x) (slot.Row row);
+  has = (0, omega arith, refl);
+  object = refl;
+  may = record { right = inr (record { stays = λ l ds st. st }); above = λ i has. inr (i, has, omega arith) };
+  quiet = λ e. absurd (cc);
+}

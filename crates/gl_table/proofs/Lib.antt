@@ -8,3 +8,9 @@ pub mod Depths
 pub mod Doing
 pub mod Gathering
 pub mod Closings
+pub mod Doneness
+pub mod RightOf
+pub mod Aborts
+pub mod Commitments
+pub mod Unpacking
+pub mod FiveWords

@@ -1,6 +1,6 @@
 -- A pass's fields after each step.
 use Rattle.std.proofs.Common.{◌≡◌, ◌≢◌, ℕ, suc, ◌+◌, ◌-◌, ◌<◌, ◌≤◌, List, [], ◌∷◌, ◌++◌, take, length, drop, sym, refl, ap, subst, arith, ◌∙◌, ⊎_elim, append-nil, IsPermutation, Bool, true, false, ◌==◌, ◌||◌, inl, inr}
-use Rattle.std.specs.Prelude.{Contains, Some, None, ℤ, if◌then◌else◌, Option}
+use Rattle.std.specs.Prelude.{Contains, Some, None, ℤ, if◌then◌else◌, Option, nat_lt}
 use Rattle.gl_model.specs.declared.event.Act.{Act}
 use Rattle.gl_model.specs.declared.event.Event.TheVariants.{Act as Does}
 use Rattle.gl_model.specs.declared.event.Stamp.{Stamp}
@@ -10,10 +10,11 @@ use Rattle.gl_draws.specs.Draws.{Draw, draw, Entered}
 use Rattle.gl_draws.proofs.Pushes.{at_cases}
 use Rattle.std.specs.List.{All}
 use Rattle.std.proofs.lemmas.List.Elements.{All-push}
+use Rattle.std.proofs.lemmas.Bool.{ltb-true}
 use Rattle.atomic_table.specs.Table as table
 use Rattle.atomic_table.specs.Seated.{TableId}
 use Rattle.gl_model.specs.declared.limits.TheConstants.{THREADS}
-use Rattle.gl_model.specs.Entries.{Entry, Sync, Plain}
+use Rattle.gl_model.specs.Entries.{Entry, Sync, Plain, Trim}
 use Rattle.gl_model.specs.Machine.{Setting}
 use Rattle.gl_rule.specs.declared.slot.Slot.{Slot}
 use Rattle.gl_rule.specs.declared.slot.Slot.TheVariants as slot
@@ -22,10 +23,11 @@ use Rattle.gl_rule.specs.Knowledge.{AreBelow}
 use Rattle.gl_rule.specs.Objects.{objects}
 use Rattle.gl_table.specs.PassInside.{IsReady, IsPass, AreOut, empties}
 use Rattle.gl_table.specs.PassView.{pass_of}
-use Rattle.gl_rule.specs.View.{View, Held, HasObject, shelf, took, refused, left, saw_tail, with_tail, saw, Read, without, published, after_publish, marked}
+use Rattle.gl_rule.specs.View.{View, Held, HasObject, shelf, took, refused, left, saw_tail, with_tail, saw, Read, without, published, after_publish, marked, lowered}
 use Rattle.gl_rule.specs.Taken.{TakenTold}
-use Rattle.gl_rule.specs.Told.{Took, SawTail, Saw, PutWord, PublishedAct, Marked}
+use Rattle.gl_rule.specs.Told.{Took, SawTail, Saw, PutWord, PublishedAct, Marked, Opened, Lowered, what_of}
 use Rattle.gl_rule.specs.Adding.{MayAdd}
+use Rattle.gl_rule.specs.Commits.{paid}
 use Rattle.gl_table.proofs.Adding.{ready_push}
 use Rattle.gl_table.proofs.Out as out
 
@@ -72,12 +74,24 @@ below_later : (n m t : ℕ) (es : List Entry) → n ≤ m → AreBelow n (shelf 
 below_later n m t es le below i p e at is = let a = below i p e at is in omega arith
 
 -- an entry more whose position, if it has one, is below n
+-- not below
+pub not_less : (n to : ℕ) → (n < to → ⊥) → nat_lt n to ≡ false
+not_less n to none = by (nat_lt n to) refl
+  where
+    by : (b : Bool) → nat_lt n to ≡ b → nat_lt n to ≡ false
+    by true e = absurd (none (ltb-true n to e))
+    by false e = e
+
 pub below_push : (n t : ℕ) (es : List Entry) (e : Entry) → AreBelow n (shelf t es) → ((p : ℕ) → position_of e ≡ Some p → p < n) → AreBelow n (shelf t (es ++ e ∷ []))
 below_push n t es e below new i p f at is = elim (at_cases es e f i at) [ inl old ↦ below i p f old is | inr last ↦ new p (subst (λ z. position_of z ≡ Some p) last.1 is) ]
 
 words_left : (b : Bool) (l : List ℕ) → l ≡ [] → (if b then [] else l) ≡ []
 words_left true l e = refl
 words_left false l e = e
+
+or_false : (b : Bool) → (b || false) ≡ b
+or_false true = refl
+or_false false = refl
 
 quiet_or : (a b c : Bool) → a ≡ b → (a || c) ≡ (b || c)
 quiet_or a b c e = ap (λ x. x || c) e
@@ -115,19 +129,16 @@ module _ (me : table.Me Slot View) (t : ℕ) (mine : List Entry) (seen : ℕ) (o
       subst (λ x. IsPass x t mine n order quiet) (sym told.0)
       (is_pass (saw_tail now n) me.1 t mine n order quiet refl p.ready.named refl p.quiets p.unstored (out.out_mapped me.1 order now.held p.out (with_tail n) (λ h. refl)) (below_later seen n t mine (omega arith) p.below) p.kept)
 
-  -- an event is published, whose words are in the cell
-  pub pass_publishes : (ws : List ℕ) (act : Act) (value : ℤ) (y : Slot) (v : View) (c : List (ℕ × Slot)) (n : ℕ) (w : table.Me Slot View) (mine' : List Entry) → v ≡ record now { stored = ws } → c ≡ me.1 → mine' ≡ mine ++ Sync n act value ∷ [] → PublishedAct (shelf t mine) act value y v c n w
-      → IsEntryKept (Sync n act value) → IsPass w t mine' (n + 1) order quiet × (caught_up w.0 t mine' ≡ published now t mine (Sync n act value) n (record { thread = t; event = Does act }) y (λ g. g.drew)) × (now.seen ≤ n)
-  pass_publishes ws act value y v c n w mine' is gone more told range =
-      let e : Entry = Sync n act value in
-      let x : Stamp = record { thread = t; event = Does act } in
-      let drew : Held → Option Draw = λ g. g.drew in
+  -- an event is published, whose words are in the cell: its entry is e and its stamp x
+  pub pass_tells : (ws : List ℕ) (e : Entry) (x : Stamp) (drew : Held → Option Draw) (y : Slot) (v : View) (c : List (ℕ × Slot)) (n : ℕ) (w : table.Me Slot View) (mine' : List Entry) → v ≡ record now { stored = ws } → c ≡ me.1 → mine' ≡ mine ++ e ∷ [] → v.seen ≤ n → w ≡ (published v t mine e n x y drew, c)
+      → position_of e ≡ Some n → IsEntryKept e → IsPass w t mine' (n + 1) order quiet × (caught_up w.0 t mine' ≡ published now t mine e n x y drew) × (now.seen ≤ n)
+  pass_tells ws e x drew y v c n w mine' is gone more seen_at told place range =
       let u = published now t mine e n x y drew in
-      let a : w ≡ (u, me.1) = told.2 ∙ ap (λ (z : View). let r : table.Me Slot View = (published z t mine e n x y drew, c) in r) is ∙ ap (λ z. let r : table.Me Slot View = (u, z) in r) gone in
+      let a : w ≡ (u, me.1) = told ∙ ap (λ (z : View). let r : table.Me Slot View = (published z t mine e n x y drew, c) in r) is ∙ ap (λ z. let r : table.Me Slot View = (u, z) in r) gone in
       let next : n + 1 ≡ suc n = omega arith in
-      let later : now.seen ≤ n = subst (λ (z : View). z.seen ≤ n) is told.1 in
+      let later : now.seen ≤ n = subst (λ (z : View). z.seen ≤ n) is seen_at in
       let s = p.sees in
-      let below : AreBelow (n + 1) (shelf t (mine ++ e ∷ [])) = below_push (n + 1) t mine e (below_later seen (n + 1) t mine (omega arith) p.below) (λ q z. let same : n ≡ q = some_n n q z in omega arith) in
+      let below : AreBelow (n + 1) (shelf t (mine ++ e ∷ [])) = below_push (n + 1) t mine e (below_later seen (n + 1) t mine (omega arith) p.below) (λ q z. let same : n ≡ q = some_n n q (sym place ∙ z) in omega arith) in
       let b : IsPass (u, me.1) t (mine ++ e ∷ []) (n + 1) order quiet = is_pass u me.1 t (mine ++ e ∷ []) (n + 1) order quiet refl p.ready.named next p.quiets refl (out.out_mapped me.1 order now.held p.out (after_publish n y drew) (published_object n y drew)) below (All-push IsEntryKept mine e p.kept range) in (
         subst (λ l. IsPass w t l (n + 1) order quiet) (sym more) (subst (λ z. IsPass z t (mine ++ e ∷ []) (n + 1) order quiet) (sym a) b),
         ap (λ l. caught_up w.0 t l) more ∙ ap (λ (z : table.Me Slot View). caught_up z.0 t (mine ++ e ∷ [])) a ∙ settled u t (mine ++ e ∷ []) refl,
@@ -136,6 +147,11 @@ module _ (me : table.Me Slot View) (t : ℕ) (mine : List Entry) (seen : ℕ) (o
     where
       some_n : (a b : ℕ) → Some a ≡ Some b → a ≡ b
       some_n a b z = cc
+
+  -- an act
+  pub pass_publishes : (ws : List ℕ) (act : Act) (value : ℤ) (y : Slot) (v : View) (c : List (ℕ × Slot)) (n : ℕ) (w : table.Me Slot View) (mine' : List Entry) → v ≡ record now { stored = ws } → c ≡ me.1 → mine' ≡ mine ++ Sync n act value ∷ [] → PublishedAct (shelf t mine) act value y v c n w
+      → IsEntryKept (Sync n act value) → IsPass w t mine' (n + 1) order quiet × (caught_up w.0 t mine' ≡ published now t mine (Sync n act value) n (record { thread = t; event = Does act }) y (λ g. g.drew)) × (now.seen ≤ n)
+  pass_publishes ws act value y v c n w mine' is gone more told range = pass_tells ws (Sync n act value) (record { thread = t; event = Does act }) (λ g. g.drew) y v c n w mine' is gone more told.1 told.2 refl range
 
   -- a plain access is marked on the held object h
   pub pass_marks : (h : Held) (x b : ℕ) (write : Bool) (value : ℤ) (raised : Bool) (n : ℕ) (w : table.Me Slot View) (mine' : List Entry) → Contains now.held h → mine' ≡ mine ++ Plain x n false write value raised ∷ [] → Marked (shelf t mine) h x b write value raised now me.1 n w
@@ -173,6 +189,40 @@ module _ (me : table.Me Slot View) (t : ℕ) (mine : List Entry) (seen : ℕ) (o
 
   pub pass_saw : (r : Read) (w : table.Me Slot View) → Saw r now me.1 w → IsPass w t mine seen order quiet
   pass_saw r w told = pass_steps (saw now r) me.1 order quiet w refl refl p.quiets p.unstored p.out told
+
+  -- the first segment is raised, or not
+  pub pass_lowers : (n to : ℕ) (w : table.Me Slot View) (mine' : List Entry) (b : Bool) → nat_lt n to ≡ b → Lowered (shelf t mine) to now me.1 n w → mine' ≡ (if b then mine ++ Trim to ∷ [] else mine) → IsPass w t mine' seen order quiet
+  pass_lowers n to w mine' b is told more =
+      subst (λ x. IsPass x t mine' seen order quiet) (sym told)
+      (is_pass (lowered now t mine n to) me.1 t mine' seen order quiet (by b is more) p.ready.named p.sees p.quiets p.unstored p.out (below b more) (kept b more))
+    where
+      by : (b : Bool) → nat_lt n to ≡ b → mine' ≡ (if b then mine ++ Trim to ∷ [] else mine) → (lowered now t mine n to).shelves ≡ shelf t mine' ∷ []
+      by true is more = ap (λ b. (if b then shelf t (mine ++ Trim to ∷ []) else shelf t mine) ∷ []) is ∙ ap (λ l. shelf t l ∷ []) (sym more)
+      by false is more = ap (λ b. (if b then shelf t (mine ++ Trim to ∷ []) else shelf t mine) ∷ []) is ∙ ap (λ l. shelf t l ∷ []) (sym more)
+
+      below : (b : Bool) → mine' ≡ (if b then mine ++ Trim to ∷ [] else mine) → AreBelow seen (shelf t mine')
+      below true more = subst (λ l. AreBelow seen (shelf t l)) (sym more) (below_push seen t mine (Trim to) p.below (λ q z. absurd (let y : None ≡ Some q = z in cc)))
+      below false more = subst (λ l. AreBelow seen (shelf t l)) (sym more) p.below
+
+      kept : (b : Bool) → mine' ≡ (if b then mine ++ Trim to ∷ [] else mine) → All IsEntryKept mine'
+      kept true more = subst (All IsEntryKept) (sym more) (All-push IsEntryKept mine (Trim to) p.kept tt)
+      kept false more = subst (All IsEntryKept) (sym more) p.kept
+
+  -- a number is drawn on the held object h, which waits for its entry
+  pub pass_opens : (h : Held) (x b n : ℕ) (look : Option ℤ) (w : table.Me Slot View) → Contains now.held h → Opened (shelf t mine) h x b look now me.1 n w → IsPass w t mine seen order quiet
+  pass_opens h x b n look w has told =
+      let d = draw t b (what_of look) in
+      let u = marked now (shelf t mine) (now.drawn ++ record { var = x; nth = n; look = look } ∷ []) h d in
+      pass_steps u me.1 order quiet w refl refl p.quiets p.unstored (out.out_changes me.1 order now.held p.out h (record h { drew = Some d }) has refl) told.1
+
+  -- the held object h, the row of x, goes back with a value that was owed
+  pub pass_pays : (h : Held) (x : ℕ) (y : Slot) (order' : List ℕ) (c : List (ℕ × Slot)) (z : table.Me Slot View) → Contains now.held h → IsPermutation order order' → order' ≡ (x + 1) ∷ drop 1 order' → c ≡ empties (drop 1 order') → z ≡ (left (paid now h x y) (suc x) false, c) → IsPass z t mine seen (drop 1 order') quiet
+  pass_pays h x y order' c z has perm front gone is =
+      let u = paid now h x y in
+      let next : x + 1 ≡ suc x = omega arith in
+      let mid : AreOut me.1 order u.held = out.out_changes me.1 order now.held p.out h (record h { taken = y }) has refl in
+      let same : quiet ≡ (now.quiet || false) = p.quiets ∙ sym (or_false now.quiet) in
+      pass_steps (left u (suc x) false) c (drop 1 order') quiet z refl refl same (words_left (suc x == 0) now.stored p.unstored) (out.out_leaves me.1 order u.held mid (suc x) order' c perm (subst (λ k. order' ≡ k ∷ drop 1 order') next front) gone) is
 
   -- an object that is held is out with the seat
   pub is_out : (h : Held) → Contains now.held h → Contains order h.object

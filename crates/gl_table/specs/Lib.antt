@@ -13,3 +13,10 @@ pub mod Ending
 pub mod SealedView
 pub mod SealedInside
 pub mod Words
+pub mod Told
+pub mod Lowering
+pub mod Doneness
+pub mod RightOf
+pub mod Committing
+pub mod Unpacking
+pub mod Walking

@@ -1,5 +1,5 @@
 -- What is asked of an object that is put back.
-use Rattle.std.specs.Prelude.{◌≡◌, ℕ, ℤ, ◌%◌, Bool, true, false, Contains, List, [], ◌∷◌, ◌++◌, ◌+◌, ◌==◌, if◌then◌else◌}
+use Rattle.std.specs.Prelude.{◌≡◌, ℕ, suc, Option, ℤ, ◌%◌, Bool, true, false, Contains, List, [], ◌∷◌, ◌++◌, ◌+◌, ◌==◌, if◌then◌else◌}
 use Rattle.gl_model.specs.Machine.{Setting}
 use Rattle.gl_rule.specs.declared.slot.Slot.{Slot}
 use Rattle.gl_rule.specs.declared.slot.Slot.TheVariants as slot
@@ -9,12 +9,17 @@ use Rattle.gl_model.specs.Entries.{Entry, Sync, Plain}
 use Rattle.gl_rule.specs.Cells.{packed}
 use Rattle.gl_state.specs.ListView.{ListView}
 use Rattle.gl_rule.specs.Objects.{Key, capacity}
-use Rattle.gl_table.specs.PassView.{PassView, view_of, shelf_of, after_storing}
-use Rattle.gl_rule.specs.Fitting.{MayLeave, MayPublish, MayMark, MayStoreWord, SaysQuiet}
-use Rattle.gl_rule.specs.View.{View, Held, Shelf, shelf, marked, published}
+use Rattle.gl_table.specs.PassView.{PassView, view_of, shelf_of, after, after_storing}
+use Rattle.gl_rule.specs.Fitting.{MayLeave, MayPublish, MayMark, MayOpen, MayStoreWord, SaysQuiet}
+use Rattle.gl_rule.specs.View.{View, Held, Shelf, shelf, left, marked, published}
 use Rattle.gl_table.specs.CaughtUp.{block_of}
 use Rattle.gl_table.specs.Says.{no_held}
 use Rattle.gl_draws.specs.Draws.{draw, Entered}
+use Rattle.gl_model.specs.declared.tx.Tx.{Tx}
+use Rattle.gl_model.specs.declared.tx.Why.{Why}
+use Rattle.gl_model.specs.declared.tx.Why.TheVariants.{Changed, Raised}
+use Rattle.gl_rule.specs.Commits.{MayPay, MayChange, MayRefuse, paid}
+use Rattle.gl_rule.specs.Told.{what_of}
 use Rattle.gl_model.specs.declared.row.Row.{Row}
 use Rattle.gl_model.specs.declared.row.Question.{Question}
 
@@ -62,3 +67,31 @@ marked_plain p x n write value raised =
 abbrev pub published_act : PassView → Act → ℤ → ℕ → ListView → PassView
 published_act p act value n state =
     after_storing p (published (view_of p) p.own.id p.own.mine (Sync n act value) n (record { thread = p.own.id; event = Does act }) (slot.List state) (λ g. g.drew))
+
+-- what is asked of a number that is drawn on x for a look with this word, or for the end of an attempt
+pub record MayOpenOn (p : PassView) (x : ℕ) (look : Option ℤ) : Type 0 where
+  pub taken : Row
+  pub may : MayOpen (shelf_of p) (view_of p) (held_at (x + 1) p.own.held) x taken (block_of p.own.mine) look
+
+-- the pass after it drew n
+abbrev pub opened : PassView → ℕ → ℕ → Option ℤ → PassView
+opened p x n look = after p (marked (view_of p) (shelf_of p) (p.own.drawn ++ record { var = x; nth = n; look = look } ∷ []) (held_at (x + 1) p.own.held) (draw p.own.id (block_of p.own.mine) (what_of look)))
+
+-- the held row of x, and the value that the pass owes it
+pub record MayPayOn (p : PassView) (x : ℕ) (row : Row) : Type 0 where
+  pub taken : Row
+  pub value : ℤ
+  pub may : MayPay (view_of p) (held_at (x + 1) p.own.held) x taken value
+  pub is : row ≡ record taken { value = value }
+
+-- the pass after it put the row back with the value
+abbrev pub paid_back : PassView → ℕ → Row → PassView
+paid_back p x row = after p (left (paid (view_of p) (held_at (x + 1) p.own.held) x (slot.Row row)) (suc x) false)
+
+-- what is asked of an attempt that is dropped
+abbrev pub MayAbortAs : Shelf → View → Tx → Why → Type 0
+MayAbortAs s v tx (Changed var read found) = (q : ℕ) × MayChange s v tx var read found q
+MayAbortAs s v tx (Raised var) = (q : ℕ) × (m : ℕ) × (question : ℕ → Question) × ((setting : Setting) → MayRefuse setting s v tx var q m question)
+
+abbrev pub MayAbort : PassView → Tx → Why → Type 0
+MayAbort p tx why = MayAbortAs (shelf_of p) (view_of p) tx why

@@ -5,6 +5,7 @@ use Rattle.gl_model.specs.declared.event.Act.TheVariants.{End}
 use Rattle.gl_rule.specs.declared.slot.Slot.{Slot}
 use Rattle.gl_rule.specs.declared.slot.Slot.TheVariants as slot
 use Rattle.gl_model.specs.Machine.{trace_setting}
+use Rattle.gl_model.specs.declared.tx.Tx.{Tx}
 use Rattle.gl_rule.specs.Objects.{Key}
 use Rattle.gl_rule.specs.View.{Shelf, shelf, Held, new_held}
 
@@ -32,3 +33,6 @@ no_held = new_held 0 slot.Empty
 
 abbrev pub no_key : Key
 no_key = record { setting = trace_setting; cells = 0; segments = 0 }
+
+abbrev pub no_tx : Tx
+no_tx = record { looks = []; writes = []; numbers = [] }

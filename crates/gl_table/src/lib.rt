@@ -12,6 +12,10 @@ mod rule;
 mod sealed;
 mod shared;
 mod telling;
+#[cfg(test)]
+mod tests;
+mod unpack;
+mod walking;
 
 pub use layout::Layout;
 pub use pass::Pass;

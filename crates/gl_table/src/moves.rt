@@ -1,29 +1,32 @@
 // The steps on the table's words, each with what it tells its seat.
-ghost use Rattle.std.specs.Prelude.{◌≡◌, ℕ, ℤ, ◌<◌, ◌≤◌, ◌%◌, ◌+◌, ◌*◌, ◌^◌, true, suc, ◌∷◌, [], List, map, length, Contains};
+ghost use Rattle.std.specs.Prelude.{◌≡◌, pos, ℕ, ℤ, ◌<◌, ◌≤◌, ◌%◌, ◌+◌, ◌*◌, ◌^◌, true, suc, ◌∷◌, [], List, map, length, Contains};
 ghost use Rattle.gl_model.specs.declared.event.Event.TheVariants.{Act as Does};
 ghost use Rattle.gl_model.specs.declared.row.Row.{Row as ARow};
 ghost use Rattle.gl_model.specs.declared.row.Question.{Question};
-ghost use Rattle.gl_model.specs.Entries.{Sync, seen};
+ghost use Rattle.gl_model.specs.Entries.{Commit, Sync, seen};
 ghost use Rattle.gl_table.specs.CaughtUp.{caught_up, block_of};
-ghost use Rattle.gl_rule.specs.Fitting.{MayPublish, MayMark, MayStoreWord, MayRaise, MayTrim};
+ghost use Rattle.gl_rule.specs.Fitting.{MayPublish, MayMark, MayOpen, MayWalk, MayStoreWord, MayRaise, MayTrim};
+ghost use Rattle.gl_table.specs.Committing.{commit_stamp};
 ghost use Rattle.gl_table.specs.Ending.{ClosedTold};
+ghost use Rattle.gl_table.specs.Told.{Kept, PaidLeft, PublishedTx, head_slot};
+ghost use Rattle.gl_rule.specs.Commits.{MayCommit, MayPay};
 ghost use Rattle.gl_table.specs.KeyOf.{key_of};
 ghost use Rattle.gl_state.specs.ListView.{ListView};
 ghost use Rattle.gl_rule.specs.Objects.{capacity, objects};
 ghost use Rattle.gl_table.specs.OfTable.{OfTable};
 ghost use Rattle.gl_table.specs.PassInside.{IsReady};
 ghost use Rattle.gl_table.specs.Putting.{MayPutBack, held_at};
-ghost use Rattle.gl_rule.specs.Told.{Took, Left, SawTail, Saw, PutWord, PublishedAct, Marked, SawFloor, Raised, Lowered};
-ghost use Rattle.gl_rule.specs.View.{Shelf, shelf, Held, Hold};
+ghost use Rattle.gl_rule.specs.Told.{Took, Left, SawTail, Saw, PutWord, PublishedAct, Marked, Opened, SawCell, SawEvent, SawFloor, Raised, Lowered};
+ghost use Rattle.gl_rule.specs.View.{Shelf, shelf, Held, Hold, Stop};
 ghost use Rattle.gl_rule.specs.declared.slot.Slot.{Slot as ASlot};
 ghost use Rattle.gl_rule.specs.declared.slot.Slot.TheVariants as slot;
 
 use crate::layout::Layout;
 use crate::rule::{
-    Closes, Leaves, Lowers, Marks, Order, Publishes, Puts, Raises, SeesFloor, SeesHold, SeesTail,
-    Takes, Told,
+    Closes, Commits, Leaves, Lowers, Marks, Opens, Order, Pays, Publishes, Puts, Raises, SeesCell,
+    SeesEvent, SeesFloor, SeesHold, SeesStop, SeesTail, Stops, Takes, Told,
 };
-use gl_model::{Act, Entry, Row};
+use gl_model::{Act, Entry, Row, Tx};
 use gl_rule::{Know, Slot};
 use gl_state::ListState;
 
@@ -219,6 +222,122 @@ pub fn raise_first<B: Told>(
     ensures lowered { Lowered (shelf id (map seen mine.now.items)) to (caught_up seat.old.me.0 id (map seen mine.now.items)) seat.old.me.1 result seat.new.me }
 {
     board.fetch_max::<Lowers<B>>(seat, 2, to)
+}
+
+// Sets the stop word.
+pub fn set_word<B: Told>(board: &Board, seat: &mut Seat, id: u8, mine: &Vec<Entry>)
+    requires table { OfTable seat.old.table_id board.now.table_id (key_of board.now.key) }
+    requires ready { IsReady seat.old.me.0 id (map seen mine.now.items) }
+    requires told { B.view ≡ caught_up seat.old.me.0 id (map seen mine.now.items) }
+    ensures seat { (seat.new.table_id ≡ seat.old.table_id) × (seat.new.id ≡ seat.old.id) }
+    ensures kept { Kept (caught_up seat.old.me.0 id (map seen mine.now.items)) seat.old.me.1 seat.new.me }
+{
+    board.store::<Stops<B>>(seat, 3075, 1);
+}
+
+// Loads the stop word.
+pub fn load_stop<B: Told>(board: &Board, seat: &mut Seat, id: u8, mine: &Vec<Entry>) -> u64
+    requires table { OfTable seat.old.table_id board.now.table_id (key_of board.now.key) }
+    requires ready { IsReady seat.old.me.0 id (map seen mine.now.items) }
+    requires told { B.view ≡ caught_up seat.old.me.0 id (map seen mine.now.items) }
+    ensures seat { (seat.new.table_id ≡ seat.old.table_id) × (seat.new.id ≡ seat.old.id) }
+    ensures saw { Saw (Stop result) (caught_up seat.old.me.0 id (map seen mine.now.items)) seat.old.me.1 seat.new.me }
+{
+    board.load::<SeesStop<B>>(seat, 3075)
+}
+
+// Draws a number for a look, or for the end of an attempt.
+pub fn open_number<B: Told>(
+    board: &Board,
+    seat: &mut Seat,
+    id: u8,
+    mine: &Vec<Entry>,
+    var: u16,
+    look: Option<i64>,
+) -> u64
+    requires table { OfTable seat.old.table_id board.now.table_id (key_of board.now.key) }
+    requires ready { IsReady seat.old.me.0 id (map seen mine.now.items) }
+    requires told { (B.view ≡ caught_up seat.old.me.0 id (map seen mine.now.items)) × (B.mark.shelf ≡ shelf id (map seen mine.now.items)) × (B.mark.block ≡ block_of (map seen mine.now.items)) × (B.object ≡ var) × (B.look ≡ look) }
+    requires near { var < 1024 }
+    requires may { (taken : ARow) × MayOpen (shelf id (map seen mine.now.items)) (caught_up seat.old.me.0 id (map seen mine.now.items)) B.held var taken (block_of (map seen mine.now.items)) look }
+    ensures seat { (seat.new.table_id ≡ seat.old.table_id) × (seat.new.id ≡ seat.old.id) }
+    ensures drew { Opened (shelf id (map seen mine.now.items)) B.held var (block_of (map seen mine.now.items)) look (caught_up seat.old.me.0 id (map seen mine.now.items)) seat.old.me.1 result seat.new.me }
+{
+    board.fetch_add::<Opens<B>>(seat, 3 * (var as usize + 1), 1)
+}
+
+// Leaves the turn of a row, which has a value that was owed.
+pub fn leave_paid<B: Told>(board: &Board, seat: &mut Seat, id: u8, mine: &Vec<Entry>, var: u16)
+    requires table { OfTable seat.old.table_id board.now.table_id (key_of board.now.key) }
+    requires ready { IsReady seat.old.me.0 id (map seen mine.now.items) }
+    requires told { (B.view ≡ caught_up seat.old.me.0 id (map seen mine.now.items)) × (B.object ≡ var) × (B.event.state ≡ head_slot seat.old.me.1) }
+    requires near { var < 1024 }
+    requires back { (row : ARow) × (c : List (ℕ × ASlot)) × (seat.old.me.1 ≡ (var + 1, slot.Row row) ∷ c) × ((taken : ARow) × (value : ℤ) × MayPay (caught_up seat.old.me.0 id (map seen mine.now.items)) B.held var taken value × (row ≡ record taken { value = value })) }
+    ensures seat { (seat.new.table_id ≡ seat.old.table_id) × (seat.new.id ≡ seat.old.id) }
+    ensures left { PaidLeft var B.held (head_slot seat.old.me.1) (caught_up seat.old.me.0 id (map seen mine.now.items)) seat.old.me.1 seat.new.me }
+{
+    board.store::<Pays<B>>(seat, 3 * (var as usize + 1) + 1, 0);
+}
+
+// Publishes a commit, which stands in its cell.
+pub fn publish_tx<B: Told>(
+    board: &Board,
+    seat: &mut Seat,
+    id: u8,
+    mine: &Vec<Entry>,
+    tx: &Tx,
+    state: &ListState,
+) -> u64
+    requires table { OfTable seat.old.table_id board.now.table_id (key_of board.now.key) }
+    requires ready { IsReady seat.old.me.0 id (map seen mine.now.items) }
+    requires told { (B.view ≡ caught_up seat.old.me.0 id (map seen mine.now.items)) × (B.event.shelf ≡ shelf id (map seen mine.now.items)) × (B.event.state ≡ slot.List state.now) × (B.tx ≡ tx.now) }
+    requires may { (h : Held) × (l : ListView) × MayPublish (key_of board.now.key) (shelf id (map seen mine.now.items)) (caught_up seat.old.me.0 id (map seen mine.now.items)) h l state.now (λ n. Commit n tx.now) (commit_stamp id tx.now) (pos 0) }
+    requires commits { (p : ℕ) × (m : ℕ) × (question : ℕ → Question) × MayCommit (key_of board.now.key).setting (shelf id (map seen mine.now.items)) (caught_up seat.old.me.0 id (map seen mine.now.items)) tx.now p m question }
+    ensures seat { (seat.new.table_id ≡ seat.old.table_id) × (seat.new.id ≡ seat.old.id) }
+    ensures published { PublishedTx (shelf id (map seen mine.now.items)) tx.now (slot.List state.now) (caught_up seat.old.me.0 id (map seen mine.now.items)) seat.old.me.1 result seat.new.me }
+{
+    board.fetch_add::<Commits<B>>(seat, 0, 1)
+}
+
+// Loads a word, but the last, of the event at a position.
+pub fn load_cell<B: Told>(
+    board: &Board,
+    seat: &mut Seat,
+    id: u8,
+    mine: &Vec<Entry>,
+    pos: u64,
+    cell: usize,
+    index: usize,
+) -> u64
+    requires table { OfTable seat.old.table_id board.now.table_id (key_of board.now.key) }
+    requires ready { IsReady seat.old.me.0 id (map seen mine.now.items) }
+    requires told { (B.view ≡ caught_up seat.old.me.0 id (map seen mine.now.items)) × (B.key ≡ key_of board.now.key) × (B.object ≡ pos) × (B.index ≡ index) }
+    requires near { (cell ≡ pos % capacity (key_of board.now.key)) × (cell < capacity (key_of board.now.key)) × (cell < 2 ^ 32) × (index < 5) }
+    requires may { (pos < (caught_up seat.old.me.0 id (map seen mine.now.items)).seen) × MayWalk (caught_up seat.old.me.0 id (map seen mine.now.items)) pos }
+    ensures seat { (seat.new.table_id ≡ seat.old.table_id) × (seat.new.id ≡ seat.old.id) }
+    ensures saw { SawCell (capacity (key_of board.now.key)) pos index (caught_up seat.old.me.0 id (map seen mine.now.items)) seat.old.me.1 result seat.new.me }
+{
+    board.load::<SeesCell<B>>(seat, 3076 + 5 * cell + index)
+}
+
+// Loads the last word of the event at a position, which tells the event.
+pub fn load_event<B: Told>(
+    board: &Board,
+    seat: &mut Seat,
+    id: u8,
+    mine: &Vec<Entry>,
+    pos: u64,
+    cell: usize,
+) -> u64
+    requires table { OfTable seat.old.table_id board.now.table_id (key_of board.now.key) }
+    requires ready { IsReady seat.old.me.0 id (map seen mine.now.items) }
+    requires told { (B.view ≡ caught_up seat.old.me.0 id (map seen mine.now.items)) × (B.key ≡ key_of board.now.key) × (B.object ≡ pos) }
+    requires near { (cell ≡ pos % capacity (key_of board.now.key)) × (cell < capacity (key_of board.now.key)) × (cell < 2 ^ 32) }
+    requires may { (pos < (caught_up seat.old.me.0 id (map seen mine.now.items)).seen) × MayWalk (caught_up seat.old.me.0 id (map seen mine.now.items)) pos }
+    ensures seat { (seat.new.table_id ≡ seat.old.table_id) × (seat.new.id ≡ seat.old.id) }
+    ensures saw { SawEvent (capacity (key_of board.now.key)) pos (caught_up seat.old.me.0 id (map seen mine.now.items)) seat.old.me.1 result seat.new.me }
+{
+    board.load::<SeesEvent<B>>(seat, 3076 + 5 * cell + 4)
 }
 
 // A load by the seat that has all lists, which tells what the record of them is.

@@ -1,25 +1,30 @@
 // What one thread brings to the table and takes from it.
-ghost use Rattle.std.specs.Prelude.{◌≡◌, ◌||◌, ℕ, ◌<◌, ◌≤◌, ◌+◌, true, false, suc, Contains, OnOk, OnErr, IfOk, IfErr};
+ghost use Rattle.std.specs.Prelude.{◌≡◌, map, ◌||◌, ℕ, ◌<◌, ◌≤◌, ◌+◌, true, false, suc, Contains, OnOk, OnErr, IfOk, IfErr};
 ghost use Rattle.gl_model.specs.declared.limits.TheConstants.{THREADS};
-ghost use Rattle.gl_model.specs.Entries.{Over, Plain};
+ghost use Rattle.gl_model.specs.Entries.{Abort, Over, Plain};
 ghost use Rattle.gl_rule.specs.Adding.{MayCache};
 ghost use Rattle.gl_rule.specs.Lives.{Ended, life_of};
 ghost use Rattle.gl_model.specs.declared.row.Row.{Row as ARow};
-ghost use Rattle.gl_rule.specs.Fitting.{MayRaise};
+ghost use Rattle.gl_rule.specs.Fitting.{MayRaise, MayTrim};
 ghost use Rattle.gl_rule.specs.declared.slot.Slot.TheVariants as slot;
+ghost use Rattle.gl_model.specs.Entries.{seen};
+ghost use Rattle.gl_rule.specs.Closed.{IsDone};
+ghost use Rattle.gl_table.specs.Doneness.{is_done, is_over as over_entry};
 ghost use Rattle.gl_table.specs.KeyOf.{key_of};
+ghost use Rattle.gl_table.specs.Lowering.{lowered_pass};
 ghost use Rattle.gl_rule.specs.Objects.{objects};
 ghost use Rattle.gl_table.specs.OfTable.{OfTable};
 ghost use Rattle.gl_table.specs.PassView.{view_of, shelf_of, after, after_adding};
-ghost use Rattle.gl_table.specs.Putting.{MayPutBack, held_at};
+ghost use Rattle.gl_table.specs.Putting.{MayAbort, MayPutBack, held_at};
 ghost use Rattle.gl_rule.specs.Taken.{TakenTold};
-ghost use Rattle.gl_rule.specs.View.{Hold, took, refused, left, saw_tail, saw, saw_floor, raised};
+ghost use Rattle.gl_rule.specs.View.{Hold, Stop, took, refused, left, saw_tail, saw, saw_floor, raised};
 
 use crate::hold::bring;
 use crate::moves::{
-    Board, Seat, leave_turn, load_floor, load_hold, load_tail, raise_floor, take_turn,
+    Board, Seat, leave_turn, load_floor, load_hold, load_stop, load_tail, raise_first, raise_floor,
+    set_word, take_turn,
 };
-use gl_model::{Ending, Entry, Row};
+use gl_model::{Ending, Entry, Row, Tx, Why};
 use gl_rule::Slot;
 use std::alloc::AllocError;
 use std::marker::{Brand, Model};
@@ -49,6 +54,28 @@ impl Model for Pass {
     ghost invariant = { IsPassInside };
 }
 
+fn is_over(entry: &Entry) -> bool
+    ensures { result ≡ over_entry (seen entry.now) }
+{
+    match entry {
+        Entry::Over(_) => true,
+        Entry::Sync { .. }
+        | Entry::Commit { .. }
+        | Entry::Plain { .. }
+        | Entry::Abort { .. }
+        | Entry::Trim { .. } => false,
+    }
+}
+
+fn ends(mine: &Vec<Entry>, quiet: bool) -> bool
+    ensures { result ≡ is_done (map seen mine.now.items) quiet }
+{
+    if mine.is_empty() {
+        return quiet;
+    }
+    is_over(&mine[mine.len() - 1])
+}
+
 impl Pass {
     /// Its number.
     pub fn id(&self) -> u8
@@ -63,6 +90,14 @@ impl Pass {
         ensures { result ≡ self.now.seen }
     {
         self.seen
+    }
+
+    /// Whether its list ends with Over, or is empty while it has seen that no thread is live.
+    pub fn is_done(&self) -> bool
+        ensures is { result ≡ is_done self.now.own.mine self.now.quiet }
+        ensures done { result ≡ true → IsDone self.now.own.mine self.now.quiet }
+    {
+        ends(&self.mine, self.quiet)
     }
 
     /// Makes room for so many entries more.
@@ -81,6 +116,16 @@ impl Pass {
         ensures { self.new ≡ after_adding self.old (Over ending) }
     {
         self.mine.push_reserved(Entry::Over(ending));
+    }
+
+    /// Ends an attempt that is dropped, with its entry.
+    pub fn abort(&mut self, tx: Box<Tx>, why: Why)
+        requires may { MayAbort self.old tx.value why }
+        requires spare { 0 < self.old.spare }
+        ensures { self.new ≡ after_adding self.old (Abort tx.value why) }
+    {
+        tx.keeps();
+        self.mine.push_reserved(Entry::Abort { tx, why });
     }
 
     /// Repeats its last access of the variable, whose number is `nth`.
@@ -142,6 +187,36 @@ fn either(a: bool, b: bool) -> bool
     ensures { result ≡ (a || b) }
 {
     a || b
+}
+
+// Raises the first segment that the ring has, and answers what it was.
+pub(crate) fn lower(board: &Board, pass: &mut Pass, to: u64) -> u64
+    requires table { OfTable pass.old.own.table board.now.table_id (key_of board.now.key) }
+    requires spare { 0 < pass.old.spare }
+    requires may { MayTrim (key_of board.now.key) (shelf_of pass.old) (view_of pass.old) to }
+    ensures pass { pass.new ≡ lowered_pass pass.old result to }
+{
+    let before = raise_first::<Brand>(board, &mut pass.seat, pass.id, &pass.mine, to);
+    if before < to {
+        pass.mine.push_reserved(Entry::Trim { low: to });
+    }
+    before
+}
+
+// Sets the stop word.
+pub(crate) fn stop(board: &Board, pass: &mut Pass)
+    requires table { OfTable pass.old.own.table board.now.table_id (key_of board.now.key) }
+    ensures pass { pass.new ≡ pass.old }
+{
+    set_word::<Brand>(board, &mut pass.seat, pass.id, &pass.mine);
+}
+
+// Loads the stop word.
+pub(crate) fn see_stop(board: &Board, pass: &mut Pass) -> u64
+    requires table { OfTable pass.old.own.table board.now.table_id (key_of board.now.key) }
+    ensures pass { pass.new ≡ after pass.old (saw (view_of pass.old) (Stop result)) }
+{
+    load_stop::<Brand>(board, &mut pass.seat, pass.id, &pass.mine)
 }
 
 // Puts an object back.

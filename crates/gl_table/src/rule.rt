@@ -19,8 +19,9 @@ impl TableRule<Slot, Know, Layout> for Order {
 
 /// What a call says of its step: its view, with all that it has stored recorded, and what it does.
 pub trait Told {
-    ghost use Rattle.std.specs.Prelude.{ℕ, Bool};
+    ghost use Rattle.std.specs.Prelude.{ℕ, ℤ, Bool, Option};
     ghost use Rattle.gl_model.specs.Machine.{Setting};
+    ghost use Rattle.gl_model.specs.declared.tx.Tx.{Tx};
     ghost use Rattle.gl_rule.specs.View.{View, Held};
     ghost use Rattle.gl_table.specs.Says.{EventSaid, MarkSaid};
     ghost use Rattle.gl_rule.specs.Objects.{Key};
@@ -41,13 +42,21 @@ pub trait Told {
     ghost event: { EventSaid };
 
     ghost mark: { MarkSaid };
+
+    // the word of a look
+    ghost look: { Option ℤ };
+
+    ghost tx: { Tx };
+
+    // of a word of a cell, which one
+    ghost index: { ℕ };
 }
 
 impl Told for Brand {
-    ghost use Rattle.std.specs.Prelude.{[], false};
+    ghost use Rattle.std.specs.Prelude.{[], false, None};
     ghost use Rattle.gl_model.specs.Machine.{trace_setting};
     ghost use Rattle.gl_rule.specs.View.{blank};
-    ghost use Rattle.gl_table.specs.Says.{no_event, no_key, no_mark, no_held};
+    ghost use Rattle.gl_table.specs.Says.{no_event, no_key, no_mark, no_held, no_tx};
 
     ghost view = { blank [] };
 
@@ -64,6 +73,12 @@ impl Told for Brand {
     ghost event = { no_event };
 
     ghost mark = { no_mark };
+
+    ghost look = { None };
+
+    ghost tx = { no_tx };
+
+    ghost index = { 0 };
 }
 
 pub struct Takes<B>(PhantomData<B>);
@@ -186,4 +201,63 @@ impl<B: Told> Play<Slot, Know> for Closes<B> {
     ghost use Rattle.gl_table.specs.Ending.{ClosedTold};
 
     ghost then = { λ s v n w. ClosedTold B.key B.view w };
+}
+
+pub struct Stops<B>(PhantomData<B>);
+
+impl<B: Told> Play<Slot, Know> for Stops<B> {
+    ghost use Rattle.gl_table.specs.Told.{Kept};
+
+    ghost then = { λ s v n w. Kept B.view v.1 w };
+}
+
+pub struct SeesStop<B>(PhantomData<B>);
+
+impl<B: Told> Play<Slot, Know> for SeesStop<B> {
+    ghost use Rattle.gl_rule.specs.Told.{Saw};
+    ghost use Rattle.gl_rule.specs.View.{Stop};
+
+    ghost then = { λ s v n w. Saw (Stop n) B.view v.1 w };
+}
+
+pub struct Opens<B>(PhantomData<B>);
+
+impl<B: Told> Play<Slot, Know> for Opens<B> {
+    ghost use Rattle.gl_rule.specs.Told.{Opened};
+
+    ghost then = { λ s v n w. Opened B.mark.shelf B.held B.object B.mark.block B.look B.view v.1 n w };
+}
+
+pub struct Pays<B>(PhantomData<B>);
+
+impl<B: Told> Play<Slot, Know> for Pays<B> {
+    ghost use Rattle.gl_table.specs.Told.{PaidLeft};
+
+    ghost then = { λ s v n w. PaidLeft B.object B.held B.event.state B.view v.1 w };
+}
+
+pub struct Commits<B>(PhantomData<B>);
+
+impl<B: Told> Play<Slot, Know> for Commits<B> {
+    ghost use Rattle.gl_table.specs.Told.{PublishedTx};
+
+    ghost then = { λ s v n w. PublishedTx B.event.shelf B.tx B.event.state B.view v.1 n w };
+}
+
+pub struct SeesCell<B>(PhantomData<B>);
+
+impl<B: Told> Play<Slot, Know> for SeesCell<B> {
+    ghost use Rattle.gl_rule.specs.Objects.{capacity};
+    ghost use Rattle.gl_rule.specs.Told.{SawCell};
+
+    ghost then = { λ s v n w. SawCell (capacity B.key) B.object B.index B.view v.1 n w };
+}
+
+pub struct SeesEvent<B>(PhantomData<B>);
+
+impl<B: Told> Play<Slot, Know> for SeesEvent<B> {
+    ghost use Rattle.gl_rule.specs.Objects.{capacity};
+    ghost use Rattle.gl_rule.specs.Told.{SawEvent};
+
+    ghost then = { λ s v n w. SawEvent (capacity B.key) B.object B.view v.1 n w };
 }

@@ -1,20 +1,29 @@
 // The table that threads share.
-ghost use Rattle.std.specs.Prelude.{◌≡◌, ℕ, ◌+◌, ◌*◌, ◌<◌, ◌≤◌, IsTrue, ◌↔◌, IfOk, OnOk, IfErr, [], pos, suc, false, List};
+ghost use Rattle.std.specs.Prelude.{◌≡◌, ◌≢◌, max, Contains, ℕ, ◌+◌, ◌*◌, ◌<◌, ◌≤◌, IsTrue, ◌↔◌, IfOk, OnOk, IfErr, [], pos, suc, false, List};
 ghost use Rattle.gl_model.specs.declared.limits.TheConstants.{MONITORS, VARIABLES};
 ghost use Rattle.gl_segments.specs.Rings.{IsRing};
 ghost use Rattle.gl_rule.specs.Objects.{capacity, objects};
+ghost use Rattle.gl_model.specs.declared.row.Row.{Row as ARow};
+ghost use Rattle.gl_rule.specs.Fitting.{MayRaise, MayTrim, MayWalk};
+ghost use Rattle.gl_model.specs.Records.{variables_of};
+ghost use Rattle.gl_table.specs.Committing.{MayPublishTx, published_tx};
+ghost use Rattle.gl_table.specs.Walking.{four_words, knew};
+ghost use Rattle.gl_table.specs.Lowering.{lowered_pass};
 ghost use Rattle.gl_table.specs.PassView.{view_of, shelf_of, after};
-ghost use Rattle.gl_table.specs.Putting.{MayPutBack, MayPublishAct, MayMarkPlain, marked_plain, published_act};
+ghost use Rattle.gl_table.specs.Putting.{MayPutBack, MayPublishAct, MayMarkPlain, MayOpenOn, MayPayOn, held_at, marked_plain, opened, paid_back, published_act};
 ghost use Rattle.gl_rule.specs.Taken.{StateTold};
-ghost use Rattle.gl_rule.specs.View.{Hold, took, refused, left, saw_tail, saw};
+ghost use Rattle.gl_rule.specs.View.{Hold, Stop, took, refused, left, saw_tail, saw, saw_floor, raised};
 ghost use Rattle.gl_rule.specs.declared.slot.Slot.TheVariants as slot;
 
 use crate::layout::Layout;
-use crate::pass::{Pass, put_object, see_hold, see_tail, take_object};
+use crate::pass::{
+    Pass, lower, put_object, raise_hold, see_floor, see_hold, see_stop, see_tail, stop, take_object,
+};
 use crate::rule::Order;
-use crate::telling::{mark_plain, publish};
+use crate::telling::{commit, mark_plain, open, publish, put_paid};
+use crate::walking::event_at;
 use atomic_table::Table;
-use gl_model::Act;
+use gl_model::{Act, Row, Stamp, Tx, VarSet};
 use gl_rule::{Know, Slot};
 use gl_segments::Ring;
 use gl_state::{KeptRow, ListState};
@@ -115,6 +124,43 @@ impl Shared {
         )
     }
 
+    /// Publishes the commit of an attempt, on these variables, and answers its position. The words of the event are stored in the cell of
+    /// the tail first. Nothing waits for its entry afterwards.
+    pub fn publish_commit(
+        &self,
+        pass: &mut Pass,
+        tx: Box<Tx>,
+        vars: &VarSet,
+        state: &ListState,
+    ) -> u64
+        requires table { pass.old.own.table ≡ self.now.id }
+        requires spare { 0 < pass.old.spare }
+        requires vars { vars.now ≡ variables_of tx.value }
+        requires may { MayPublishTx self.now.key pass.old tx.value state.now }
+        ensures published { pass.new ≡ published_tx pass.old tx.value result state.now }
+        ensures later { pass.old.seen ≤ result }
+    {
+        commit(
+            &self.table.shared,
+            pass,
+            self.layout.ring.len(),
+            tx,
+            vars,
+            state,
+        )
+    }
+
+    /// The event at a position that the pass has seen and may walk from: it holds a row of which an Info stands there or below, or whose hold it
+    /// raised that far. The pass knows the event from then on, and has seen no more than a ring's length behind it.
+    pub fn event_at(&self, pass: &mut Pass, pos: u64) -> Stamp
+        requires table { pass.old.own.table ≡ self.now.id }
+        requires may { (pos < pass.old.seen) × MayWalk (view_of pass.old) pos }
+        ensures pass { (a : ℕ) × (b : ℕ) × (c : ℕ) × (d : ℕ) × (e : ℕ) × (pass.new ≡ knew (four_words pass.old pos a b c d) pos e result) }
+        ensures ring { pass.old.seen ≤ pos + capacity self.now.key }
+    {
+        event_at(&self.table.shared, pass, self.layout.ring.len(), pos)
+    }
+
     /// Tries to take a row.
     pub fn take_row(&self, pass: &mut Pass, var: u16) -> Result<KeptRow, Busy>
         requires table { pass.old.own.table ≡ self.now.id }
@@ -148,5 +194,82 @@ impl Shared {
         ensures { pass.new ≡ marked_plain pass.old var result write value raised }
     {
         mark_plain(&self.table.shared, pass, var, write, value, raised)
+    }
+
+    /// Loads the hold of a row: no position below it is walked from for the variable.
+    pub fn hold_of(&self, pass: &mut Pass, var: u16) -> u64
+        requires table { pass.old.own.table ≡ self.now.id }
+        requires near { var < VARIABLES }
+        ensures pass { pass.new ≡ after pass.old (saw (view_of pass.old) (Hold (var + 1) result)) }
+    {
+        see_hold(&self.table.shared, pass, var + 1)
+    }
+
+    /// Loads the hold of a row that the pass holds, which stays as it is until the row is put back, or until the pass raises it.
+    pub fn floor_of(&self, pass: &mut Pass, var: u16)
+        requires table { pass.old.own.table ≡ self.now.id }
+        requires near { var < VARIABLES }
+        requires held { Contains pass.old.own.held (held_at (var + 1) pass.old.own.held) × ((held_at (var + 1) pass.old.own.held).object ≡ suc var) }
+        ensures pass { (n : ℕ) × (pass.new ≡ after pass.old (saw_floor (view_of pass.old) (held_at (var + 1) pass.old.own.held) n)) }
+    {
+        see_floor(&self.table.shared, pass, var);
+    }
+
+    /// Raises the hold of a row that the pass holds, whose Infos were moved up in `row`.
+    pub fn raise_hold(&self, pass: &mut Pass, var: u16, row: &Row, to: u64)
+        requires table { pass.old.own.table ≡ self.now.id }
+        requires near { var < VARIABLES }
+        requires may { (taken : ARow) × MayRaise self.now.key.setting (shelf_of pass.old) (view_of pass.old) (held_at (var + 1) pass.old.own.held) var taken row.now to }
+        ensures pass { pass.new ≡ after pass.old (raised (view_of pass.old) (held_at (var + 1) pass.old.own.held) (slot.Row row.now) to) }
+    {
+        raise_hold(&self.table.shared, pass, var, row, to);
+    }
+
+    /// Raises the first segment that the ring has to `to`, where it is below, and answers what it is then. A Trim is stored exactly where it rose.
+    pub fn raise_low(&self, pass: &mut Pass, to: u64) -> u64
+        requires table { pass.old.own.table ≡ self.now.id }
+        requires spare { 0 < pass.old.spare }
+        requires may { MayTrim self.now.key (shelf_of pass.old) (view_of pass.old) to }
+        ensures low { (n : ℕ) × (result ≡ max n to) × (pass.new ≡ lowered_pass pass.old n to) }
+    {
+        let before = lower(&self.table.shared, pass, to);
+        if before < to { to } else { before }
+    }
+
+    /// Tells all passes to stop.
+    pub fn set_stop(&self, pass: &mut Pass)
+        requires table { pass.old.own.table ≡ self.now.id }
+        ensures { pass.new ≡ pass.old }
+    {
+        stop(&self.table.shared, pass);
+    }
+
+    /// Whether the passes were told to stop.
+    pub fn stopped(&self, pass: &mut Pass) -> bool
+        requires table { pass.old.own.table ≡ self.now.id }
+        ensures { (n : ℕ) × (IsTrue result ↔ (n ≢ 0)) × (pass.new ≡ after pass.old (saw (view_of pass.old) (Stop n))) }
+    {
+        see_stop(&self.table.shared, pass) != 0
+    }
+
+    /// Draws a number on a row that the pass holds, for a look with the row's word, or, with None, for the end of an attempt. It waits
+    /// for the attempt's entry.
+    pub fn mark_open(&self, pass: &mut Pass, var: u16, look: Option<i64>) -> u64
+        requires table { pass.old.own.table ≡ self.now.id }
+        requires near { var < VARIABLES }
+        requires may { MayOpenOn pass.old var look }
+        ensures { pass.new ≡ opened pass.old var result look }
+    {
+        open(&self.table.shared, pass, var, look)
+    }
+
+    /// Puts a row back, whose word became the one that the pass owes it. It owes it no more then.
+    pub fn put_paid(&self, pass: &mut Pass, var: u16, row: KeptRow)
+        requires table { pass.old.own.table ≡ self.now.id }
+        requires near { var < VARIABLES }
+        requires may { MayPayOn pass.old var row }
+        ensures { pass.new ≡ paid_back pass.old var row }
+    {
+        put_paid(&self.table.shared, pass, var, row);
     }
 }

@@ -2,21 +2,27 @@
 ghost use Rattle.std.specs.Prelude.{◌≡◌, ℕ, ◌≤◌, ◌<◌, ◌^◌, [], map, length};
 ghost use Rattle.gl_model.specs.declared.event.Event.TheVariants.{Act as Does};
 ghost use Rattle.gl_model.specs.Entries.{Sync, seen};
+ghost use Rattle.gl_model.specs.Records.{variables_of};
 ghost use Rattle.gl_table.specs.CaughtUp.{caught_up};
+ghost use Rattle.gl_table.specs.Committing.{MayPublishTx, published_tx};
 ghost use Rattle.gl_table.specs.KeyOf.{key_of};
 ghost use Rattle.gl_rule.specs.Objects.{capacity};
 ghost use Rattle.gl_table.specs.OfTable.{OfTable};
 ghost use Rattle.gl_table.specs.PassInside.{IsReady};
 ghost use Rattle.gl_table.specs.PassView.{view_of, after_storing};
-ghost use Rattle.gl_table.specs.Putting.{MayPutWords, MayPublishAct, MayMarkPlain, marked_plain, published_act};
+ghost use Rattle.gl_table.specs.Putting.{MayPutWords, MayPublishAct, MayMarkPlain, MayOpenOn, MayPayOn, marked_plain, opened, paid_back, published_act};
 ghost use Rattle.gl_rule.specs.View.{published};
 ghost use Rattle.gl_rule.specs.declared.slot.Slot.TheVariants as slot;
 
-use crate::moves::{Board, Seat, draw_number, publish_act, put_word};
-use crate::pack::pack;
+use crate::hold::bring;
+use crate::moves::{
+    Board, Seat, draw_number, leave_paid, open_number, publish_act, publish_tx, put_word,
+};
+use crate::pack::{pack, pack_commit};
 use crate::pass::Pass;
-use gl_model::{Act, Entry};
-use gl_state::ListState;
+use gl_model::{Act, Entry, Tx, VarSet};
+use gl_rule::Slot;
+use gl_state::{KeptRow, ListState};
 use std::marker::Brand;
 
 // Stores the words in the cell of the tail.
@@ -79,6 +85,39 @@ pub(crate) fn publish(
     at
 }
 
+// Publishes a commit of these variables, by which the list's state became `state`.
+pub(crate) fn commit(
+    board: &Board,
+    pass: &mut Pass,
+    cells: u64,
+    tx: Box<Tx>,
+    vars: &VarSet,
+    state: &ListState,
+) -> u64
+    requires table { OfTable pass.old.own.table board.now.table_id (key_of board.now.key) }
+    requires cells { (cells ≡ capacity (key_of board.now.key)) × (cells < 2 ^ 32) }
+    requires spare { 0 < pass.old.spare }
+    requires vars { vars.now ≡ variables_of tx.value }
+    requires may { MayPublishTx (key_of board.now.key) pass.old tx.value state.now }
+    ensures published { pass.new ≡ published_tx pass.old tx.value result state.now }
+    ensures later { pass.old.seen ≤ result }
+{
+    let words = pack_commit(pass.id, vars);
+    put_words(
+        board,
+        &mut pass.seat,
+        pass.id,
+        &pass.mine,
+        (pass.seen % cells) as usize,
+        &words,
+    );
+    let at = publish_tx::<Brand>(board, &mut pass.seat, pass.id, &pass.mine, &tx, state);
+    tx.keeps();
+    pass.mine.push_reserved(Entry::Commit { at, tx });
+    pass.seen = at + 1;
+    at
+}
+
 // Draws the number of a plain access on a held row, and stores its entry.
 pub(crate) fn mark_plain(
     board: &Board,
@@ -113,4 +152,29 @@ pub(crate) fn mark_plain(
         raised,
     });
     nth
+}
+
+// Draws a number on a held row, for a look with this word or for the end of an attempt.
+pub(crate) fn open(board: &Board, pass: &mut Pass, var: u16, look: Option<i64>) -> u64
+    requires table { OfTable pass.old.own.table board.now.table_id (key_of board.now.key) }
+    requires near { var < 1024 }
+    requires may { MayOpenOn pass.old var look }
+    ensures opened { pass.new ≡ opened pass.old var result look }
+{
+    open_number::<Brand>(board, &mut pass.seat, pass.id, &pass.mine, var, look)
+}
+
+// Puts a row back, which has a value that was owed.
+pub(crate) fn put_paid(board: &Board, pass: &mut Pass, var: u16, row: KeptRow)
+    requires table { OfTable pass.old.own.table board.now.table_id (key_of board.now.key) }
+    requires near { var < 1024 }
+    requires may { MayPayOn pass.old var row }
+    ensures { pass.new ≡ paid_back pass.old var row }
+{
+    bring(&mut pass.seat, pass.order.as_mut_slice(), var + 1);
+    pass.order.remove(0);
+    let Slot::Empty = board.exchange(&mut pass.seat, var as usize + 1, Slot::Row(row)) else {
+        unreachable!()
+    };
+    leave_paid::<Brand>(board, &mut pass.seat, pass.id, &pass.mine, var);
 }

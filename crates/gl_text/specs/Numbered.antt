@@ -6,7 +6,8 @@ pub record NumberedLine : Type 0 where
   pub number : ℕ
   pub text : List ℕ
 
--- how many lines were given, and those that are left
+-- how many lines were given, those that are left, and their bytes
 pub record LinesLeft : Type 0 where
   pub given : ℕ
   pub left : List (List ℕ)
+  pub rest : List ℕ

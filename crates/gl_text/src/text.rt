@@ -80,7 +80,7 @@ pub struct Lines<'a> {
     given: u32,
 }
 
-// Seen as the number of lines that were given, and those that are left.
+// Seen as the number of lines that were given, those that are left, and their bytes.
 impl<'a> Model for Lines<'a> {
     ghost use Rattle.std.specs.Prelude.{◌+◌, ◌<◌, ◌^◌, ◌-◌, length};
     ghost use Rattle.std.specs.Str.Lines.{lines};
@@ -88,7 +88,7 @@ impl<'a> Model for Lines<'a> {
 
     ghost Value = { LinesLeft };
 
-    ghost view = { λ s. record { given = s.given; left = lines s.rest.now } };
+    ghost view = { λ s. record { given = s.given; left = lines s.rest.now; rest = s.rest.now } };
 
     ghost invariant = { λ s. s.given + length s.rest.now < 2 ^ 32 - 1 };
 }
@@ -104,6 +104,32 @@ impl<'a> Lines<'a> {
             rest: text,
             given: 0,
         }
+    }
+
+    /// The bytes that are left.
+    pub fn rest(&self) -> &'a [u8]
+        ensures bytes { result.now ≡ self.now.rest }
+        ensures lines { lines result.now ≡ self.now.left }
+    {
+        self.rest
+    }
+
+    /// How many lines were given so far.
+    pub fn given(&self) -> u32
+        ensures value { result ≡ self.now.given }
+        ensures few { result < u32.MAX }
+    {
+        self.given
+    }
+
+    /// Counts a line that was read from the bytes that are left, and goes on behind it.
+    pub fn skip_to(&mut self, rest: &'a [u8])
+        requires { length rest.now < length self.old.rest }
+        ensures given { self.new.given ≡ self.old.given + 1 }
+        ensures left { self.new.left ≡ lines rest.now }
+    {
+        self.rest = rest;
+        self.given += 1;
     }
 
     /// The next line with its number, or `None` where no line is left.
@@ -168,6 +194,13 @@ impl<'a> Line<'a> {
         ensures { result ≡ self.now.number }
     {
         self.number
+    }
+
+    /// The bytes of the line.
+    pub fn text(&self) -> &'a [u8]
+        ensures { result.now ≡ self.now.text }
+    {
+        self.text
     }
 
     /// Whether the line has a byte that no line may have.

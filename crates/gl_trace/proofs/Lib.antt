@@ -1,4 +1,5 @@
 pub mod IdsLemmas
 pub mod TraceLemmas
 pub mod TracerLemmas
+pub mod QuickLemmas
 pub mod WholeTraces

@@ -10,3 +10,4 @@ pub mod Reads
 pub mod Judging
 pub mod Verdicts
 pub mod Traced
+pub mod Quick

@@ -13,6 +13,7 @@ ghost use Rattle.gl_trace.specs.declared.limits.TheConstants.{TRACE_LINES};
 use crate::kept::Trace;
 use crate::limits::{TRACE_BYTES, TRACE_LINES};
 use crate::phrase::said_by;
+use crate::quick::quick_line;
 use crate::standing::Standing;
 use gl_model::{Act, Item, StepFault};
 use gl_text::kinds::{
@@ -92,9 +93,25 @@ impl<'a> TraceReader<'a> {
         })
     }
 
-    /// Reads the next line that says something: answers its number and its thread, and writes what it says to `item`. `None` at the end
-    /// of a text without a fault; else its first fault, behind which nothing is to be read. Then nothing is said of `item`.
-    pub fn next_line(&mut self, item: &mut Item) -> Result<Option<(u32, u8)>, TextFault>
+    // Reads the next line where it is of the usual form and has no fault; else nothing is read, and nothing said of it or of `item`.
+    fn quick_next(&mut self, item: &mut Item) -> Option<(u32, u8)>
+        ensures line { (text : List ℕ) (made : List TraceLine) → IsReadTo text made self.old → IfSome result (λ x. IsReadTo text (made ++ (x.0, x.1, item.new) ∷ []) self.new) }
+        ensures none { result ≡ None → self.new ≡ self.old }
+        ensures range { IfSome result (λ x. IsStep (x.1, item.new)) }
+        ensures shorter { IfSome result (λ x. length self.new.lines.left < length self.old.lines.left) }
+    {
+        let (thread, rest) = quick_line(self.lines.rest(), item)?;
+        let number = self.lines.given() + 1;
+        if number > TRACE_LINES || self.standing.fault(thread, item).is_some() {
+            return None;
+        }
+        self.lines.skip_to(rest);
+        self.standing.take(thread, item);
+        Some((number, thread))
+    }
+
+    // Reads lines until one says something or has a fault, or none is left.
+    fn full_next(&mut self, item: &mut Item) -> Result<Option<(u32, u8)>, TextFault>
         ensures line { (text : List ℕ) (made : List TraceLine) → IsReadTo text made self.old → IfOk result (λ o. MatchOption o (IsTrace text made) (λ x. IsReadTo text (made ++ (x.0, x.1, item.new) ∷ []) self.new)) }
         ensures fault { (text : List ℕ) (made : List TraceLine) → IsReadTo text made self.old → IfErr result (λ f. IsFirstFault text f.line f.kind) }
         ensures range { IfOk result (λ o. IfSome o (λ x. IsStep (x.1, item.new))) }
@@ -112,6 +129,20 @@ impl<'a> TraceReader<'a> {
             }
         }
         Ok(None)
+    }
+
+    /// Reads the next line that says something: answers its number and its thread, and writes what it says to `item`. `None` at the end
+    /// of a text without a fault; else its first fault, behind which nothing is to be read. Then nothing is said of `item`.
+    pub fn next_line(&mut self, item: &mut Item) -> Result<Option<(u32, u8)>, TextFault>
+        ensures line { (text : List ℕ) (made : List TraceLine) → IsReadTo text made self.old → IfOk result (λ o. MatchOption o (IsTrace text made) (λ x. IsReadTo text (made ++ (x.0, x.1, item.new) ∷ []) self.new)) }
+        ensures fault { (text : List ℕ) (made : List TraceLine) → IsReadTo text made self.old → IfErr result (λ f. IsFirstFault text f.line f.kind) }
+        ensures range { IfOk result (λ o. IfSome o (λ x. IsStep (x.1, item.new))) }
+        ensures shorter { IfOk result (λ o. IfSome o (λ x. length self.new.lines.left < length self.old.lines.left)) }
+    {
+        match self.quick_next(item) {
+            Some(read) => Ok(Some(read)),
+            None => self.full_next(item),
+        }
     }
 }
 

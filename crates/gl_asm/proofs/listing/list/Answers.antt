@@ -12,8 +12,8 @@ pub push_functions-requires : goal.push_functions-requires
 push_functions-requires c = is_short c.args.program.now c.main-main.ensures.faultless c.main-main.ensures.valid
 
 pub returns-clause-text : goal.returns-clause-text
-returns-clause-text c = λ built.
+returns-clause-text c =
     let P = c.args.program.now in
     let valid = c.main-main.ensures in
     let bytes : c.into_bytes.result.items ≡ listing P = search rules in
-    subst (λ text. IsText text P []) (sym bytes) (listing_is_text P valid.faultless valid.thrown c.in_ok-push_functions.ensures.typed built)
+    subst (λ text. IsText text P []) (sym bytes) (listing_is_text P valid.faultless valid.thrown c.in_ok-push_functions.ensures.typed)

@@ -1,5 +1,5 @@
 use Rattle.gl_rule.proofs.Ending.{table_lawful}
-use Rattle.gl_rule.proofs.Trimming.{trimmed}
+use Rattle.gl_rule.proofs.Trimming.{trimmed, by_segments}
 use Rattle.gl_rule.proofs.laws.closed_tables_are_lawful.Goals as goal
 
 pub returns-clause-lawful : goal.returns-clause-lawful
@@ -7,3 +7,6 @@ returns-clause-lawful c = λ key s id v rule here h rising. table_lawful key rul
 
 pub returns-clause-trims : goal.returns-clause-trims
 returns-clause-trims c = λ key s id v rule here h. trimmed key s id v rule here h
+
+pub returns-clause-segments : goal.returns-clause-segments
+returns-clause-segments c = by_segments

@@ -1,9 +1,9 @@
-use Rattle.std.proofs.Common.{◌≡◌, take, map, false}
+use Rattle.std.proofs.Common.{None, ◌≡◌, take, map, false}
 use Rattle.gl_model.specs.Machine.{trace_setting}
 use Rattle.gl_model.specs.Entries.{seen}
 use Rattle.gl_table.specs.CaughtUp.{caught_up}
 use Rattle.gl_table.specs.PassInside.{IsReady}
-use Rattle.gl_table.specs.Says.{no_key, no_event, no_mark, no_held}
+use Rattle.gl_table.specs.Says.{no_tx, no_key, no_event, no_mark, no_held}
 use Rattle.gl_table.proofs.telling.put_words.Given as goal
 
 abbrev pub invariant-loop-i : goal.invariant-loop-i
@@ -13,4 +13,4 @@ invariant-loop-i l =
     × (caught_up l.seat.me.0 l.id (map seen l.mine.items) ≡ record (caught_up l.initial.seat.me.0 l.id (map seen l.mine.items)) { stored = take l.i l.words })
 
 abbrev pub ghosts-put_word : goal.ghosts-put_word
-ghosts-put_word a = record { view = caught_up a.seat.now.me.0 a.id (map seen a.mine.now.items); setting = trace_setting; key = no_key; object = 0; quiet = false; held = no_held; event = no_event; mark = no_mark }
+ghosts-put_word a = record { view = caught_up a.seat.now.me.0 a.id (map seen a.mine.now.items); setting = trace_setting; key = no_key; object = 0; quiet = false; held = no_held; event = no_event; mark = no_mark; look = None; tx = no_tx; index = 0 }

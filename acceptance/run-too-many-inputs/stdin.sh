@@ -1,0 +1,1 @@
+printf 'func main 0 0\nnext:\ninput\npop\njump next\ninput'; yes ' 7' | head -n 65537 | tr -d '\n'; echo
