@@ -15,8 +15,10 @@ CLAIMS = [
     ("what `check` answers", [("gl_run", "Check", "ChecksText")]),
     ("what `list` answers", [("gl_run", "Listed", "ListsText")]),
     ("what `run` answers", [("gl_run", "Runs", "RunsText")]),
-    ("what words that are no command are answered, and which are one", [("gl_run", "Command", "AnswersUsage"), ("gl_run", "Words", "command_of")]),
-    ("all that `goldi` promises", [("gl_run", "Command", n) for n in ("HasCauses", "HasLeft", "Serves")] + [("gl_run", "Words", "command_of")]),
+    ("what words that are no command are answered, and which are one",
+     [("gl_run", "Command", "AnswersUsage"), ("gl_run", "Words", "command_of")]),
+    ("all that `goldi` promises",
+     [("gl_run", "Command", name) for name in ("HasCauses", "HasLeft", "Serves")] + [("gl_run", "Words", "command_of")]),
 ]
 
 HEAD = re.compile(r"(?:abbrev |unfoldable |pub )*(?:record |data )?([^\s:(]+)")
@@ -56,7 +58,8 @@ def reached(claim, bodies, imports):
             continue
         seen.add(key)
         for word in set(re.findall(r"[^\s(){}\[\];,.λ]+", "".join(bodies[key]))):
-            todo.append((key[0], key[1], word) if (key[0], key[1], word) in bodies else imports[key[:2]].get(word, (None, None, None)))
+            here = (key[0], key[1], word)
+            todo.append(here if here in bodies else imports[key[:2]].get(word, (None, None, None)))
     return seen
 
 
@@ -71,7 +74,8 @@ def counts():
 
 
 def table(rows):
-    return "\n".join(["| Claim | Lines | Definitions |", "|---|---|---|"] + [f"| {words} | {lines:,} | {held} |" for words, lines, held in rows])
+    cells = [f"| {words} | {lines:,} | {held} |" for words, lines, held in rows]
+    return "\n".join(["| Claim | Lines | Definitions |", "|---|---|---|"] + cells)
 
 
 def parts():
@@ -82,7 +86,8 @@ def parts():
 
 def check():
     stated = {words: int(lines.replace(",", "")) for words, lines in re.findall(r"^\| (.*) \| ([\d,]+) \| \d+ \|$", parts()[1], re.M)}
-    grown = [f"{words}: {lines} lines, where docs/definitions.md says {stated.get(words)}" for words, lines, _ in counts() if lines > stated.get(words, -1)]
+    grown = [f"{words}: {lines} lines, where docs/definitions.md says {stated.get(words)}"
+             for words, lines, _ in counts() if lines > stated.get(words, -1)]
     sys.exit("\n".join(grown + ["docs/believed.py --write"]) if grown else 0)
 
 

@@ -1,13 +1,17 @@
 pub mod Agreement
 pub mod Answers
 pub mod Attempts
+pub mod AttemptWords
+pub mod Attending
 pub mod DepthSearch
 pub mod Drafts
+pub mod Exchanges
 pub mod FaultKinds
 pub mod Faultless
 pub mod Growth
 pub mod OneMeaning
 pub mod Rows
+pub mod RunningAttempts
 pub mod Soundness
 pub mod ValidExample
 pub mod Validation

@@ -1,5 +1,7 @@
+pub mod Attending
 pub mod Catches
 pub mod Faults
+pub mod Forced
 pub mod Fits
 pub mod Instructions
 pub mod Lawful

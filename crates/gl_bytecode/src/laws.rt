@@ -2,6 +2,7 @@ ghost use Rattle.std.specs.Prelude.{◌≡◌, ℕ, ◌<◌, ◌≤◌, slice_ge
 ghost use Rattle.gl_model.specs.declared.limits.TheConstants.{CLASSES, MONITORS, VARIABLES};
 ghost use Rattle.gl_bytecode.specs.declared.fault.ProgFault.{ProgFault as Fault};
 ghost use Rattle.gl_bytecode.specs.Faults.{IsFaultless, IsFirstFault};
+ghost use Rattle.gl_bytecode.specs.Forced.{ExchangesAreForced};
 ghost use Rattle.gl_bytecode.specs.Programs.{Bytecode, Draft, draft_of};
 ghost use Rattle.gl_bytecode.specs.References.{object_at, object_of, reference_to};
 
@@ -15,4 +16,11 @@ pub fn one_meaning()
 /// A reference that is laid out from the numbers of an object refers to that object.
 pub fn references_are_read_back()
     ensures { (P : Bytecode) (o c d v : ℕ) → o < MONITORS → c < CLASSES → d ≤ VARIABLES → object_at P (reference_to o c d v) ≡ object_of o d v (slice_get P.classes c) }
+{}
+
+/// The entries of a list force its exchanges: two lists of exchanges with the same entries, each of which ends with an entry and
+/// outside attempts, are the same. So what a thread's machine was answered can be read off the thread's list: a word that an attempt
+/// was answered with is a look of the entry that ends the attempt.
+pub fn exchanges_are_forced()
+    ensures { ExchangesAreForced }
 {}

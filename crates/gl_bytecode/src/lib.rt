@@ -13,6 +13,7 @@ mod limits;
 mod object;
 mod parts;
 mod program;
+mod stated;
 #[cfg(test)]
 mod tests;
 mod validator;
@@ -23,7 +24,7 @@ pub use fault::{
     STACK_DEPTH, TOO_LONG,
 };
 pub use instr::{Catch, Flow, Instr};
-pub use laws::{one_meaning, references_are_read_back};
+pub use laws::{exchanges_are_forced, one_meaning, references_are_read_back};
 pub use limits::{
     BAD_THREAD, CALLERS, CATCHES, CODE, DEPTH, DIVIDE, HEAP_FULL, INPUT_END, LEAST_THROWN, LOCALS,
     MOST_THROWN, NO_FIELD, NOT_OWNER, NULL, OPERANDS, RACE, THREADS_FULL, TX_STATE, TX_TOO_LARGE,
@@ -31,4 +32,5 @@ pub use limits::{
 pub use object::{CLASS_UNIT, Fields, Object, VARIABLE_UNIT, VOLATILE_UNIT};
 pub use parts::Parts;
 pub use program::Program;
+pub use stated::{codes_are_stated, kinds_are_stated, limits_are_stated, units_are_stated};
 pub use validator::validate;

@@ -8,7 +8,10 @@ ghost use Rattle.gl_draws.specs.RowFacts.{Fails, SomeFails, read_of};
 ghost use Rattle.gl_model.specs.Entries.{Entry};
 ghost use Rattle.gl_model.specs.Machine.{Setting};
 ghost use Rattle.gl_draws.specs.Draws.{Draw};
+ghost use Rattle.gl_draws.specs.Added.{IsAdded, IsAddedAs};
 ghost use Rattle.gl_draws.specs.NextRaces.{IsRacyNext};
+ghost use Rattle.gl_model.specs.HappensBefore.{IsRacy};
+ghost use Rattle.gl_model.specs.Records.{Lists, Place};
 ghost use Rattle.gl_judge.specs.Standing.{KeptStands, InfosStand, StandsFor, AsksFor};
 ghost use Rattle.gl_judge.specs.Asked.{IsFrom, IsAbsentOrFrom, IsRowFrom, IsAskedOver};
 ghost use Rattle.gl_model.specs.Infos.{InfoFor};
@@ -101,7 +104,8 @@ fn some_conflict_fails(row: &Row, q: &Question, from: u64, window: &[Stamp], cut
 }
 
 /// Whether a next access of the row's variable completes a race: Race exactly where the lockset of some Info that conflicts
-/// with it does not let it pass. The window is the list of events from a position on; no Info's position is outside of it. Each Info is asked
+/// with it does not let it pass. Over a row that stands that is exactly where the access is racy, and in any record to which its entry is added
+/// exactly where that entry is, by the race law. The window is the list of events from a position on; no Info's position is outside of it. Each Info is asked
 /// of the early cuts, then of the late ones over the events from its position on, and then walked: the cuts change no answer.
 /// This is said of each list in which the row's Infos stand for accesses and the question is of a next access.
 pub fn judge(row: &Row, q: &Question, from: u64, window: &[Stamp], cuts: &Cuts) -> Verdict
@@ -110,6 +114,7 @@ pub fn judge(row: &Row, q: &Question, from: u64, window: &[Stamp], cuts: &Cuts) 
     requires within { IsRowFrom from window.now row.now }
     ensures fails { (setting : Setting) (h : List AStamp) → IsAskedOver setting h from window.now q.now → InfosStand setting h row.now → (result ≡ Race) ↔ SomeFails h row.now q.now }
     ensures racy { (setting : Setting) (h : List AStamp) (x : ℕ) (ds : List Draw) (f : Entry) → IsAskedOver setting h from window.now q.now → StandsFor setting h x ds row.now q.now.thread → AsksFor q.now f x → (result ≡ Race) ↔ IsRacyNext h x ds q.now.thread q.now.commit f }
+    ensures record { (setting : Setting) (h later : List AStamp) (x m : ℕ) (before after : ℕ → List Draw) (R : Lists) (d : Place) (f : Entry) → IsAskedOver setting h from window.now q.now → StandsFor setting h x (before x) row.now q.now.thread → AsksFor q.now f x → d.thread ≡ q.now.thread → IsAdded h later R before after d f x m → IsAddedAs setting h later R d q.now.commit → (result ≡ Race) ↔ IsRacy R d x }
 {
     if some_conflict_fails(row, q, from, window, cuts) {
         Verdict::Race

@@ -40,7 +40,8 @@ use Rattle.gl_lines.proofs.TraceAttempts.{commit_attempt, refused_attempt, commi
 use Rattle.gl_lines.proofs.TraceEvents.{IsRecorded, entry_own}
 use Rattle.gl_lines.proofs.TraceMachine.{with_at-here}
 use Rattle.gl_lines.proofs.TracePlain.{plain_recorded}
-use Rattle.gl_lines.proofs.TraceRaces.{access_is, racy_alike}
+use Rattle.gl_draws.proofs.Added.{access_is}
+use Rattle.gl_lines.proofs.TraceRaces.{racy_alike}
 
 -- the last place of a list with one entry more
 abbrev pub end_place : Lists → ℕ → Place

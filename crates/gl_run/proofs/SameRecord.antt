@@ -6,6 +6,7 @@ use Rattle.std.proofs.lemmas.Bool.{cases_eq, cases_lt, eq-eqb, ne_eqb}
 use Rattle.gl_model.specs.Entries.{Entry}
 use Rattle.gl_model.specs.Kept.{IsRecord}
 use Rattle.gl_model.specs.Lists.{list_of, lists_of}
+use Rattle.gl_trace.proofs.TracerLemmas.{below_none, weaker}
 
 -- the list of the first thread
 first_list : (l : ℕ × List Entry) (ls : List (ℕ × List Entry)) (t : ℕ) → l.0 ≡ t → lists_of (l ∷ ls) t ≡ l.1
@@ -16,9 +17,8 @@ other_list : (l : ℕ × List Entry) (ls : List (ℕ × List Entry)) (t : ℕ) �
 other_list l ls t other = ap (λ b. unwrap_or (if b then Some l.1 else list_of ls t) []) (ne_eqb l.0 t other)
 
 -- a thread below all that have a list has none
-below_all : (ls : List (ℕ × List Entry)) (t : ℕ) → AllByRecursion (λ u. t < u) (map (λ l. l.0) ls) → lists_of ls t ≡ []
-below_all [] t below = refl
-below_all (l ∷ ls) t below = let less = below.0 in other_list l ls t (λ same. omega arith) ∙ below_all ls t below.1
+no_list : (ls : List (ℕ × List Entry)) (t : ℕ) → AllByRecursion (λ u. t < u) (map (λ l. l.0) ls) → lists_of ls t ≡ []
+no_list ls t below = ap (λ o. unwrap_or o []) (below_none t ls below)
 
 some_entry : (es : List Entry) → 0 < length es → es ≡ [] → ⊥
 some_entry [] some none = omega arith
@@ -27,12 +27,8 @@ some_entry (e ∷ es) some none = cc
 -- where each thread has the same list, a list more does not come first
 not_first : (l m : ℕ × List Entry) (ls ms : List (ℕ × List Entry)) → IsRecord (l ∷ ls) → IsRecord (m ∷ ms) → lists_of (l ∷ ls) l.0 ≡ lists_of (m ∷ ms) l.0 → l.0 < m.0 → ⊥
 not_first l m ls ms one two same less =
-    let higher : AllByRecursion (λ u. l.0 < u) (map (λ x. x.0) ms) = higher_all (map (λ x. x.0) ms) l.0 m.0 less two.0.0 in
-    some_entry l.1 one.1.0.1 (sym (first_list l ls l.0 refl) ∙ same ∙ other_list m ms l.0 (λ e. omega arith) ∙ below_all ms l.0 higher)
-  where
-    higher_all : (xs : List ℕ) (a b : ℕ) → a < b → AllByRecursion (λ u. b < u) xs → AllByRecursion (λ u. a < u) xs
-    higher_all [] a b h all = tt
-    higher_all (x ∷ xs) a b h all = (let above = all.0 in omega arith, higher_all xs a b h all.1)
+    let higher : AllByRecursion (λ u. l.0 < u) (map (λ x. x.0) ms) = weaker l.0 m.0 less (map (λ x. x.0) ms) two.0.0 in
+    some_entry l.1 one.1.0.1 (sym (first_list l ls l.0 refl) ∙ same ∙ other_list m ms l.0 (λ e. omega arith) ∙ no_list ms l.0 higher)
 
 pub same_record : (ls ms : List (ℕ × List Entry)) → IsRecord ls → IsRecord ms → ((t : ℕ) → lists_of ls t ≡ lists_of ms t) → ls ≡ ms
 same_record [] [] one two same = refl
@@ -57,7 +53,7 @@ same_record (l ∷ ls) (m ∷ ms) one two same =
     rest_same t thread =
         elim (cases_eq l.0 t) [
           | inl here ↦
-              below_all ls t (subst (λ n. AllByRecursion (λ u. n < u) (map (λ x. x.0) ls)) here one.0.0)
-              ∙ sym (below_all ms t (subst (λ n. AllByRecursion (λ u. n < u) (map (λ x. x.0) ms)) (sym thread ∙ here) two.0.0))
+              no_list ls t (subst (λ n. AllByRecursion (λ u. n < u) (map (λ x. x.0) ls)) here one.0.0)
+              ∙ sym (no_list ms t (subst (λ n. AllByRecursion (λ u. n < u) (map (λ x. x.0) ms)) (sym thread ∙ here) two.0.0))
           | inr other ↦ sym (other_list l ls t other) ∙ same t ∙ other_list m ms t (λ e. other (thread ∙ e))
         ]

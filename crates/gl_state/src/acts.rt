@@ -1,5 +1,5 @@
 // What the list's state becomes by each act that changes it.
-ghost use Rattle.std.specs.Prelude.{◌≡◌, ◌≢◌, ℕ, ◌+◌, ◌<◌, ◌≤◌, ◌^◌, Some};
+ghost use Rattle.std.specs.Prelude.{◌≡◌, ◌≢◌, ℕ, ◌+◌, ◌<◌, ◌≤◌, ◌^◌, Some, length};
 ghost use Rattle.gl_model.specs.declared.limits.TheConstants.{THREADS, MONITORS, VOLATILES};
 ghost use Rattle.gl_state.specs.declared.state.Stage.TheVariants as stage;
 ghost use Rattle.gl_state.specs.Acts.{with_stage, with_word, with_object, with_input, HasRoom, Leaves};
@@ -11,7 +11,8 @@ impl ListState {
     /// The thread begins.
     pub fn begin(&mut self, thread: u8)
         requires there { thread < THREADS }
-        ensures { self.new ≡ with_stage self.old thread stage.Running }
+        ensures near { thread < length self.old.threads }
+        ensures is { self.new ≡ with_stage self.old thread stage.Running }
     {
         self.threads[thread as usize] = Stage::Running;
     }
@@ -19,7 +20,8 @@ impl ListState {
     /// The thread ends.
     pub fn end(&mut self, thread: u8)
         requires there { thread < THREADS }
-        ensures { self.new ≡ with_stage self.old thread stage.Ended }
+        ensures near { thread < length self.old.threads }
+        ensures is { self.new ≡ with_stage self.old thread stage.Ended }
     {
         self.threads[thread as usize] = Stage::Ended;
     }
@@ -27,7 +29,8 @@ impl ListState {
     /// The thread `child` is forked with a function and its argument.
     pub fn fork(&mut self, child: u8, func: u16, value: i64)
         requires there { child < THREADS }
-        ensures { self.new ≡ with_stage self.old child (stage.Forked func value) }
+        ensures near { child < length self.old.threads }
+        ensures is { self.new ≡ with_stage self.old child (stage.Forked func value) }
     {
         self.threads[child as usize] = Stage::Forked { func, value };
     }
@@ -53,7 +56,8 @@ impl ListState {
     /// The volatile gets this word.
     pub fn write(&mut self, field: u16, value: i64)
         requires there { field < VOLATILES }
-        ensures { self.new ≡ with_word self.old field value }
+        ensures near { field < length self.old.volatiles }
+        ensures is { self.new ≡ with_word self.old field value }
     {
         self.volatiles[field as usize] = value;
     }

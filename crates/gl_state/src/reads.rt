@@ -61,8 +61,10 @@ impl ListState {
     }
 
     /// How many threads were forked and have not ended.
+    #[tactic(auto, using(crate::proofs::Counts::few_live))]
     pub fn live(&self) -> usize
         ensures count { result ≡ count_by lives self.now.threads }
+        ensures within { result ≤ THREADS }
     {
         self.threads.iter().filter(|stage| is_live(stage)).count()
     }

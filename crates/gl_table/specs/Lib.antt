@@ -20,3 +20,4 @@ pub mod RightOf
 pub mod Committing
 pub mod Unpacking
 pub mod Walking
+pub mod Saying

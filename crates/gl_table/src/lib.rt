@@ -10,6 +10,7 @@ mod pack;
 mod pass;
 mod rule;
 mod sealed;
+mod setting;
 mod shared;
 mod telling;
 #[cfg(test)]

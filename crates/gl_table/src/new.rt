@@ -1,6 +1,6 @@
 // The beginning of a table.
 ghost use Rattle.std.specs.Prelude.{◌≡◌, ℕ, ◌+◌, ◌-◌, ◌*◌, ◌≤◌, ◌<◌, ◌∷◌, [], IfOk, IfErr};
-ghost use Rattle.gl_model.specs.declared.limits.TheConstants.{THREADS};
+ghost use Rattle.gl_model.specs.declared.limits.TheConstants.{THREADS, FUNCTIONS};
 ghost use Rattle.gl_rule.specs.Objects.{capacity, word_count};
 ghost use Rattle.gl_rule.specs.Opened.{first_slots, shelves_from, sixteen};
 ghost use Rattle.gl_rule.specs.View.{blank};
@@ -106,6 +106,7 @@ impl Shared {
     /// A table with its 16 passes, numbered from 0. The Err hands the layout back.
     pub fn new(alloc: Global, layout: Layout) -> Result<(Shared, Vec<Pass>), (Layout, AllocError)>
         requires ring { IsRing layout.ring }
+        requires main { layout.main < FUNCTIONS }
         ensures key { IfOk result (λ r. r.0.key ≡ key_of layout) }
         ensures passes { IfOk result (λ r. r.1.items ≡ fresh_from r.0.id 0 16) }
         ensures err { IfErr result (λ e. e.0 ≡ layout) }

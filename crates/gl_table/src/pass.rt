@@ -10,6 +10,8 @@ ghost use Rattle.gl_rule.specs.declared.slot.Slot.TheVariants as slot;
 ghost use Rattle.gl_model.specs.Entries.{seen};
 ghost use Rattle.gl_rule.specs.Closed.{IsDone};
 ghost use Rattle.gl_table.specs.Doneness.{is_done, is_over as over_entry};
+ghost use Rattle.gl_table.specs.RightOf.{right_of};
+ghost use Rattle.gl_table.specs.Saying.{IsSaid};
 ghost use Rattle.gl_table.specs.KeyOf.{key_of};
 ghost use Rattle.gl_table.specs.Lowering.{lowered_pass};
 ghost use Rattle.gl_rule.specs.Objects.{objects};
@@ -17,7 +19,8 @@ ghost use Rattle.gl_table.specs.OfTable.{OfTable};
 ghost use Rattle.gl_table.specs.PassView.{view_of, shelf_of, after, after_adding};
 ghost use Rattle.gl_table.specs.Putting.{MayAbort, MayPutBack, held_at};
 ghost use Rattle.gl_rule.specs.Taken.{TakenTold};
-ghost use Rattle.gl_rule.specs.View.{Hold, Stop, took, refused, left, saw_tail, saw, saw_floor, raised};
+ghost use Rattle.gl_draws.specs.RowFacts.{IsWithin};
+ghost use Rattle.gl_rule.specs.View.{Held, Hold, Stop, took, refused, left, saw_tail, saw, saw_floor, raised};
 
 use crate::hold::bring;
 use crate::moves::{
@@ -76,6 +79,51 @@ fn ends(mine: &Vec<Entry>, quiet: bool) -> bool
     is_over(&mine[mine.len() - 1])
 }
 
+// What an entry says of the right on a variable: that it gives it, takes it, or nothing.
+enum RightChange {
+    Gives(u64, bool),
+    Takes,
+    Nothing,
+}
+
+fn right_told(entry: &Entry, of: u16) -> RightChange
+    ensures { IsSaid of (seen entry.now) result }
+{
+    match entry {
+        Entry::Sync { .. } | Entry::Commit { .. } | Entry::Abort { .. } => RightChange::Takes,
+        Entry::Trim { .. } | Entry::Over(_) => RightChange::Nothing,
+        Entry::Plain {
+            var,
+            nth,
+            cached,
+            write,
+            raised,
+            ..
+        } => {
+            if *var == of && !*cached && !*raised {
+                return RightChange::Gives(*nth, *write);
+            }
+            RightChange::Nothing
+        }
+    }
+}
+
+// The right on a variable, from the end of the list.
+fn right_in(mine: &Vec<Entry>, var: u16) -> Option<(u64, bool)>
+    ensures { result ≡ right_of (map seen mine.now.items) var }
+{
+    let mut i = mine.len();
+    while i > 0 {
+        i -= 1;
+        match right_told(&mine[i], var) {
+            RightChange::Gives(nth, write) => return Some((nth, write)),
+            RightChange::Takes => return None,
+            RightChange::Nothing => {}
+        }
+    }
+    None
+}
+
 impl Pass {
     /// Its number.
     pub fn id(&self) -> u8
@@ -98,6 +146,13 @@ impl Pass {
         ensures done { result ≡ true → IsDone self.now.own.mine self.now.quiet }
     {
         ends(&self.mine, self.quiet)
+    }
+
+    /// Number and kind of the last numbered performed access of the variable since the last event or dropped attempt: the right to repeat it.
+    pub fn right(&self, var: u16) -> Option<(u64, bool)>
+        ensures { result ≡ right_of self.now.own.mine var }
+    {
+        right_in(&self.mine, var)
     }
 
     /// Makes room for so many entries more.
@@ -168,6 +223,7 @@ pub(crate) fn see_tail(board: &Board, pass: &mut Pass) -> u64
     requires table { OfTable pass.old.own.table board.now.table_id (key_of board.now.key) }
     ensures pass { pass.new ≡ after pass.old (saw_tail (view_of pass.old) result) }
     ensures later { pass.old.seen ≤ result }
+    ensures within { (h : Held) (row : ARow) → Contains pass.old.own.held h → h.taken ≡ slot.Row row → IsWithin row result }
 {
     let tail = load_tail::<Brand>(board, &mut pass.seat, pass.id, &pass.mine);
     pass.seen = tail;

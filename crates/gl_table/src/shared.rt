@@ -5,6 +5,7 @@ ghost use Rattle.gl_segments.specs.Rings.{IsRing};
 ghost use Rattle.gl_rule.specs.Objects.{capacity, objects};
 ghost use Rattle.gl_model.specs.declared.row.Row.{Row as ARow};
 ghost use Rattle.gl_rule.specs.Fitting.{MayRaise, MayTrim, MayWalk};
+ghost use Rattle.gl_model.specs.Elements.{IsStampInRange};
 ghost use Rattle.gl_model.specs.Records.{variables_of};
 ghost use Rattle.gl_table.specs.Committing.{MayPublishTx, published_tx};
 ghost use Rattle.gl_table.specs.Walking.{four_words, knew};
@@ -12,7 +13,8 @@ ghost use Rattle.gl_table.specs.Lowering.{lowered_pass};
 ghost use Rattle.gl_table.specs.PassView.{view_of, shelf_of, after};
 ghost use Rattle.gl_table.specs.Putting.{MayPutBack, MayPublishAct, MayMarkPlain, MayOpenOn, MayPayOn, held_at, marked_plain, opened, paid_back, published_act};
 ghost use Rattle.gl_rule.specs.Taken.{StateTold};
-ghost use Rattle.gl_rule.specs.View.{Hold, Stop, took, refused, left, saw_tail, saw, saw_floor, raised};
+ghost use Rattle.gl_draws.specs.RowFacts.{IsWithin};
+ghost use Rattle.gl_rule.specs.View.{Held, Hold, Stop, took, refused, left, saw_tail, saw, saw_floor, raised};
 ghost use Rattle.gl_rule.specs.declared.slot.Slot.TheVariants as slot;
 
 use crate::layout::Layout;
@@ -79,11 +81,12 @@ impl Shared {
         put_object(&self.table.shared, pass, 0, Slot::List(state), quiet);
     }
 
-    /// Loads the tail.
+    /// Loads the tail. The Infos of each row that the pass holds lie within it.
     pub fn tail(&self, pass: &mut Pass) -> u64
         requires table { pass.old.own.table ≡ self.now.id }
         ensures pass { pass.new ≡ after pass.old (saw_tail (view_of pass.old) result) }
         ensures later { pass.old.seen ≤ result }
+        ensures within { (h : Held) (row : ARow) → Contains pass.old.own.held h → h.taken ≡ slot.Row row → IsWithin row result }
     {
         see_tail(&self.table.shared, pass)
     }
@@ -157,6 +160,7 @@ impl Shared {
         requires may { (pos < pass.old.seen) × MayWalk (view_of pass.old) pos }
         ensures pass { (a : ℕ) × (b : ℕ) × (c : ℕ) × (d : ℕ) × (e : ℕ) × (pass.new ≡ knew (four_words pass.old pos a b c d) pos e result) }
         ensures ring { pass.old.seen ≤ pos + capacity self.now.key }
+        ensures range { IsStampInRange result }
     {
         event_at(&self.table.shared, pass, self.layout.ring.len(), pos)
     }

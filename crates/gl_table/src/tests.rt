@@ -13,7 +13,8 @@ use std::thread::Threads;
 const ROUNDS: u32 = 1000;
 
 fn layout(alloc: Global) -> Layout
-    ensures { IsRing result.ring }
+    ensures ring { IsRing result.ring }
+    ensures main { result.main ≡ 0 }
 {
     Layout {
         classes: Classes::empty(alloc),

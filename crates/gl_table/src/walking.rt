@@ -61,6 +61,7 @@ pub(crate) fn event_at(board: &Board, pass: &mut Pass, cells: u64, pos: u64) -> 
     requires may { (pos < pass.old.seen) × MayWalk (view_of pass.old) pos }
     ensures pass { (a : ℕ) × (b : ℕ) × (c : ℕ) × (d : ℕ) × (e : ℕ) × (pass.new ≡ knew (four_words pass.old pos a b c d) pos e result) }
     ensures ring { pass.old.seen ≤ pos + capacity (key_of board.now.key) }
+    ensures range { IsStampInRange result }
 {
     let a = see_word(board, pass, cells, pos, 0);
     let b = see_word(board, pass, cells, pos, 1);

@@ -3,11 +3,11 @@ use Rattle.std.proofs.Common.{◌≡◌, ◌+◌, ◌-◌, ◌<◌, ◌≤◌, �
 use Rattle.std.specs.Option.{option_map}
 use Rattle.std.specs.List.{slice_split, onto_first, position, position_or_len, before_first, after_first}
 use Rattle.std.proofs.lemmas.Bool.{cases_lt, cases_Bool}
-use Rattle.std.proofs.lemmas.List.{drop_all, take_at, drop-drop, length-take-le, take-append-drop}
+use Rattle.std.proofs.lemmas.List.{drop_all, take_at, drop-drop, length-take-le, take-append-drop, append_assoc}
 use Rattle.std.proofs.lemmas.List.Sums.{prefix_len-le-length}
 use Rattle.std.proofs.lemmas.List.Splits.{slice_split-cons_yes, slice_split-cons_no, slice_split_first}
 use Rattle.gl_text.specs.Text.{is_blank, is_hash, is_some_word}
-use Rattle.gl_text.specs.Spans.{spans_from, AreSlices, Rise}
+use Rattle.gl_text.specs.Spans.{spans_from, AreSlices, IsPart, Rise}
 use Rattle.gl_text.proofs.TextLemmas.{place_some, place_none, split_none, word_begins}
 
 -- blanks at the front move the spans up
@@ -100,9 +100,18 @@ stands_split line at (x ∷ xs) more e =
           (stands_onto line at x (xs ++ more) (slice_split is_blank xs) e next rest)
     ]
 
-stands_line : (line : List ℕ) → Stands line 0 (slice_split is_blank (before_first is_hash line))
-stands_line line =
-    stands_split line 0 (before_first is_hash line) (drop (position_or_len is_hash line) line) (sym (take-append-drop (position_or_len is_hash line) line))
+-- the parts of a line that stands in a text from this place on
+stands_line : (whole : List ℕ) (start : ℕ) (line : List ℕ) → IsPart whole start line → Stands whole start (slice_split is_blank (before_first is_hash line))
+stands_line whole start line part =
+    let rest : List ℕ = drop start whole in
+    let count : length line ≡ start + length line - start = omega arith in
+    let front : take (length line) rest ≡ line = ap (λ n. take n rest) count ∙ part in
+    let size : ℕ = position_or_len is_hash line in
+    let split : line ≡ before_first is_hash line ++ drop size line = sym (take-append-drop size line) in
+    let stands : rest ≡ before_first is_hash line ++ (drop size line ++ drop (length line) rest) =
+    sym (take-append-drop (length line) rest) ∙ ap (λ l. l ++ drop (length line) rest) (front ∙ split)
+    ∙ append_assoc (before_first is_hash line) (drop size line) (drop (length line) rest) in
+    stands_split whole start (before_first is_hash line) (drop size line ++ drop (length line) rest) stands
 
 slice_of : (line : List ℕ) (at : ℕ) (p more : List ℕ) → drop at line ≡ p ++ more → slice_range line at (at + length p) ≡ p
 slice_of line at p more e =
@@ -116,8 +125,8 @@ slices line at ((b ∷ bs) ∷ ps) h =
     ap (λ l. (b ∷ bs) ∷ l) (slices line (at + length (b ∷ bs) + 1) ps h.1)
     ∙ ap (λ w. w ∷ map (λ s. slice_range line s.0 s.1) (spans_from (at + length (b ∷ bs) + 1) ps)) (sym (slice_of line at (b ∷ bs) h.0.0 h.0.1))
 
-pub are_slices : (line : List ℕ) → AreSlices line
-are_slices line = slices line 0 (slice_split is_blank (before_first is_hash line)) (stands_line line)
+pub are_slices : (whole : List ℕ) (start : ℕ) (line : List ℕ) → IsPart whole start line → AreSlices whole start line
+are_slices whole start line part = slices whole start (slice_split is_blank (before_first is_hash line)) (stands_line whole start line part)
 
 -- no span begins before the place from which they are counted
 begins : (at : ℕ) (ps : List (List ℕ)) (i : ℕ) (s : ℕ × ℕ) → slice_get (spans_from at ps) i ≡ Some s → at ≤ s.0
@@ -150,10 +159,10 @@ apart at ((b ∷ bs) ∷ ps) zero (suc j) s r e f h =
     omega arith
 apart at ((b ∷ bs) ∷ ps) (suc i) (suc j) s r e f h = apart (at + length (b ∷ bs) + 1) ps i j s r e f (omega arith)
 
-pub rise : (line : List ℕ) → Rise line
-rise line = record {
-  within = λ i s e. within line 0 (slice_split is_blank (before_first is_hash line)) (stands_line line) i s e;
-  apart = λ i j s r e f h. apart 0 (slice_split is_blank (before_first is_hash line)) i j s r e f h;
+pub rise : (whole : List ℕ) (start : ℕ) (line : List ℕ) → IsPart whole start line → Rise whole start line
+rise whole start line part = record {
+  within = λ i s e. within whole start (slice_split is_blank (before_first is_hash line)) (stands_line whole start line part) i s e;
+  apart = λ i j s r e f h. apart start (slice_split is_blank (before_first is_hash line)) i j s r e f h;
 }
 
 -- what `first_span` answers

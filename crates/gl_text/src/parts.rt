@@ -1,9 +1,9 @@
 // Words of a line.
-ghost use Rattle.std.specs.Prelude.{◌≡◌, ◌<◌, ◌≤◌, ◌+◌, not, drop, IfSome, length, MatchOption, [], ◌∷◌, ℕ, List};
+ghost use Rattle.std.specs.Prelude.{◌≡◌, ◌<◌, ◌≤◌, ◌+◌, ◌^◌, not, drop, IfSome, length, MatchOption, [], ◌∷◌, ℕ, List};
 ghost use Rattle.std.specs.List.{position, position_or_len, slice_split};
 ghost use Rattle.std.specs.Iterator.{YieldsFirstBy, item_count};
 ghost use Rattle.gl_text.specs.Text.{is_blank, is_hash, words, parts};
-ghost use Rattle.gl_text.specs.Spans.{spans, spans_from, AreSlices, Rise};
+ghost use Rattle.gl_text.specs.Spans.{spans_at, spans_from, AreSlices, IsPart, Rise};
 
 use std::marker::Model;
 
@@ -119,16 +119,20 @@ impl<'a> Model for Spans<'a> {
     ghost invariant = { λ s. s.at + length s.rest.now < 2 ^ 63 };
 }
 
-/// Where the words of a line stand, up to the first `#`.
-pub(crate) fn spans_of(line: &[u8]) -> Spans<'_>
-    ensures { result ≡ spans line.now }
+/// Where the words of a line stand, up to the first `#`, in a text in which the line begins at this place.
+pub(crate) fn spans_of(line: &[u8], start: usize) -> Spans<'_>
+    requires { start + length line.now < 2 ^ 63 }
+    ensures { result ≡ spans_at start line.now }
 {
     match comment(line) {
         Some(end) => Spans {
             rest: &line[..end],
-            at: 0,
+            at: start,
         },
-        None => Spans { rest: line, at: 0 },
+        None => Spans {
+            rest: line,
+            at: start,
+        },
     }
 }
 
@@ -171,8 +175,8 @@ impl<'a> Iterator for Spans<'a> {
     }
 }
 
-/// The words of a line are its slices at their spans, which rise.
+/// The words of a line are the slices of its text at their spans, which rise.
 pub fn words_are_slices()
-    ensures slices { (line : List ℕ) → AreSlices line }
-    ensures rise { (line : List ℕ) → Rise line }
+    ensures slices { (whole : List ℕ) (start : ℕ) (line : List ℕ) → IsPart whole start line → AreSlices whole start line }
+    ensures rise { (whole : List ℕ) (start : ℕ) (line : List ℕ) → IsPart whole start line → Rise whole start line }
 {}

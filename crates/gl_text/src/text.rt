@@ -1,10 +1,11 @@
 // Lines of a text.
-ghost use Rattle.std.specs.Prelude.{◌≡◌, ◌+◌, ◌<◌, ◌≤◌, length, MatchOption, IfSome, IsNone, [], ◌∷◌, slice_get, Some, None, true};
+ghost use Rattle.std.specs.Prelude.{◌≡◌, ◌+◌, ◌-◌, ◌<◌, ◌≤◌, ℕ, List, take, drop, length, MatchOption, IfSome, IsNone, [], ◌∷◌, slice_get, Some, None, true};
 ghost use Rattle.std.specs.List.{position, list_any};
 ghost use Rattle.std.specs.Str.Lines.{lines, strip_carriage_return};
 ghost use Rattle.std.specs.Iterator.{YieldsFirstBy, item_count};
 ghost use Rattle.gl_text.specs.Text.{is_line_feed, is_special, is_unprintable, is_bad, words, IsPlain};
-ghost use Rattle.gl_text.specs.Spans.{spans};
+ghost use Rattle.gl_text.specs.Numbered.{AreLeftOf};
+ghost use Rattle.gl_text.specs.Spans.{spans_at, IsPart};
 
 use crate::parts::{Spans, Words, parts_of, spans_of, words_of};
 use std::marker::Model;
@@ -18,7 +19,8 @@ fn line_end(text: &[u8]) -> Option<usize>
 
 // A line without the one carriage return at its end.
 fn without_return(line: &[u8]) -> &[u8]
-    ensures { result.now ≡ strip_carriage_return line.now }
+    ensures value { result.now ≡ strip_carriage_return line.now }
+    ensures front { take (length result.now) line.now ≡ result.now }
 {
     match line {
         [front @ .., b'\r'] => front,
@@ -39,6 +41,8 @@ fn plain_line(text: &[u8]) -> Option<(&[u8], &[u8])>
     ensures lines { IfSome result (λ x. lines text.now ≡ x.0.now ∷ lines x.1.now) }
     ensures shorter { IfSome result (λ x. length x.1.now < length text.now) }
     ensures plain { IfSome result (λ x. IsPlain x.0.now) }
+    ensures front { IfSome result (λ x. take (length x.0.now) text.now ≡ x.0.now) }
+    ensures rest { IfSome result (λ x. drop (length text.now - length x.1.now) text.now ≡ x.1.now) }
 {
     let end = plain_end(text)?;
     if text[end] != b'\n' {
@@ -52,6 +56,8 @@ fn any_line(text: &[u8]) -> (&[u8], &[u8])
     requires { 0 < length text.now }
     ensures lines { lines text.now ≡ result.0.now ∷ lines result.1.now }
     ensures shorter { length result.1.now < length text.now }
+    ensures front { take (length result.0.now) text.now ≡ result.0.now }
+    ensures rest { drop (length text.now - length result.1.now) text.now ≡ result.1.now }
 {
     match line_end(text) {
         Some(end) => (without_return(&text[..end]), &text[end + 1..]),
@@ -65,6 +71,8 @@ fn first_line(text: &[u8]) -> (&[u8], bool, &[u8])
     ensures lines { lines text.now ≡ result.0.now ∷ lines result.2.now }
     ensures shorter { length result.2.now < length text.now }
     ensures plain { result.1 ≡ true → IsPlain result.0.now }
+    ensures front { take (length result.0.now) text.now ≡ result.0.now }
+    ensures rest { drop (length text.now - length result.2.now) text.now ≡ result.2.now }
 {
     if let Some((line, rest)) = plain_line(text) {
         return (line, true, rest);
@@ -77,10 +85,11 @@ fn first_line(text: &[u8]) -> (&[u8], bool, &[u8])
 #[derive(Drop)]
 pub struct Lines<'a> {
     rest: &'a [u8],
+    at: usize,
     given: u32,
 }
 
-// Seen as the number of lines that were given, those that are left, and their bytes.
+// Seen as the number of lines that were given, where the next one begins, the bytes that are left, and their lines.
 impl<'a> Model for Lines<'a> {
     ghost use Rattle.std.specs.Prelude.{◌+◌, ◌<◌, ◌^◌, ◌-◌, length};
     ghost use Rattle.std.specs.Str.Lines.{lines};
@@ -88,9 +97,9 @@ impl<'a> Model for Lines<'a> {
 
     ghost Value = { LinesLeft };
 
-    ghost view = { λ s. record { given = s.given; left = lines s.rest.now; rest = s.rest.now } };
+    ghost view = { λ s. record { given = s.given; at = s.at; rest = s.rest.now; left = lines s.rest.now } };
 
-    ghost invariant = { λ s. s.given + length s.rest.now < 2 ^ 32 - 1 };
+    ghost invariant = { λ s. (s.given + length s.rest.now < 2 ^ 32 - 1) × (s.at + length s.rest.now < 2 ^ 32 - 1) };
 }
 
 impl<'a> Lines<'a> {
@@ -99,9 +108,11 @@ impl<'a> Lines<'a> {
         requires { length text.now < u32.MAX }
         ensures given { result.given ≡ 0 }
         ensures left { result.left ≡ lines text.now }
+        ensures place { AreLeftOf text.now result }
     {
         Lines {
             rest: text,
+            at: 0,
             given: 0,
         }
     }
@@ -127,24 +138,32 @@ impl<'a> Lines<'a> {
         requires { length rest.now < length self.old.rest }
         ensures given { self.new.given ≡ self.old.given + 1 }
         ensures left { self.new.left ≡ lines rest.now }
+        ensures place { (whole : List ℕ) → AreLeftOf whole self.old → drop (length self.old.rest - length rest.now) self.old.rest ≡ rest.now → AreLeftOf whole self.new }
     {
+        self.at += self.rest.len() - rest.len();
         self.rest = rest;
         self.given += 1;
     }
 
-    /// The next line with its number, or `None` where no line is left.
+    /// The next line with its number and its place, or `None` where no line is left.
     pub fn next_line(&mut self) -> Option<Line<'a>>
         ensures line { MatchOption result (self.old.left ≡ []) (λ line. self.old.left ≡ line.text ∷ self.new.left) }
         ensures number { MatchOption result (self.new ≡ self.old) (λ line. (line.number ≡ self.old.given + 1) × (self.new.given ≡ line.number)) }
+        ensures start { IfSome result (λ line. line.start ≡ self.old.at) }
+        ensures part { (whole : List ℕ) → AreLeftOf whole self.old → IfSome result (λ line. IsPart whole line.start line.text) }
+        ensures place { (whole : List ℕ) → AreLeftOf whole self.old → AreLeftOf whole self.new }
     {
         if self.rest.is_empty() {
             return None;
         }
         let (text, plain, rest) = first_line(self.rest);
+        let start = self.at;
+        self.at += self.rest.len() - rest.len();
         self.rest = rest;
         self.given += 1;
         Some(Line {
             number: self.given,
+            start,
             text,
             plain,
         })
@@ -166,26 +185,27 @@ impl<'a> Iterator for Lines<'a> {
     }
 }
 
-/// A line of a text, and its number, counted from 1.
+/// A line of a text, its number, counted from 1, and where it begins in the text.
 #[derive(Drop)]
 pub struct Line<'a> {
     number: u32,
+    start: usize,
     text: &'a [u8],
     // Whether it is known that the line has no bad byte and no comment.
     plain: bool,
 }
 
-// Seen as its number and its bytes.
+// Seen as its number, its place and its bytes.
 impl<'a> Model for Line<'a> {
-    ghost use Rattle.std.specs.Prelude.{◌≡◌, true};
+    ghost use Rattle.std.specs.Prelude.{◌≡◌, ◌+◌, ◌-◌, ◌<◌, ◌^◌, length, true};
     ghost use Rattle.gl_text.specs.Numbered.{NumberedLine};
     ghost use Rattle.gl_text.specs.Text.{IsPlain};
 
     ghost Value = { NumberedLine };
 
-    ghost view = { λ s. record { number = s.number; text = s.text.now } };
+    ghost view = { λ s. record { number = s.number; start = s.start; text = s.text.now } };
 
-    ghost invariant = { λ s. s.plain ≡ true → IsPlain s.text.now };
+    ghost invariant = { λ s. (s.plain ≡ true → IsPlain s.text.now) × (s.start + length s.text.now < 2 ^ 32 - 1) };
 }
 
 impl<'a> Line<'a> {
@@ -222,9 +242,9 @@ impl<'a> Line<'a> {
     }
 
     fn spans(&self) -> Spans<'a>
-        ensures { result ≡ spans self.now.text }
+        ensures { result ≡ spans_at self.now.start self.now.text }
     {
-        spans_of(self.text)
+        spans_of(self.text, self.start)
     }
 
     /// The word of this index, from 0 on.
@@ -234,9 +254,9 @@ impl<'a> Line<'a> {
         self.words().nth(i)
     }
 
-    /// Where the word of this index begins in the line, and where it has ended.
+    /// Where the word of this index begins in the text, and where it has ended.
     pub fn span(&self, i: usize) -> Option<(usize, usize)>
-        ensures { result ≡ slice_get (spans self.now.text) i }
+        ensures { result ≡ slice_get (spans_at self.now.start self.now.text) i }
     {
         self.spans().nth(i)
     }

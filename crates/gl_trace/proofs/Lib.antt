@@ -3,3 +3,4 @@ pub mod TraceLemmas
 pub mod TracerLemmas
 pub mod QuickLemmas
 pub mod WholeTraces
+pub mod QuickLists

@@ -1,13 +1,12 @@
 -- Words of a line with one space between, and what they say.
-use Rattle.std.proofs.Common.{◌≡◌, ◌+◌, ◌<◌, ◌≤◌, ℕ, List, [], ◌∷◌, ◌++◌, Bool, true, false, ◌||◌, ◌&&◌, ◌==◌, ◌-◌, zero, suc, Some, None, Ok, nat_le, nat_lt, not, length, drop, take, get_or, refl, ap, sym, ◌∙◌, subst, arith, filter, append_assoc}
+use Rattle.std.proofs.Common.{◌≡◌, ◌+◌, ◌<◌, ◌≤◌, ℕ, List, [], ◌∷◌, ◌++◌, Bool, true, false, ◌||◌, ◌==◌, ◌-◌, suc, Some, None, Ok, nat_le, nat_lt, length, drop, take, get_or, refl, ap, sym, ◌∙◌, subst, arith, filter, append_assoc}
 use Rattle.std.specs.List.{before_first, slice_split, onto_first, list_any, list_all, position, position_or_len}
 use Rattle.std.specs.Char.{is_ascii_digit}
 use Rattle.std.proofs.lemmas.Bool.{le-leb, lt-ltb, le-ltb, leb-true, ne_eqb, and_parts}
-use Rattle.std.proofs.lemmas.List.{length-take-le, take-append-drop}
+use Rattle.std.proofs.lemmas.List.{length-take-le, take-append-drop, length-drop}
 use Rattle.std.proofs.lemmas.List.Splits.{slice_split-cons_yes, slice_split-cons_no}
-use Rattle.gl_model.specs.declared.row.Item.{Item}
 use Rattle.gl_model.specs.declared.limits.TheConstants.{THREADS}
-use Rattle.gl_text.specs.Number.{digits_value, magnitude_of, number_of}
+use Rattle.gl_text.specs.Number.{digits_value, magnitude_of}
 use Rattle.gl_text.specs.Text.{is_blank, is_hash, is_unprintable, is_special, is_bad, is_some_word, parts, words, IsPlain}
 use Rattle.gl_text.proofs.TextLemmas.{fewer_pass}
 use Rattle.gl_text.proofs.PlainLemmas.{plain_good, plain_first}
@@ -15,7 +14,7 @@ use Rattle.gl_trace.specs.declared.form.Form.TheVariants.{One}
 use Rattle.gl_trace.specs.declared.form.Verb.{Verb}
 use Rattle.gl_trace.specs.Form.{form_of, most_of, item_of}
 use Rattle.gl_trace.specs.Ids.{operand_of}
-use Rattle.gl_trace.specs.Phrase.{◌>>=◌, verb_said, step_said, said}
+use Rattle.gl_trace.specs.Phrase.{verb_said, step_said, said}
 use Rattle.gl_model.specs.TraceSteps.{Step, step_fault}
 use Rattle.gl_trace.specs.Trace.{line_fault}
 use Rattle.gl_trace.specs.declared.limits.TheConstants.{TRACE_LINES}
@@ -72,7 +71,7 @@ words_last word is = ap parts (hash_none word is.1) ∙ ap (filter is_some_word)
 
 -- ---- a plain line and its line feed
 
-none_in_both : (p : ℕ → Bool) (xs ys : List ℕ) → list_any p xs ≡ false → list_any p ys ≡ false → list_any p (xs ++ ys) ≡ false
+pub none_in_both : (p : ℕ → Bool) (xs ys : List ℕ) → list_any p xs ≡ false → list_any p ys ≡ false → list_any p (xs ++ ys) ≡ false
 none_in_both p [] ys e f = f
 none_in_both p (x ∷ xs) ys e f = let both = or_none (p x) (list_any p xs) e in rw (both.0, none_in_both p xs ys both.1 f) refl
 
@@ -178,6 +177,9 @@ digits_front text count value most some few within all is le =
 -- and what stops them
 pub stop_behind : (text rest : List ℕ) (count stop : ℕ) → drop count text ≡ stop ∷ rest → text ≡ take count text ++ stop ∷ rest
 stop_behind text rest count stop e = sym (take-append-drop count text) ∙ ap (λ zs. take count text ++ zs) e
+
+pub stop_shorter : (text rest : List ℕ) (count stop : ℕ) → drop count text ≡ stop ∷ rest → length rest < length text
+stop_shorter text rest count stop e = omega (arith, ap length e, length-drop count text)
 
 -- ---- a line that was read has no fault
 

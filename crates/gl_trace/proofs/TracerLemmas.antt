@@ -1,5 +1,5 @@
 -- The record of a trace, entry by entry.
-use Rattle.std.proofs.Common.{◌≡◌, ◌+◌, ◌<◌, ◌≤◌, ℕ, zero, suc, List, [], ◌∷◌, ◌++◌, Bool, true, false, ◌||◌, Option, Some, None, Result, Ok, Err, OnOk, MatchOption, is_some, not, true≢false, add-one, drop, slice_get, if◌then◌else◌, nat_lt, ◌==◌, length, take, map, get_or, inl, inr, refl, ap, sym, ◌∙◌, arith, subst}
+use Rattle.std.proofs.Common.{append_assoc, append-nil, ◌≡◌, ◌+◌, ◌<◌, ◌≤◌, ℕ, zero, suc, List, [], ◌∷◌, ◌++◌, Bool, true, false, ◌||◌, Option, Some, None, Result, Ok, Err, OnOk, MatchOption, is_some, not, true≢false, add-one, drop, slice_get, if◌then◌else◌, nat_lt, ◌==◌, length, take, map, get_or, inl, inr, refl, ap, sym, ◌∙◌, arith, subst}
 use Rattle.std.specs.Prelude.{slice_index, slice_set}
 use Rattle.std.specs.List.{AllByRecursion}
 use Rattle.std.proofs.lemmas.Bool.{cases_Bool, cases_lt, cases_eq, eq-eqb, ne_eqb, eqb-true, lt-ltb, le-ltb}
@@ -9,6 +9,7 @@ use Rattle.gl_model.specs.Entries.{Entry}
 use Rattle.gl_model.specs.Lists.{list_of, lists_of, with_last}
 use Rattle.gl_model.specs.Rising.{Rises, with_one, with_all, with_part}
 use Rattle.gl_model.specs.Kept.{IsRecord, IsListKept}
+use Rattle.gl_model.specs.Records.{Lists}
 use Rattle.gl_model.specs.Trace.{Tracing, with_entry, with_act, with_end, with_line, with_over, with_ending, is_empty, is_in, look_count, own_count}
 use Rattle.gl_model.specs.TraceSteps.{Step, IsStep, IsLineItem, is_too_wide, step_fault}
 use Rattle.gl_model.specs.declared.event.Act.TheVariants.{Join}
@@ -18,7 +19,7 @@ use Rattle.gl_model.specs.declared.row.Judged.{Judged}
 use Rattle.gl_model.specs.declared.row.StepFault.TheVariants.{BadSet}
 use Rattle.gl_trace.specs.TraceLine.{TraceLine, step_of, steps_of}
 use Rattle.gl_trace.specs.Trace.{AreLines}
-use Rattle.gl_trace.specs.Traced.{IsUpTo}
+use Rattle.gl_trace.specs.Traced.{IsGrown, IsUpTo}
 use Rattle.gl_trace.specs.declared.tracer.Tracer.{Tracer}
 use Rattle.gl_trace.specs.Judging.{Suits, AreJudged, judged_lines}
 use Rattle.std.specs.Option.{option_map}
@@ -27,13 +28,15 @@ use Rattle.std.proofs.lemmas.Option.{slice_get-get_or, slice_get-map, get_or_fro
 
 -- ---- one entry more
 
-below_none : (t : ℕ) (ls : List (ℕ × List Entry)) → AllByRecursion (λ y. t < y) (map (λ l. l.0) ls) → list_of ls t ≡ None
+-- a thread below all that have a list has none
+pub below_none : (t : ℕ) (ls : List (ℕ × List Entry)) → AllByRecursion (λ y. t < y) (map (λ l. l.0) ls) → list_of ls t ≡ None
 below_none t [] all = refl
 below_none t (l ∷ ls) all =
     let apart : l.0 == t ≡ false = ne_eqb l.0 t (λ e. omega (arith, all.0)) in
     rw apart (below_none t ls all.1)
 
-weaker : (a b : ℕ) → a < b → (xs : List ℕ) → AllByRecursion (λ y. b < y) xs → AllByRecursion (λ y. a < y) xs
+-- what is above a number is above a lower one
+pub weaker : (a b : ℕ) → a < b → (xs : List ℕ) → AllByRecursion (λ y. b < y) xs → AllByRecursion (λ y. a < y) xs
 weaker a b h [] all = tt
 weaker a b h (x ∷ xs) all = (omega (arith, all.0), weaker a b h xs all.1)
 
@@ -297,3 +300,11 @@ up_more tracer a b le up = record {
   next = omega (arith, up.next);
   numbers = λ x below. omega (arith, up.numbers x below);
 }
+
+-- ## What was recorded is kept
+
+pub grown_more : {A : Type 0} (before between now : List A) → IsGrown before between → IsGrown between now → IsGrown before now
+grown_more before between now first second = (first.0 ++ second.0, second.1 ∙ ap (λ l. l ++ second.0) first.1 ∙ append_assoc before first.0 second.0)
+
+pub entry_kept : (R : Lists) (thread : ℕ) (e : Entry) (t : ℕ) → IsGrown (R t) (with_entry R thread e t)
+entry_kept R thread e t = elim (t == thread) as (λ b. IsGrown (R t) (if b then R t ++ e ∷ [] else R t)) [ true ↦ (e ∷ [], refl) | false ↦ ([], sym (append-nil (R t))) ]

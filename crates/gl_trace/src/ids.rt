@@ -91,7 +91,7 @@ fn reaches(ids: &[u16], id: u16) -> bool
 }
 
 // Puts one id behind the others, if they still are a set then.
-fn put_last(ids: &mut VarSet, id: u16) -> bool
+pub(crate) fn put_last(ids: &mut VarSet, id: u16) -> bool
     requires id { id < VARIABLES }
     requires set { is_set ids.old ≡ true }
     ensures put { result ≡ true → Some ids.new ≡ with_last (Some ids.old) id }

@@ -1,20 +1,21 @@
 // Lines of the usual form, in one pass: a thread, a word and a number with one space between, or the rising lists of a commit. What
 // is taken here is what the full reader says of the line; all else is left to that.
-ghost use Rattle.std.specs.Prelude.{◌≡◌, ◌≤◌, List, ◌∷◌, ℕ, IfSome, length, take, drop, true, Ok, Some};
+ghost use Rattle.std.specs.Prelude.{◌≡◌, ◌≤◌, ◌<◌, List, ◌∷◌, ℕ, IfSome, length, take, drop, true, Ok, Some};
 ghost use Rattle.std.specs.List.{list_all};
 ghost use Rattle.std.specs.Char.{is_ascii_digit};
 ghost use Rattle.gl_model.specs.TraceSteps.{IsStep};
 ghost use Rattle.gl_text.specs.Number.{digits_value};
 ghost use Rattle.gl_text.specs.Text.{words};
 ghost use Rattle.gl_trace.specs.Form.{form_of, most_of};
-ghost use Rattle.gl_trace.specs.Ids.{operand_of};
+ghost use Rattle.gl_trace.specs.Ids.{operand_of, set_of, is_set};
 ghost use Rattle.gl_trace.specs.Kept.{IsItemKept};
 ghost use Rattle.gl_trace.specs.Phrase.{said};
 ghost use Rattle.gl_trace.specs.Quick.{Begins, IsFirstLine};
 ghost use Rattle.gl_trace.specs.declared.form.Form.TheVariants.{One};
 
 use crate::form::Verb;
-use gl_model::{Item, THREADS};
+use crate::ids::put_last;
+use gl_model::{Item, THREADS, VARIABLES, VarSet};
 
 // Numbers of a usual line have so many digits at most.
 const DIGITS: usize = 4;
@@ -49,7 +50,8 @@ fn after_stop(text: &[u8], count: usize, stop: u8) -> Option<&[u8]>
 
 // A number up to a limit and the byte that stops it, at the front of a text, and what follows.
 fn number_before(text: &[u8], most: u16, stop: u8) -> Option<(u16, &[u8])>
-    ensures value { IfSome result (λ x. (word : List ℕ) × Begins text.now word stop x.1.now × (operand_of most word ≡ Ok x.0)) }
+    ensures value { IfSome result (λ x. (word : List ℕ) × Begins text.now word stop x.1.now × (operand_of most word ≡ Ok x.0) × (list_all is_ascii_digit word ≡ true)) }
+    ensures shorter { IfSome result (λ x. length x.1.now < length text.now) }
     ensures bound { IfSome result (λ x. x.0 ≤ most) }
 {
     let (count, value) = digits(text);
@@ -150,9 +152,78 @@ fn verb_before(text: &[u8]) -> Option<(Verb, &[u8])>
     thread_before(text)
 }
 
-/// What the first line of a text says, where it is of the usual form and ends with a line feed: its thread and what is behind it are answered,
-/// and its item is written to its place. `None` says nothing of the line.
-pub fn quick_line<'a>(text: &'a [u8], item: &mut Item) -> Option<(u8, &'a [u8])>
+// What follows a byte at the front of a text.
+fn after_byte(text: &[u8], byte: u8) -> Option<&[u8]>
+    ensures { IfSome result (λ rest. text.now ≡ byte ∷ rest.now) }
+{
+    match text {
+        [b, rest @ ..] if *b == byte => Some(rest),
+        _ => None,
+    }
+}
+
+// What follows `com`.
+fn after_com(text: &[u8]) -> Option<&[u8]>
+    ensures { IfSome result (λ rest. text.now ≡ 99 ∷ (111 ∷ (109 ∷ rest.now))) }
+{
+    after_byte(after_byte(after_byte(text, b'c')?, b'o')?, b'm')
+}
+
+// The word of a commit and the space behind it, and what follows.
+fn after_commit(text: &[u8]) -> Option<&[u8]>
+    ensures { IfSome result (λ rest. text.now ≡ 99 ∷ (111 ∷ (109 ∷ (109 ∷ (105 ∷ (116 ∷ (32 ∷ rest.now))))))) }
+{
+    after_three(after_com(text)?, b'm', b'i', b't')
+}
+
+// What follows a letter and a space.
+fn after_letter(text: &[u8], letter: u8) -> Option<&[u8]>
+    ensures { IfSome result (λ rest. text.now ≡ letter ∷ (32 ∷ rest.now)) }
+{
+    after_byte(after_byte(text, letter)?, b' ')
+}
+
+// What follows a minus and the byte that stops it.
+fn after_minus(text: &[u8], stop: u8) -> Option<&[u8]>
+    ensures { IfSome result (λ rest. text.now ≡ 45 ∷ (stop ∷ rest.now)) }
+{
+    after_byte(after_byte(text, b'-')?, stop)
+}
+
+// A list of variables that rises, and the byte that stops it, at the front of a text: the variables are written to their place, and what
+// follows is answered.
+fn rising_before<'a>(text: &'a [u8], stop: u8, kept: &mut VarSet) -> Option<&'a [u8]>
+    ensures { IfSome result (λ rest. (word : List ℕ) × Begins text.now word stop rest.now × (set_of word ≡ Ok (Some kept.new)) × (is_set kept.new ≡ true)) }
+{
+    *kept = VarSet::empty();
+    let mut rest = text;
+    while let Some((id, more)) = number_before(rest, VARIABLES - 1, b',') {
+        if !put_last(kept, id) {
+            return None;
+        }
+        rest = more;
+    }
+    let (id, behind) = number_before(rest, VARIABLES - 1, stop)?;
+    if put_last(kept, id) {
+        Some(behind)
+    } else {
+        None
+    }
+}
+
+// A list of variables that is a set, as `rising_before`.
+fn set_before<'a>(text: &'a [u8], stop: u8, kept: &mut VarSet) -> Option<&'a [u8]>
+    ensures { IfSome result (λ rest. (word : List ℕ) × Begins text.now word stop rest.now × (set_of word ≡ Ok (Some kept.new)) × (is_set kept.new ≡ true)) }
+{
+    if let Some(rest) = after_minus(text, stop) {
+        *kept = VarSet::empty();
+        return Some(rest);
+    }
+    rising_before(text, stop, kept)
+}
+
+// What the first line of a text says, where it is a thread, a word and a number, as `quick_line`.
+fn quick_verb<'a>(text: &'a [u8], item: &mut Item) -> Option<(u8, &'a [u8])>
     ensures said { IfSome result (λ x. (line : List ℕ) × IsFirstLine text.now line x.1.now × (said (words line) ≡ Ok (Some (x.0, item.new)))) }
     ensures range { IfSome result (λ x. IsStep (x.0, item.new)) }
     ensures set { IfSome result (λ x. IsItemKept item.new) }
@@ -162,4 +233,35 @@ pub fn quick_line<'a>(text: &'a [u8], item: &mut Item) -> Option<(u8, &'a [u8])>
     let (operand, behind) = number_before(last, verb.most(), b'\n')?;
     *item = verb.with(operand);
     Some((thread as u8, behind))
+}
+
+// What the first line of a text says, where it is a commit of two rising lists, as `quick_line`.
+fn quick_commit<'a>(text: &'a [u8], item: &mut Item) -> Option<(u8, &'a [u8])>
+    ensures said { IfSome result (λ x. (line : List ℕ) × IsFirstLine text.now line x.1.now × (said (words line) ≡ Ok (Some (x.0, item.new)))) }
+    ensures range { IfSome result (λ x. IsStep (x.0, item.new)) }
+    ensures set { IfSome result (λ x. IsItemKept item.new) }
+{
+    let (thread, rest) = number_before(text, u16::from(THREADS) - 1, b' ')?;
+    let lists = after_commit(rest)?;
+    let first = after_letter(lists, b'r')?;
+    let mut reads = VarSet::empty();
+    let more = set_before(first, b' ', &mut reads)?;
+    let second = after_letter(more, b'w')?;
+    let mut writes = VarSet::empty();
+    let behind = set_before(second, b'\n', &mut writes)?;
+    *item = Item::Commit { reads, writes };
+    Some((thread as u8, behind))
+}
+
+/// What the first line of a text says, where it is of the usual form and ends with a line feed: its thread and what is behind it are answered,
+/// and its item is written to its place. `None` says nothing of the line.
+pub fn quick_line<'a>(text: &'a [u8], item: &mut Item) -> Option<(u8, &'a [u8])>
+    ensures said { IfSome result (λ x. (line : List ℕ) × IsFirstLine text.now line x.1.now × (said (words line) ≡ Ok (Some (x.0, item.new)))) }
+    ensures range { IfSome result (λ x. IsStep (x.0, item.new)) }
+    ensures set { IfSome result (λ x. IsItemKept item.new) }
+{
+    match quick_verb(text, item) {
+        Some(read) => Some(read),
+        None => quick_commit(text, item),
+    }
 }

@@ -10,7 +10,7 @@ ghost use Rattle.gl_model.specs.TraceSteps.{IsLineAct, IsLineItem, is_too_wide};
 ghost use Rattle.gl_model.specs.declared.limits.TheConstants.{THREADS, VARIABLES, TX_VARIABLES};
 ghost use Rattle.gl_model.specs.Entries.{Commit as CommitEntry};
 ghost use Rattle.gl_trace.specs.Judging.{Suits, AreJudged, judged_lines, line_of};
-ghost use Rattle.gl_trace.specs.Traced.{Traces, IsUpTo, nothing};
+ghost use Rattle.gl_trace.specs.Traced.{KeepsRecorded, Traces, IsUpTo, nothing};
 ghost use Rattle.gl_trace.specs.declared.limits.TheConstants.{TRACE_LINES};
 
 use crate::kept::Trace;
@@ -129,6 +129,7 @@ impl Tracer {
         ensures next { self.new.next ≡ self.old.next }
         ensures numbers { self.new.numbers ≡ self.old.numbers }
         ensures ended { self.new.ended ≡ self.old.ended }
+        ensures kept { KeepsRecorded self.old self.new }
     {
         self.history.keeps();
         self.history
@@ -144,6 +145,7 @@ impl Tracer {
         requires room { IsUpTo (2 ^ 64 - 2) self.old }
         ensures traces { (s : Tracing) → Traces s self.old → OnOk result (Traces (with_act thread act s) self.new) }
         ensures most { (a b : ℕ) → a + 1 ≤ b → IsUpTo a self.old → OnOk result (IsUpTo b self.new) }
+        ensures kept { KeepsRecorded self.old self.new }
     {
         let at = self.next;
         self.push(thread, Entry::Sync { at, act, value: 0 })?;
@@ -157,6 +159,7 @@ impl Tracer {
         requires room { IsUpTo (2 ^ 64 - 2) self.old }
         ensures traces { (s : Tracing) → Traces s self.old → OnOk result (Traces (with_end thread s) self.new) }
         ensures most { (a b : ℕ) → a + 1 ≤ b → IsUpTo a self.old → OnOk result (IsUpTo b self.new) }
+        ensures kept { KeepsRecorded self.old self.new }
     {
         self.act(thread, Act::End)?;
         self.ended[usize::from(thread)] = true;
@@ -170,6 +173,7 @@ impl Tracer {
         requires room { IsUpTo (2 ^ 64 - 3) self.old }
         ensures traces { (s : Tracing) → Traces s self.old → OnOk result (Traces (with_line thread (Act.Fork child func) s) self.new) }
         ensures most { (a b : ℕ) → a + 2 ≤ b → IsUpTo a self.old → OnOk result (IsUpTo b self.new) }
+        ensures kept { KeepsRecorded self.old self.new }
     {
         self.act(thread, Act::Fork { child, func })?;
         self.act(child, Act::Begin(func))
@@ -182,6 +186,7 @@ impl Tracer {
         requires room { IsUpTo (2 ^ 64 - 3) self.old }
         ensures traces { (s : Tracing) → Traces s self.old → OnOk result (Traces (with_line thread (Act.Join other) s) self.new) }
         ensures most { (a b : ℕ) → a + 2 ≤ b → IsUpTo a self.old → OnOk result (IsUpTo b self.new) }
+        ensures kept { KeepsRecorded self.old self.new }
     {
         if self.ended[usize::from(other)] {
             return self.act(thread, Act::Join(other));
@@ -197,6 +202,7 @@ impl Tracer {
         requires room { IsUpTo (2 ^ 64 - 3) self.old }
         ensures traces { (s : Tracing) → Traces s self.old → OnOk result (Traces (with_line thread act s) self.new) }
         ensures most { (a b : ℕ) → a + 2 ≤ b → IsUpTo a self.old → OnOk result (IsUpTo b self.new) }
+        ensures kept { KeepsRecorded self.old self.new }
     {
         match act {
             Act::Fork { child, func } => self.fork(thread, child, func),
@@ -221,6 +227,7 @@ impl Tracer {
         requires room { IsUpTo (2 ^ 64 - 2) self.old }
         ensures traces { (s : Tracing) → Traces s self.old → OnOk result (Traces (with_plain thread var write raised s) self.new) }
         ensures most { (a b : ℕ) → a + 2 ≤ b → IsUpTo a self.old → OnOk result (IsUpTo b self.new) }
+        ensures kept { KeepsRecorded self.old self.new }
     {
         let nth = self.numbers[usize::from(var)];
         self.push(
@@ -273,6 +280,7 @@ impl Tracer {
         ensures next { OnOk result (self.new.next ≡ self.old.next + 1) }
         ensures numbers { self.new.numbers ≡ self.old.numbers }
         ensures ended { self.new.ended ≡ self.old.ended }
+        ensures kept { KeepsRecorded self.old self.new }
     {
         let at = self.next;
         self.push(thread, Entry::Commit { at, tx })?;
@@ -295,6 +303,7 @@ impl Tracer {
         requires room { IsUpTo (2 ^ 64 - 3) self.old }
         ensures traces { (s : Tracing) → Traces s self.old → OnOk result (Traces (with_commit thread reads writes.now judged s) self.new) }
         ensures most { (a b : ℕ) → a + 2 ≤ b → IsUpTo a self.old → OnOk result (IsUpTo b self.new) }
+        ensures kept { KeepsRecorded self.old self.new }
     {
         reads.keeps();
         writes.keeps();
@@ -311,7 +320,8 @@ impl Tracer {
         }
     }
 
-    /// The thread's next line says this, and this is said of it. After want of memory the record so far is of no use.
+    /// The thread's next line says this, and this is said of it. After want of memory what was recorded is there still; of what the line
+    /// adds a part may be, so nothing more can be recorded.
     pub fn item(
         &mut self,
         alloc: Global,
@@ -326,6 +336,7 @@ impl Tracer {
         requires room { IsUpTo (2 ^ 64 - 3) self.old }
         ensures traces { (s : Tracing) → Traces s self.old → OnOk result (Traces (with_item thread item.now judged s) self.new) }
         ensures most { (a b : ℕ) → a + 2 ≤ b → IsUpTo a self.old → OnOk result (IsUpTo b self.new) }
+        ensures kept { KeepsRecorded self.old self.new }
     {
         match item {
             Item::Act(act) => self.line(thread, *act),

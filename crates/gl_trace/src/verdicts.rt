@@ -2,6 +2,7 @@
 ghost use Rattle.std.specs.Prelude.{◌≡◌, ◌++◌, IfOk, OnOk, string_bytes, count_by};
 ghost use Rattle.gl_trace.specs.Judging.{AreJudged};
 ghost use Rattle.std.specs.Fmt.{decimal};
+ghost use Rattle.gl_trace.specs.Traced.{IsGrown};
 ghost use Rattle.gl_trace.specs.Verdicts.{is_race, verdict_line, races_line, verdict_text};
 
 use crate::kept::Trace;
@@ -11,15 +12,18 @@ use std::alloc::{AllocError, Global};
 
 // Adds a number and a word behind it.
 fn push_line(out: &mut String, line: u32, word: &str) -> Result<(), AllocError>
-    ensures { OnOk result (string_bytes out.new ≡ string_bytes out.old ++ (decimal line ++ word.now)) }
+    ensures added { OnOk result (string_bytes out.new ≡ string_bytes out.old ++ (decimal line ++ word.now)) }
+    ensures kept { IsGrown (string_bytes out.old) (string_bytes out.new) }
 {
     out.push_str(Buffer::new().format(line))?;
     out.push_str(word)
 }
 
-/// Adds the line of a verdict; a line that is no access has none.
+/// Adds the line of a verdict; a line that is no access has none. After want of memory what stood there stands there still, perhaps with
+/// a part of the line.
 pub fn push_verdict(out: &mut String, line: u32, judged: Judged) -> Result<(), AllocError>
-    ensures { OnOk result (string_bytes out.new ≡ string_bytes out.old ++ verdict_line line judged) }
+    ensures kept { IsGrown (string_bytes out.old) (string_bytes out.new) }
+    ensures added { OnOk result (string_bytes out.new ≡ string_bytes out.old ++ verdict_line line judged) }
 {
     match judged {
         Judged::NoAccess => Ok(()),
@@ -28,11 +32,14 @@ pub fn push_verdict(out: &mut String, line: u32, judged: Judged) -> Result<(), A
     }
 }
 
-/// Adds the last line: the number of races.
+/// Adds the last line: the number of races. After want of memory what stood there stands there still, perhaps with a part of the line.
 pub fn push_races(out: &mut String, races: usize) -> Result<(), AllocError>
-    ensures { OnOk result (string_bytes out.new ≡ string_bytes out.old ++ races_line races) }
+    ensures kept { IsGrown (string_bytes out.old) (string_bytes out.new) }
+    ensures added { OnOk result (string_bytes out.new ≡ string_bytes out.old ++ races_line races) }
 {
-    writeln!(out, "races {races}")
+    out.push_str("races ")?;
+    out.push_str(Buffer::new().format(races))?;
+    out.push_str("\n")
 }
 
 // How many races there are.

@@ -20,6 +20,7 @@ use Rattle.gl_bytecode.specs.declared.instr.Instr.TheVariants.{Push, Pop, Dup, S
 use Rattle.gl_bytecode.specs.declared.limits.TheConstants.{CALLERS, DEPTH, TX_STATE}
 use Rattle.gl_bytecode.specs.declared.object.Fields.{Fields}
 use Rattle.gl_bytecode.specs.declared.object.Object.{Object}
+use Rattle.gl_bytecode.proofs.Attending.{no_start}
 use Rattle.gl_bytecode.specs.Fits.{Fits, Holds, LivesWith, NamesMonitor, WaitsFor}
 use Rattle.gl_bytecode.specs.Instructions.{args_of}
 use Rattle.gl_bytecode.specs.Machine.{Attempt, Config, Frame, entered, in_order, handler, leaving, held_monitor, ending_with, handled_or, thrown, failing, failed, failed_in, is_refused, again, answers, answered, dropped, returned, called, done, ran, started, settled, levels_after, begun, next, next_at, takes, takes_at, refusal_in, ask_of}
@@ -237,25 +238,6 @@ tx_end_only n P TxBegin is = λ m. tt
 tx_end_only n P (Alloc c) is = cc
 tx_end_only n P (AskPrint a) is = λ m. tt
 tx_end_only n P AskInput is = λ m. tt
-
-pub no_start : (n : ℕ) (ask : Ask) (f : ℕ) (a : ℤ) → answers n ask (Start f a) ≡ true → ⊥
-no_start n Go f a is = cc
-no_start n Begin f a is = cc
-no_start n End f a is = cc
-no_start n (AskOver e) f a is = cc
-no_start n (Read x) f a is = cc
-no_start n (Write x b) f a is = cc
-no_start n (VRead v) f a is = cc
-no_start n (VWrite v b) f a is = cc
-no_start n (AskEnter o) f a is = cc
-no_start n (AskExit o) f a is = cc
-no_start n (AskFork g b) f a is = cc
-no_start n (AskJoin u) f a is = cc
-no_start n TxBegin f a is = cc
-no_start n (TxEnd keep) f a is = cc
-no_start n (Alloc c) f a is = cc
-no_start n (AskPrint b) f a is = cc
-no_start n AskInput f a is = cc
 
 settled_asks :
     (P : Bytecode) (c : Config) (ask : Ask) (reply : Reply) (n : ℕ) → WaitsFor P c.frame ask → c.stage ≡ Waits ask →

@@ -32,7 +32,7 @@ use Rattle.gl_bytecode.specs.Rows.{row, is_zero, on_object, joining, top, second
 use Rattle.gl_bytecode.specs.Runs.{Exchange, Made, Quiet, Progress, looks_after, writes_after, outset, replied, reply_of, told, told_one, entries_of, without_trims, Along}
 use Rattle.gl_vm.specs.Asking.{BeginsNone, due, levels_told, state_at, state_told}
 use Rattle.gl_vm.specs.Orderly.{EndsWhatRuns, IsAskedBy, IsOrderly, StageIsOrderly, WaitsRightly}
-use Rattle.gl_vm.proofs.Asking.{no_start}
+use Rattle.gl_bytecode.proofs.Attending.{no_start}
 
 -- ## What a row asks is asked by its instruction
 

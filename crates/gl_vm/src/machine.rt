@@ -46,6 +46,7 @@ impl Model for Machine {
 
 impl Machine {
     ghost use Rattle.gl_bytecode.specs.Machine.{Config, again, ask_of, attempt_after, dropped, failed, failing, is_refused, begun, called, ending_with, done, answered, entered, finished, fresh, levels_after, next, raised, returned, settled, started, takes};
+    ghost use Rattle.gl_bytecode.specs.Attending.{Attends, runs_after};
     ghost use Rattle.gl_bytecode.specs.Fits.{Fits, NamesMonitor, StartsRight};
     ghost use Rattle.gl_vm.specs.Asking.{AsksInRange};
     ghost use Rattle.gl_vm.specs.Ready.{CallerIsReady, CanDo, CanDrop, CanStart, CanTake, HasDepth, IsDoable};
@@ -118,7 +119,8 @@ impl Machine {
         }
     }
 
-    /// Takes the reply and goes on by one instruction at most, to the next ask.
+    /// Takes the reply and goes on by one instruction at most, to the next ask. While an attempt runs that is to go on, a read, a write
+    /// or the attempt's end; an attempt runs from the answer to `TxBegin` to that to `TxEnd`.
     pub fn step(&mut self, program: &Program, reply: Reply) -> Ask
         requires fits { Fits program.now self.old }
         requires taken { IsTrue (takes self.old reply) }
@@ -126,6 +128,8 @@ impl Machine {
         ensures next { self.new ≡ next program.now self.old reply }
         ensures ask { result ≡ ask_of self.new.stage }
         ensures in_range { AsksInRange program.now result }
+        ensures inside { Attends self.new.attempt result }
+        ensures attempt { is_some self.new.attempt ≡ runs_after (ask_of self.old.stage) (is_some self.old.attempt) }
         ensures fits { Fits program.now self.new }
     {
         self.advance(program, reply);

@@ -456,6 +456,43 @@ const ASKS: &[(&[Instr], &[Handler], &[Reply], &str)] = &[
         &[Reply::Go, Reply::Value(1), Reply::Go],
         "TxBegin go; in Read { var: 7 } value 9; in TxEnd { keep: false } go retry 1; Print { value: 100 } go; End go; Over(Halt)",
     ),
+    // an exception of a function that was called goes out of the attempt, and a function above it may catch it
+    (
+        &[Txbegin, Call(3), Commit, Halt, Print, Halt],
+        &[(1, 2, 4)],
+        &[],
+        "TxBegin go; in TxEnd { keep: false } go retry 1; Print { value: 4 } go; End go; Over(Halt)",
+    ),
+    (
+        &[Txbegin, Call(3), Commit, Halt, Print, Halt],
+        &[(1, 2, 4)],
+        &[Reply::Go, Reply::Raise(1)],
+        "TxBegin go; in TxEnd { keep: false } go retry 1; Print { value: 1 } go; End go; Over(Halt)",
+    ),
+    // a handler of an attempt that has failed runs outside it
+    (
+        &[Txbegin, Throw(100), Txbegin, Commit, Halt],
+        &[(1, 2, 2)],
+        &[],
+        "TxBegin go; in TxEnd { keep: false } go retry 1; TxBegin go; in TxEnd { keep: true } go retry 1; End go; Over(Halt)",
+    ),
+    // the last thread is forked, and one more
+    (
+        &[
+            Push(4),
+            Fork(6),
+            Print,
+            Push(4),
+            Fork(6),
+            Print,
+            Halt,
+            Print,
+            Halt,
+        ],
+        &[(4, 5, 7)],
+        &[Reply::Value(15), Reply::Go, Reply::Raise(7)],
+        "Fork { func: 6, value: 4 } value 7; Print { value: 15 } go; Fork { func: 6, value: 4 } value 7; Print { value: 7 } go; End go; Over(Halt)",
+    ),
     (
         &[Txbegin, Throw(100)],
         &[],
@@ -513,6 +550,26 @@ const ENDINGS: &[(&[Instr], u32, &[Reply], &str)] = &[
         4,
         &[Reply::Go, Reply::Retry],
         "TxBegin go; in TxEnd { keep: true } go retry 1; TxBegin go; in TxEnd { keep: false } go retry 1; End go; Over(Spent)",
+    ),
+    // where they are spent after it was dropped, it is not begun again
+    (
+        &[Txbegin, Nop, Commit, Halt],
+        3,
+        &[Reply::Go, Reply::Retry],
+        "TxBegin go; in TxEnd { keep: true } go retry 1; End go; Over(Spent)",
+    ),
+    // an instruction that is refused inside an attempt counts, and where the steps are spent it is not looked at
+    (
+        &[Txbegin, Txbegin, Halt],
+        2,
+        &[],
+        "TxBegin go; in TxEnd { keep: false } go retry 1; End go; Over(Uncaught(10))",
+    ),
+    (
+        &[Txbegin, Txbegin, Halt],
+        1,
+        &[],
+        "TxBegin go; in TxEnd { keep: false } go retry 1; End go; Over(Spent)",
     ),
     // each ending leaves the monitors 5 and 2, which are owned to depth 3
     (

@@ -6,7 +6,7 @@ use Rattle.gl_text.proofs.text.any_line.Goals as goal
 
 pub returns-in-Some-clause-lines : goal.returns-in-Some-clause-lines
 returns-in-Some-clause-lines c =
-    first_line_at c.args.text.now c.without_return.result.now _ c.in-Some.end (sym c.in-Some.ensures) c.without_return.ensures
+    first_line_at c.args.text.now c.without_return.result.now _ c.in-Some.end (sym c.in-Some.ensures) c.without_return.ensures.value
     (take_rest c.args.text.now (c.in-Some.end + 1))
 
 pub returns-in-None-clause-lines : goal.returns-in-None-clause-lines

@@ -51,7 +51,7 @@ returns-clause-said g c = λ done said lines.
         right = on.0;
         ready = c.in_ok-judged.ensures.ready;
         follows = on.1;
-        text = c.in_ok-push_verdict.ensures ∙ ap (λ x. x ++ verdict_line c.args.line judged) said.text ∙ text_push done line judged;
+        text = c.in_ok-push_verdict.ensures.added ∙ ap (λ x. x ++ verdict_line c.args.line judged) said.text ∙ text_push done line judged;
         races = c.with_one-self.ensures ∙ ap (λ n. n + count_by is_race (judged ∷ [])) said.races ∙ sym (races_push done line judged);
         recorded = subst (λ x. IsRecorded x c.record_line.new.tracer) (sym more) recorded;
       },

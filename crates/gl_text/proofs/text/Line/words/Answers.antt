@@ -6,5 +6,5 @@ use Rattle.gl_text.proofs.text.Line.words.Goals as goal
 pub returns-then-self : goal.returns-then-self
 returns-then-self c =
     c.parts_of.ensures
-    ∙ sym (plain_words c.self.inside.text.now (c.self.invariant c.if-self.true))
+    ∙ sym (plain_words c.self.inside.text.now (c.self.invariant.0 c.if-self.true))
     ∙ ap (λ l. words l.text) c.self.view_is

@@ -1,8 +1,6 @@
-use Rattle.std.proofs.Common.{rules, arith, ◌≡◌, ◌≤◌, ◌+◌, ◌∷◌, Some, None, Ok, sym, ◌∙◌, ap, subst}
-use Rattle.std.specs.Str.Lines.{lines}
+use Rattle.std.proofs.Common.{rules, arith, ◌≡◌, ◌≤◌, ◌+◌, ◌∷◌, None, sym, ◌∙◌, ap, subst}
 use Rattle.gl_model.specs.TraceSteps.{Step, step_fault}
 use Rattle.gl_trace.specs.Reads.{Reads}
-use Rattle.gl_trace.specs.Trace.{line_fault}
 use Rattle.gl_trace.specs.TraceLine.{steps_of}
 use Rattle.gl_trace.specs.Tracks.{IsWithin}
 use Rattle.gl_trace.specs.declared.limits.TheConstants.{TRACE_LINES}

@@ -1,7 +1,7 @@
 use Rattle.std.proofs.Common.{◌≡◌, ◌+◌, false, OnOk, arith, subst, sym, rules}
 use Rattle.gl_model.specs.Trace.{Tracing, with_end}
 use Rattle.gl_trace.specs.Traced.{Traces}
-use Rattle.gl_trace.proofs.TracerLemmas.{join_late}
+use Rattle.gl_trace.proofs.TracerLemmas.{grown_more, join_late}
 use Rattle.gl_trace.proofs.tracer.Tracer.join.Goals as goal
 
 pub returns-then-self-from-clause-most : goal.returns-then-self-from-clause-most
@@ -18,3 +18,6 @@ returns-clause-traces c = λ s h.
 
 pub returns-clause-most : goal.returns-clause-most
 returns-clause-most c = λ a b le h. c.act-2.ensures.most (a + 1) b (omega arith) (c.in_ok-end.ensures.most a (a + 1) (omega arith) h)
+
+pub returns-clause-kept : goal.returns-clause-kept
+returns-clause-kept c = λ t. grown_more _ _ _ (c.in_ok-end.ensures.kept t) (c.act-2.ensures.kept t)

@@ -3,7 +3,7 @@ use Rattle.gl_model.specs.declared.limits.TheConstants.{THREADS}
 use Rattle.gl_trace.specs.Form.{most_of}
 use Rattle.gl_trace.specs.Ids.{operand_of}
 use Rattle.gl_trace.proofs.QuickLemmas.{usual_line}
-use Rattle.gl_trace.proofs.quick.quick_line.Goals as goal
+use Rattle.gl_trace.proofs.quick.quick_verb.Goals as goal
 
 pub returns-clause-said : goal.returns-clause-said
 returns-clause-said c =

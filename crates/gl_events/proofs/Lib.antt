@@ -1,0 +1,5 @@
+pub mod Lives
+pub mod Beginnings
+pub mod Acts
+pub mod Answering
+pub mod Publishing
