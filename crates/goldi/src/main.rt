@@ -5,17 +5,30 @@ use gl_io::{ReaderSource, WriterSink};
 use gl_run::goldi_without_trace;
 use gl_shortcut::{Cuts, ShortCut, Sure, both_commits, same_thread, shared_monitor, two_threads};
 use std::alloc::{AllocError, Global};
+use std::env::FillError;
 use std::process::ExitCode;
 use std::rt::Env;
-use std::{env, io};
 
-// The words of the command line; none where they are no text. What they need of memory may be wanting.
+// Room for a word of the command line. A longer one is no word of a command.
+const WORD_BYTES: usize = 256;
+
+// The words of the command line; none where one of them is no text, or longer than a word of a command. The program's name, which comes first,
+// is not looked at. What they need of memory may be wanting.
 fn words_given(rt: &(impl Env + AllocGlobal)) -> Result<Vec<String>, AllocError> {
-    match env::args(rt) {
-        Ok(args) => args.collect(rt.alloc()),
-        Err(error) if error.kind() == io::ErrorKind::OutOfMemory => Err(AllocError),
-        Err(_) => Ok(Vec::new(rt.alloc())),
+    let mut words = Vec::new(rt.alloc());
+    words.push(String::new(rt.alloc()))?;
+    for place in 1..usize::MAX {
+        let mut bytes = [0u8; WORD_BYTES];
+        match rt.arg(place, &mut bytes) {
+            Ok(count) => match str::from_utf8(&bytes[..count]) {
+                Ok(word) => words.push(String::from_str(rt.alloc(), word)?)?,
+                Err(_) => return Ok(Vec::new(rt.alloc())),
+            },
+            Err(FillError::TooLong) => return Ok(Vec::new(rt.alloc())),
+            Err(FillError::NotPresent) => return Ok(words),
+        }
     }
+    Ok(words)
 }
 
 fn main(rt: HostRuntime) -> ExitCode {
