@@ -9,7 +9,7 @@ mod laws;
 mod tables;
 
 pub use detector::Detector;
-pub use gl_judge::{Verdict, judge, note, walk};
+pub use gl_judge::{Verdict, early, judge, note, walk};
 pub use latest::{Epoch, Latest};
 pub use laws::epochs_are_enough;
 pub use tables::Tables;

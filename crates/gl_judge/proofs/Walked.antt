@@ -7,8 +7,13 @@ use Rattle.gl_model.specs.declared.event.Stamp.{Stamp}
 use Rattle.gl_model.specs.declared.event.Element.{Element}
 use Rattle.gl_model.specs.declared.row.Info.{Info}
 use Rattle.gl_model.specs.Lockset.{Has}
-use Rattle.gl_model.specs.Locksets.{Elements, AfterAll, IsOrderedOrExcepted}
+use Rattle.gl_model.specs.Locksets.{Access, Elements, AfterAll, IsOrderedOrExcepted}
 use Rattle.gl_draws.specs.RowFacts.{read_of, set_after, Fails}
+use Rattle.gl_model.specs.declared.row.Question.{Question}
+use Rattle.gl_model.specs.Infos.{InfoFor}
+use Rattle.gl_model.specs.Machine.{Setting}
+use Rattle.gl_shortcut.specs.Ordering.{IsOfNext, IsOrderedBefore}
+use Rattle.gl_shortcut.proofs.Order.{ordered_passes}
 use Rattle.gl_draws.proofs.MovedInfos.{AfterAll-has, passes_greater}
 
 -- the events from a position on, in a window that begins before it
@@ -41,3 +46,24 @@ read_item xs i r n e = get_or_default xs i None r n ∙ sym e
 -- none of the first k reads fails, and there are no others
 pub none_fails : (xs : List (Option Info)) (k : ℕ) (P : Info → Type 0) → length xs ≤ k → ((t : ℕ) (i : Info) → t < k → read_of xs t ≡ Some i → P i → ⊥) → IsTrue false ↔ ((t : ℕ) × (i : Info) × (read_of xs t ≡ Some i) × P i)
 none_fails xs k P n none = (λ f. absurd (cc), λ w. absurd (elim (cases_lt w.0 k) [ inl below ↦ none w.0 w.1 below w.2 w.3 | inr past ↦ (let gone : read_of xs w.0 ≡ None = get_or_past xs w.0 None (omega arith) in let there = w.2 in cc) ]))
+
+-- an Info of which it is known that it is ordered does not fail
+pub says_ordered : (setting : Setting) (h : List Stamp) (info : Info) (a : Access) (write : Bool) → InfoFor setting h info a write → (q : Question) → IsOfNext setting h q → IsOrderedBefore h a q → IsTrue false ↔ Fails h info q.thread q.commit
+says_ordered setting h info a write stands q next o = (λ f. absurd (cc), λ fails. absurd (ordered_passes setting h info a write stands q next o fails))
+
+-- the events from the Info's position on, as a piece of the window
+pub rest_of : (h w : List Stamp) (from p : ℕ) → from ≤ p → drop from h ≡ w → drop p h ≡ take (length w - (p - from)) (drop (p - from) w)
+rest_of h w from p le e = sym (take_rest w (p - from) ∙ drop_window h w from p le e)
+
+-- the only Info that may be kept
+pub kept_one : (kept : Option Info) (info : Info) (P : Info → Type 0) (b : Bool) → kept ≡ Some info → IsTrue b ↔ P info → IsTrue b ↔ ((i : Info) × (kept ≡ Some i) × P i)
+kept_one kept info P b is k = (λ t. (info, is, k.0 t), λ w. let same : w.0 ≡ info = (let one = w.1 in cc) in k.1 (subst P same w.2))
+
+-- one read more
+pub each_more : (xs : List (Option Info)) (k : ℕ) (r : Option Info) (P : Info → Type 0) → read_of xs k ≡ r → ((t : ℕ) (i : Info) → t < k → read_of xs t ≡ Some i → P i) → ((i : Info) → r ≡ Some i → P i)
+    → (t : ℕ) (i : Info) → t < k + 1 → read_of xs t ≡ Some i → P i
+each_more xs k r P at before this t i n e = elim (cases_lt t k) [ inl below ↦ before t i below e | inr past ↦ (let same : t ≡ k = omega arith in this i (sym at ∙ ap (read_of xs) (sym same) ∙ e)) ]
+
+-- a read that is kept stands in the list
+pub read_within : (xs : List (Option Info)) (t k : ℕ) (i : Info) → length xs ≤ k → read_of xs t ≡ Some i → t < k
+read_within xs t k i n e = elim (cases_lt t k) [ inl below ↦ below | inr past ↦ absurd (let gone : read_of xs t ≡ None = get_or_past xs t None (omega arith) in cc) ]

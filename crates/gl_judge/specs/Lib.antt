@@ -1,3 +1,4 @@
 pub mod Noted
 pub mod Asked
 pub mod Standing
+pub mod Conflicting

@@ -2,10 +2,13 @@
 //! performed access.
 #![tactic(auto)]
 
+mod asking;
 mod judging;
 mod noting;
 mod window;
 
-pub use judging::{Verdict, judge, passes};
+pub use asking::early;
+pub use gl_shortcut::passes;
+pub use judging::{Verdict, judge};
 pub use noting::{new_info, note};
 pub use window::walk;

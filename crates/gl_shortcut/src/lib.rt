@@ -1,18 +1,17 @@
-//! Stored short cuts: questions that are answered before a walk is made.
+//! Short cuts: functions that are kept beside a proved fact, and answer some questions of order before a walk is made.
 #![tactic(auto)]
 
-ghost use Rattle.std.specs.Prelude.{◌≡◌};
+mod cuts;
+mod kept;
+mod offered;
+mod sure;
+mod testing;
 
-/// The short cuts that a judgement may ask before it walks. A short cut's yes is never more than the walk would say, so
-/// with more or fewer of them the same verdicts come.
-#[derive(Drop)]
-pub struct Cuts {}
+pub use cuts::{Cuts, ShortCut};
+pub use kept::{EarlyFn, LateFn};
+pub use offered::{both_commits, same_thread, shared_monitor, two_threads};
+pub use sure::Sure;
+pub use testing::passes;
 
-impl Cuts {
-    /// No short cut: each judgement walks.
-    pub fn none() -> Cuts
-        ensures { result ≡ record {} }
-    {
-        Cuts {}
-    }
-}
+#[cfg(test)]
+mod tests;

@@ -7,7 +7,7 @@ use Rattle.gl_run.proofs.SaidLines.{lines_push, more_if_ok}
 use Rattle.gl_run.proofs.check.check.Goals as goal
 
 pub take-requires-clause-awaits : goal.take-requires-clause-awaits
-take-requires-clause-awaits c =
+take-requires-clause-awaits g c =
     let before = c.loop-line.invariant.0 in
     let line : TraceLine = (c.in-Ok-Some.line, c.in-Ok-Some.thread, c.next_line.new.item) in
     let next : IsReadTo c.args.input.now (lines_said before.done ++ line ∷ []) c.next_line.new.self =
@@ -15,7 +15,7 @@ take-requires-clause-awaits c =
     record { done = before.done; said = before.said; lines = next.reads.well }
 
 pub loop-line-preserved : goal.loop-line-preserved
-loop-line-preserved c =
+loop-line-preserved g c =
     let before = c.loop-line.invariant.0 in
     let line : TraceLine = (c.in-Ok-Some.line, c.in-Ok-Some.thread, c.next_line.new.item) in
     let next : IsReadTo c.args.input.now (lines_said before.done ++ line ∷ []) c.next_line.new.self =
@@ -30,7 +30,7 @@ loop-line-preserved c =
     )
 
 pub returns-in-Ok-None-clause-answer : goal.returns-in-Ok-None-clause-answer
-returns-in-Ok-None-clause-answer c =
+returns-in-Ok-None-clause-answer g c =
     let before = c.loop-line.invariant.0 in
     let meaning : IsTrace c.args.input.now (lines_said before.done) =
     rw c.in-Ok-None.field-0-is at (c.in-Ok-None.ensures.line c.args.input.now (lines_said before.done) before.read) in

@@ -4,7 +4,7 @@ use Rattle.gl_run.proofs.SaidLines.{AreChecked}
 use Rattle.gl_run.proofs.check.check.Given as goal
 
 abbrev pub invariant-loop-line : goal.invariant-loop-line
-invariant-loop-line l = AreChecked l.input l.reader l.verdicts × (keep_of l.verdicts.tracer ≡ l.fn.keep)
+invariant-loop-line g l = AreChecked l.input l.reader l.verdicts × (keep_of l.verdicts.tracer ≡ l.fn.keep)
 
 abbrev pub decreases-loop-line : goal.decreases-loop-line
-decreases-loop-line l = length l.reader.lines.left
+decreases-loop-line g l = length l.reader.lines.left

@@ -11,7 +11,7 @@ use Rattle.gl_run.proofs.SaidLines.{said_on, said_next, races_push, text_push, m
 use Rattle.gl_run.proofs.verdicts.Verdicts.take.Goals as goal
 
 pub record_line-requires-clause-few : goal.record_line-requires-clause-few
-record_line-requires-clause-few c =
+record_line-requires-clause-few g c =
     let a = c.requires.awaits in
     let line : TraceLine = (c.args.line, c.args.thread, c.args.item.now) in
     let judged = c.in_ok-judged.judged in
@@ -19,7 +19,7 @@ record_line-requires-clause-few c =
     (said_next a.done line judged a.lines on.0).few
 
 pub record_line-requires-clause-suits : goal.record_line-requires-clause-suits
-record_line-requires-clause-suits c =
+record_line-requires-clause-suits g c =
     let a = c.requires.awaits in
     let line : TraceLine = (c.args.line, c.args.thread, c.args.item.now) in
     let judged = c.in_ok-judged.judged in
@@ -27,18 +27,18 @@ record_line-requires-clause-suits c =
     (said_next a.done line judged a.lines on.0).suits
 
 pub with_one-self-requires : goal.with_one-self-requires
-with_one-self-requires c =
+with_one-self-requires g c =
     let a = c.requires.awaits in
     omega (arith, a.said.races, few_races a.done, a.lines.few, length-append (lines_said a.done) ((c.args.line, c.args.thread, c.args.item.now) ∷ []))
 
 pub record_line-requires-clause-room : goal.record_line-requires-clause-room
-record_line-requires-clause-room c =
+record_line-requires-clause-room g c =
     let a = c.requires.awaits in
     recorded_room (map line_of a.done) (2 * TRACE_LINES) c.args.self.now.tracer
     (omega (arith, lines_length a.done, a.lines.few, length-append (lines_said a.done) ((c.args.line, c.args.thread, c.args.item.now) ∷ []))) a.said.recorded
 
 pub returns-clause-said : goal.returns-clause-said
-returns-clause-said c = λ done said lines.
+returns-clause-said g c = λ done said lines.
     let line : TraceLine = (c.args.line, c.args.thread, c.args.item.now) in
     let judged = c.in_ok-judged.judged in
     let p : Said = (line, judged) in

@@ -1,0 +1,5 @@
+pub mod Ordering
+pub mod Asking
+pub mod Facts
+pub mod Keeping
+pub mod Surely
