@@ -5,7 +5,9 @@ ghost use Rattle.gl_model.specs.declared.limits.TheConstants.{THREADS};
 ghost use Rattle.gl_model.specs.Machine.{Setting};
 ghost use Rattle.gl_draws.specs.RowFacts.{SomeFails, IsWithin};
 ghost use Rattle.gl_judge.specs.declared.judging.Verdict.TheVariants.{Race};
+ghost use Rattle.gl_judge.specs.Standing.{InfosStand};
 ghost use Rattle.gl_rule.specs.Fitting.{IsFitting};
+ghost use Rattle.gl_shortcut.specs.Ordering.{IsOfNext};
 ghost use Rattle.gl_rule.specs.Objects.{capacity};
 ghost use Rattle.gl_table.specs.PassView.{shelf_of};
 ghost use Rattle.gl_rows.specs.Walks.{HoldsRow, KnowsMore};
@@ -17,7 +19,7 @@ use gl_shortcut::Cuts;
 use gl_table::{Pass, Shared};
 
 /// Whether an access to a row completes a race: Race exactly where some Info that conflicts with it fails its test, over each list of events that
-/// the pass cannot tell from the table's. The pass holds the row, which is as it was taken, and has loaded the tail since. The events from the least
+/// the pass cannot tell from the table's, in which the row's Infos stand for accesses and the question is of a next access. The pass holds the row, which is as it was taken, and has loaded the tail since. The events from the least
 /// position of the row's Infos to that tail are loaded, each of them once, into the window, which has room for as many as the ring has cells.
 pub fn check(
     shared: &Shared,
@@ -33,7 +35,7 @@ pub fn check(
     requires thread { q.now.thread < THREADS }
     requires room { capacity shared.now.key ≤ vec_capacity window.old }
     ensures pass { KnowsMore pass.old pass.new }
-    ensures race { (setting : Setting) (l : List AStamp) → IsFitting setting (shelf_of pass.new) pass.new.seen pass.new.known l → (result ≡ Race) ↔ SomeFails l row.now q.now }
+    ensures race { (setting : Setting) (l : List AStamp) → IsFitting setting (shelf_of pass.new) pass.new.seen pass.new.known l → IsOfNext setting l q.now → InfosStand setting l row.now → (result ≡ Race) ↔ SomeFails l row.now q.now }
     ensures room { vec_capacity window.new ≡ vec_capacity window.old }
 {
     let from = least(row, pass.seen());
