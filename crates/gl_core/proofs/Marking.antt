@@ -1,12 +1,10 @@
 -- Marks by place: whether some of them is unknown.
-use Rattle.std.proofs.Common.{◌≡◌, ℕ, zero, suc, ◌+◌, ◌<◌, List, [], ◌∷◌, length, drop, set, replicate, refl, ap, sym, ◌∙◌, subst, inl, inr, arith, true, false, Bool, add-one}
+use Rattle.std.proofs.Common.{◌≡◌, ℕ, zero, suc, ◌+◌, List, [], ◌∷◌, replicate, refl, sym, subst, inl, inr, arith, true, false, Bool}
 use Rattle.std.specs.Prelude.{◌⊎◌, ◌↔◌, ◌||◌, ◌&&◌, nat_lt}
-use Rattle.std.proofs.Math.Seq.{drop-cons}
 use Rattle.std.proofs.lemmas.Bool.{le-ltb}
-use Rattle.std.proofs.lemmas.List.{get_or-set_same, get_or-set_other}
 use native.Mathlib.Decide.{ℕ_discrete}
 use Rattle.gl_core.specs.Cells.{at}
-use Rattle.gl_core.specs.Marks.{marks_fail, IsAlone}
+use Rattle.gl_core.specs.Marks.{marks_fail}
 
 -- ---- two tests joined
 
@@ -41,14 +39,6 @@ and_true false b e f = e
 pub and_none : (a b : Bool) → (a && b) ≡ false → a ≡ true → b ≡ false
 and_none true b e t = e
 and_none false b e t = absurd (cc)
-
-or_assoc : (a b c : Bool) → ((a || b) || c) ≡ (a || (b || c))
-or_assoc true b c = refl
-or_assoc false b c = refl
-
-or_nothing : (a : Bool) → (a || false) ≡ a
-or_nothing true = refl
-or_nothing false = refl
 
 -- two tests of one thing say the same
 pub same_bool : (a b : Bool) → (a ≡ true) ↔ (b ≡ true) → a ≡ b
@@ -100,57 +90,8 @@ only_mark known ms r alone = by (marks_fail known 0 ms) refl
         ]
     by false e = no_mark known ms e r
 
--- one mark more was looked at
-pub mark_more : (known : ℕ → ℕ) (ms : List ℕ) (u : ℕ) (f : Bool) → u < length ms → ((f || nat_lt (known u) (at ms u)) || marks_fail known (u + 1) (drop (u + 1) ms)) ≡ (f || marks_fail known u (drop u ms))
-mark_more known ms u f n =
-    let split : drop u ms ≡ at ms u ∷ drop (u + 1) ms = rw add-one (drop-cons ms u 0 n) in
-    or_assoc f (nat_lt (known u) (at ms u)) (marks_fail known (u + 1) (drop (u + 1) ms)) ∙ sym (ap (λ xs. f || marks_fail known u xs) split)
-
--- and none is left
-pub mark_all : (known : ℕ → ℕ) (ms : List ℕ) (u : ℕ) (f b : Bool) → drop u ms ≡ [] → (f || marks_fail known u (drop u ms)) ≡ b → f ≡ b
-mark_all known ms u f b none e = sym (or_nothing f) ∙ sym (ap (λ xs. f || marks_fail known u xs) none) ∙ e
-
 -- the marks of no access
 pub zero_at : (n u : ℕ) → at (replicate n 0) u ≡ 0
 zero_at zero u = refl
 zero_at (suc n) zero = refl
 zero_at (suc n) (suc u) = zero_at n u
-
-same_lists : (xs ys : List ℕ) → length xs ≡ length ys → ((u : ℕ) → at xs u ≡ at ys u) → xs ≡ ys
-same_lists [] [] l e = refl
-same_lists [] (y ∷ ys) l e = absurd (omega arith)
-same_lists (x ∷ xs) [] l e = absurd (omega arith)
-same_lists (x ∷ xs) (y ∷ ys) l e =
-    let here : x ≡ y = e 0 in
-    let rest : xs ≡ ys = same_lists xs ys (omega arith) (λ u. e (suc u)) in
-    ap (λ z. z ∷ xs) here ∙ ap (λ zs. y ∷ zs) rest
-
-zeros_length : (n : ℕ) → length {A = ℕ} (replicate n 0) ≡ n
-zeros_length zero = refl
-zeros_length (suc n) = ap suc (zeros_length n)
-
-set_length : (xs : List ℕ) (i v : ℕ) → length (set xs i v) ≡ length xs
-set_length [] i v = refl
-set_length (x ∷ xs) zero v = refl
-set_length (x ∷ xs) (suc i) v = ap suc (set_length xs i v)
-
--- the only mark taken away, none is left
-pub wiped : (ms : List ℕ) (r n : ℕ) → length ms ≡ n → r < n → ((u : ℕ) → (u ≡ r → ⊥) → at ms u ≡ 0) → set ms r 0 ≡ replicate n 0
-wiped ms r n long near alone = same_lists (set ms r 0) (replicate n 0) (set_length ms r 0 ∙ long ∙ sym (zeros_length n)) (λ u. each u ∙ sym (zero_at n u))
-  where
-    each : (u : ℕ) → at (set ms r 0) u ≡ 0
-    each u = elim (ℕ_discrete u r) [
-      | yes same ↦ subst (λ k. at (set ms r 0) k ≡ 0) (sym same) (get_or-set_same ms r 0 0 (omega arith))
-      | no other ↦ get_or-set_other ms r u 0 0 other ∙ alone u other
-    ]
-
--- a thread that puts its mark where it alone has any stays alone
-pub put_alone : (t : ℕ) (reads parts : List ℕ) (p c : ℕ) → IsAlone t reads parts → IsAlone t (set reads t p) (set parts t c)
-put_alone t reads parts p c alone u other = (get_or-set_other reads t u p 0 other ∙ (alone u other).0, get_or-set_other parts t u c 0 other ∙ (alone u other).1)
-
--- no thread has a mark, so any may be the only one
-pub none_alone : (r t : ℕ) (reads parts : List ℕ) → IsAlone r reads parts → at reads r ≡ 0 → at parts r ≡ 0 → IsAlone t reads parts
-none_alone r t reads parts alone a b u other = elim (ℕ_discrete u r) [
-  | yes same ↦ (subst (λ k. at reads k ≡ 0) (sym same) a, subst (λ k. at parts k ≡ 0) (sym same) b)
-  | no apart ↦ alone u apart
-]

@@ -14,6 +14,13 @@ use Rattle.gl_state.specs.declared.state.Stage.TheVariants as stage
 use Rattle.gl_state.specs.Acts.{stage_of}
 use Rattle.gl_state.specs.ListView.{ListView}
 use Rattle.gl_state.specs.States.{thread_state, monitor_state}
+use Rattle.std.specs.Prelude.{IfOk}
+use Rattle.std.proofs.Common.{Result, Ok, Err}
+use Rattle.gl_table.specs.PassView.{PassView, view_of}
+use Rattle.gl_table.specs.TableView.{TableView}
+use Rattle.gl_model.specs.declared.event.Act.TheVariants as act
+use Rattle.gl_events.specs.Answers.{IsDone}
+use Rattle.gl_events.specs.declared.done.Done.{Done}
 use Rattle.gl_rule.specs.Taken.{StateTold}
 use Rattle.gl_rule.specs.View.{View}
 use Rattle.gl_table.proofs.Doing.{shallow}
@@ -109,3 +116,12 @@ sound setting v l t told near =
 pub start_near : (setting : Setting) (main : ℕ) → main ≡ setting.main → main < FUNCTIONS → ((f : ℕ) → Contains setting.forkable f → f < FUNCTIONS) → (f : ℕ) → MayStart setting f → f < FUNCTIONS
 start_near setting main is near forkable f (inl e) = subst (λ n. n < FUNCTIONS) (is ∙ sym e) near
 start_near setting main is near forkable f (inr has) = forkable f has
+
+-- what begins with main or a function that may be forked
+pub done_starts : (z : TableView) (p q : PassView) (d : Done) → IsDone z p q (act.Begin d.func) d.value d → MayStart z.key.setting d.func
+done_starts z p q d is = starts_with z.key.setting (view_of p) is.state p.own.id d.func d.value is.looked.told is.may.1
+
+module _ {A E : Type 0} where
+  pub ok_map : (P Q : A → Type 0) → ((x : A) → P x → Q x) → (r : Result A E) → IfOk r P → IfOk r Q
+  ok_map P Q f (Ok x) h = f x h
+  ok_map P Q f (Err e) h = h

@@ -3,3 +3,4 @@ pub mod Beginnings
 pub mod Acts
 pub mod Answering
 pub mod Publishing
+pub mod HoldsLoaded

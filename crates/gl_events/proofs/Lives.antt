@@ -61,7 +61,7 @@ first_none (Abort tx why) es e = (refl, (λ h. h), (λ h. h))
 first_none (Trim low) es e = (refl, (λ h. h), (λ h. h))
 first_none (Over ending) es e = absurd (begun_not Closed es refl e)
 
-none_ended : (es : List Entry) → life_of es ≡ Unbegun → (i : ℕ) (e : Entry) → At es i e → (IsEnd e → ⊥) × (IsOver e → ⊥)
+pub none_ended : (es : List Entry) → life_of es ≡ Unbegun → (i : ℕ) (e : Entry) → At es i e → (IsEnd e → ⊥) × (IsOver e → ⊥)
 none_ended [] u i e at = absurd (cc)
 none_ended (x ∷ es) u zero e at = let f = first_none x es u in let same = some_same x e at in (subst (λ z. IsEnd z → ⊥) same f.1, subst (λ z. IsOver z → ⊥) same f.2)
 none_ended (x ∷ es) u (suc i) e at = none_ended es (ap (λ l. life_from l es) (sym (first_none x es u).0) ∙ u) i e at

@@ -1,3 +1,4 @@
 pub mod Calls
 pub mod Acting
 pub mod Answers
+pub mod Settling

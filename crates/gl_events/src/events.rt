@@ -4,6 +4,7 @@ ghost use Rattle.gl_model.specs.declared.event.Act.TheVariants.{Begin, End, Acq,
 ghost use Rattle.gl_model.specs.declared.limits.TheConstants.{THREADS, FUNCTIONS, CLASSES, MONITORS, VOLATILES};
 ghost use Rattle.gl_model.specs.Entries.{Sync};
 ghost use Rattle.gl_table.specs.Doing.{told};
+ghost use Rattle.gl_events.specs.Acting.{MayStart};
 ghost use Rattle.gl_events.specs.Answers.{MayCall, IsDone, IsStop, says_quiet};
 ghost use Rattle.gl_events.specs.Calls.{HasCode, child_in, not_owner, heap_full, threads_full, input_end, bad_thread};
 ghost use Rattle.gl_events.specs.declared.call.Call.TheVariants as call;
@@ -18,6 +19,7 @@ pub fn begin(shared: &Shared, pass: &mut Pass) -> Result<Done, Stop>
     requires may { MayCall call.Begin shared.now pass.old }
     ensures own { IfOk result (λ d. pass.new.own ≡ told (Sync d.at (Begin d.func) (d.value)) pass.old.own) }
     ensures done { IfOk result (λ d. IsDone shared.now pass.old pass.new (Begin d.func) (d.value) d) }
+    ensures starts { IfOk result (λ d. MayStart shared.now.key.setting d.func) }
     ensures code { IfOk result (λ d. HasCode call.Begin d) }
     ensures kept { OnErr result (pass.new.own ≡ pass.old.own) }
     ensures stop { IfErr result (λ s. IsStop call.Begin shared.now pass.old pass.new s) }

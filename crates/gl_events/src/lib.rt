@@ -7,7 +7,9 @@ mod done;
 mod event;
 mod events;
 mod look;
+mod settling;
 
 pub use call::Call;
 pub use done::{Done, Stop};
 pub use events::{alloc_object, begin, end, enter, exit, fork, input, join, print, vread, vwrite};
+pub use settling::settle;

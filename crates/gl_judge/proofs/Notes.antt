@@ -1,4 +1,5 @@
--- A row in which a performed access was noted stands for the draws with that access.
+-- A row in which a performed access was noted stands for the draws with that access. For the rows that running threads share; the detector of a
+-- trace keeps none.
 use Rattle.std.proofs.Common.{◌≡◌, ℕ, zero, suc, ◌+◌, ◌-◌, ◌<◌, ◌≤◌, ◌==◌, List, [], ◌∷◌, ◌++◌, length, take, drop, set, replicate, refl, sym, ◌∙◌, ap, subst, arith, Some, None, true, false, Bool, not, eq-eqb, ne_eqb, length-set}
 use Rattle.std.specs.Prelude.{◌↔◌, pos, IsTrue, IsSome, is_some, slice_range, slice_set, if◌then◌else◌}
 use Rattle.std.proofs.lemmas.List.{take_all, get_or-set_same, get_or-set_other, length_push}

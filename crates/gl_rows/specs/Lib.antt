@@ -1,1 +1,2 @@
 pub mod WritingBack
+pub mod Walks

@@ -1,6 +1,10 @@
-//! Accesses to the rows of the shared table: a word that is written back.
+//! Accesses to the rows of the shared table: the events behind a row's Infos are loaded, each of them once, an access is judged by them, and a
+//! private word is written back.
 #![tactic(auto)]
 
+mod checking;
 mod storing;
+mod walking;
 
+pub use checking::check;
 pub use storing::write_back;

@@ -67,10 +67,6 @@ after_one : (xs : List ℕ) (n : ℕ) (r : Result (List ℕ) ℕ) → after xs (
 after_one xs n (Ok ys) = ap Ok (sym (append_assoc xs (n ∷ []) ys))
 after_one xs n (Err kind) = refl
 
-after_none : (r : Result (List ℕ) ℕ) → r ≡ after [] r
-after_none (Ok ys) = refl
-after_none (Err kind) = refl
-
 set_new : (new xs : List ℕ) → Some new ≡ as_set xs → (new ≡ xs) × (is_set xs ≡ true)
 set_new new xs e = by (is_set xs) refl e
   where
@@ -86,9 +82,6 @@ pub record IsListed (text kept rest : List ℕ) : Type 0 where
   pub minus : list_any (λ b. b == 45) front ≡ false
   pub ids : (tail : List ℕ) → ids_of (slice_split is_comma (front ++ tail)) ≡ after kept (ids_of (slice_split is_comma tail))
   pub set : is_set kept ≡ true
-
-pub none_listed : (text : List ℕ) → IsListed text [] text
-none_listed text = record { front = []; whole = refl; clean = refl; minus = refl; ids = λ tail. after_none (ids_of (slice_split is_comma tail)); set = refl }
 
 module _ (text kept rest w : List ℕ) (stop : ℕ) (more' : List ℕ) (id : ℕ) (new : List ℕ) (l : IsListed text kept rest) (b : Begins rest w stop more') (value : operand_of (VARIABLES - 1) w ≡ Ok id) (digits : list_all is_ascii_digit w ≡ true) (put : Some new ≡ with_last (Some kept) id) where
   is_new : (new ≡ kept ++ id ∷ []) × (is_set (kept ++ id ∷ []) ≡ true)
