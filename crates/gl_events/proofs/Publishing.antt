@@ -171,6 +171,8 @@ done_is c z p q l l' low tail act value d call told plan to room later behind an
       later = later;
       behind = behind;
       step = is_step z.key.setting p l l' act value told (steps c z.key.setting p l l' act value told call.life plan.0 plan.1 to);
+      next = l';
+      moves = steps c z.key.setting p l l' act value told call.life plan.0 plan.1 to;
       answer = answer;
       seen = refl;
       known = refl;

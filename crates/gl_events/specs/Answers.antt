@@ -3,6 +3,7 @@ use Rattle.std.specs.Prelude.{◌≡◌, ◌≢◌, ℕ, ℤ, suc, ◌+◌, ◌*
 use Rattle.gl_model.specs.declared.event.Act.{Act}
 use Rattle.gl_model.specs.declared.event.Event.TheVariants.{Act as Does}
 use Rattle.gl_model.specs.declared.limits.TheConstants.{THREADS}
+use Rattle.gl_model.specs.Machine.{State, Step}
 use Rattle.gl_draws.specs.Ties.{counted}
 use Rattle.gl_rule.specs.declared.slot.Slot.TheVariants as slot
 use Rattle.gl_rule.specs.Lives.{life_of}
@@ -13,6 +14,7 @@ use Rattle.gl_state.specs.declared.state.Stage.TheVariants as stage
 use Rattle.gl_state.specs.Acts.{stage_of, is_live}
 use Rattle.gl_state.specs.Entering.{IsOfOther}
 use Rattle.gl_state.specs.ListView.{ListView}
+use Rattle.gl_state.specs.States.{IsStateOf}
 use Rattle.gl_table.specs.Doing.{IsStepOf}
 use Rattle.gl_table.specs.PassView.{PassView, view_of}
 use Rattle.gl_table.specs.TableView.{TableView}
@@ -62,13 +64,17 @@ abbrev pub IsRefused : Call → TableView → PassView → PassView → Stop →
 IsRefused c z p q s = (l : ListView) × Looked z p q l [] × Refuses c p.own.id l s
 
 -- why the call stopped: the turn was held; the state that was taken made the thread wait; or it did not, and there was no room
-abbrev pub IsStop : Call → TableView → PassView → PassView → Stop → Type 0
-IsStop c z p q (stop.Busy by) = (by < THREADS) × (q.reads ≡ p.reads ++ Busy 0 by ∷ [])
-IsStop c z p q (stop.Blocked owner) = IsRefused c z p q (stop.Blocked owner)
-IsStop c z p q (stop.NotEnded thread) = IsRefused c z p q (stop.NotEnded thread)
-IsStop c z p q (stop.NotForked live) = IsRefused c z p q (stop.NotForked live)
-IsStop c z p q (stop.RingFull low tail) =
+abbrev pub IsCause : Call → TableView → PassView → PassView → Stop → Type 0
+IsCause c z p q (stop.Busy by) = (by < THREADS) × (q.reads ≡ p.reads ++ Busy 0 by ∷ []) × (q.seen ≡ p.seen)
+IsCause c z p q (stop.Blocked owner) = IsRefused c z p q (stop.Blocked owner) × (q.seen ≡ p.seen)
+IsCause c z p q (stop.NotEnded thread) = IsRefused c z p q (stop.NotEnded thread) × (q.seen ≡ p.seen)
+IsCause c z p q (stop.NotForked live) = IsRefused c z p q (stop.NotForked live) × (q.seen ≡ p.seen)
+IsCause c z p q (stop.RingFull low tail) =
     (l : ListView) × Looked z p q l (Hold 0 low ∷ []) × ((s : Stop) → Refuses c p.own.id l s → ⊥) × (q.seen ≡ tail) × (p.seen ≤ tail) × (HasRoomAt z low tail → ⊥)
+
+-- after a stop the pass knows what it knew, and has the room that it had
+abbrev pub IsStop : Call → TableView → PassView → PassView → Stop → Type 0
+IsStop c z p q s = IsCause c z p q s × (q.known ≡ p.known) × (q.spare ≡ p.spare)
 
 -- the act was published with this value, as the state that was taken allows, where there was room, and is one step of the machine
 pub record IsDone (z : TableView) (p q : PassView) (act : Act) (value : ℤ) (d : Done) : Type 0 where
@@ -81,6 +87,9 @@ pub record IsDone (z : TableView) (p q : PassView) (act : Act) (value : ℤ) (d 
   pub later : p.seen ≤ tail
   pub behind : tail ≤ d.at
   pub step : IsStepOf z.key.setting p act value
+  -- from each state of the machine that the taken state stands for, it is one to a state that this one stands for
+  pub next : ListView
+  pub moves : (now : State) → IsStateOf state now → (new : State) × Step z.key.setting now (record { thread = p.own.id; event = Does act }) value new × IsStateOf next new
   pub answer : d ≡ done_of d.at act value
   pub seen : q.seen ≡ suc d.at
   pub known : q.known ≡ p.known ++ (d.at, record { thread = p.own.id; event = Does act }) ∷ []

@@ -42,7 +42,7 @@ home_above setting w hold (suc x) slot.Empty row i is nz st has = absurd st
 
 -- the object that was at home is what is told
 taken_told : (key : Key) (w : World) (id : ℕ) (v : View) (s : Shelf) (hold : ℕ → ℕ) (b : Board) {views : List View} → Whole key b w views → v.shelves ≡ s ∷ [] → ShelfFits w.log w.seat id s → Fits key b w id v → (k : ℕ) (y : Slot) → Stands key.setting w hold k y → TakenTold key.setting v k y
-taken_told key w id v s hold b whole one f mine zero (slot.List l) st = record { log = w.log; now = w.now; allowed = whole.machine.allowed; is = st; shelf = s; one = one; named = f.named; own = f.events; later = mine.knowledge.seen; few = whole.positions.few }
+taken_told key w id v s hold b whole one f mine zero (slot.List l) st = record { log = w.log; now = w.now; allowed = whole.machine.allowed; is = st; shelf = s; one = one; named = f.named; own = f.events; later = mine.knowledge.seen; known = mine.knowledge.known; few = whole.positions.few }
 taken_told key w id v s hold b whole one f mine zero slot.Empty st = absurd st
 taken_told key w id v s hold b whole one f mine zero (slot.Row row) st = absurd st
 taken_told key w id v s hold b whole one f mine (suc x) (slot.Row row) st = tt

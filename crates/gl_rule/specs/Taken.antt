@@ -1,5 +1,6 @@
 -- What is told of an object that was taken.
-use Rattle.std.specs.Prelude.{◌≡◌, ℕ, zero, suc, ◌<◌, ◌≤◌, ◌^◌, List, [], ◌∷◌, length}
+use Rattle.std.specs.Prelude.{◌≡◌, ℕ, zero, suc, ◌<◌, ◌≤◌, ◌^◌, List, [], ◌∷◌, length, Some, slice_get}
+use Rattle.std.specs.List.{All}
 use Rattle.gl_model.specs.declared.event.Stamp.{Stamp}
 use Rattle.gl_model.specs.declared.limits.TheConstants.{THREADS}
 use Rattle.gl_model.specs.Machine.{Setting, State, Allows}
@@ -22,6 +23,8 @@ pub record StateTold (setting : Setting) (v : View) (l : ListView) : Type 0 wher
   pub named : shelf.thread < THREADS
   pub own : AreEvents log shelf.thread shelf.marked
   pub later : v.seen ≤ length log
+  -- the events that the pass knows stand in their places
+  pub known : All (λ (k : ℕ × Stamp). slice_get log k.0 ≡ Some k.1) v.known
   pub few : (t : ℕ) → events_by t log ≤ 2 ^ 50
 
 -- the list's slot has a list's state, and a row's slot a row

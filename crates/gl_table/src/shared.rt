@@ -210,13 +210,13 @@ impl Shared {
     }
 
     /// Loads the hold of a row that the pass holds, which stays as it is until the row is put back, or until the pass raises it.
-    pub fn floor_of(&self, pass: &mut Pass, var: u16)
+    pub fn floor_of(&self, pass: &mut Pass, var: u16) -> u64
         requires table { pass.old.own.table ≡ self.now.id }
         requires near { var < VARIABLES }
         requires held { Contains pass.old.own.held (held_at (var + 1) pass.old.own.held) × ((held_at (var + 1) pass.old.own.held).object ≡ suc var) }
-        ensures pass { (n : ℕ) × (pass.new ≡ after pass.old (saw_floor (view_of pass.old) (held_at (var + 1) pass.old.own.held) n)) }
+        ensures pass { pass.new ≡ after pass.old (saw_floor (view_of pass.old) (held_at (var + 1) pass.old.own.held) result) }
     {
-        see_floor(&self.table.shared, pass, var);
+        see_floor(&self.table.shared, pass, var)
     }
 
     /// Raises the hold of a row that the pass holds, whose Infos were moved up in `row`.
