@@ -63,7 +63,7 @@ pub fn exit(shared: &Shared, pass: &mut Pass, monitor: u16) -> Result<Done, Stop
     ensures own { IfOk result (λ d. pass.new.own ≡ told (Sync d.at (if d.code == 0 then Rel monitor else Fail not_owner) (if d.code == 0 then pos 0 else pos monitor)) pass.old.own) }
     ensures done { IfOk result (λ d. IsDone shared.now pass.old pass.new (if d.code == 0 then Rel monitor else Fail not_owner) (if d.code == 0 then pos 0 else pos monitor) d) }
     ensures code { IfOk result (λ d. HasCode (call.Exit monitor) d) }
-    ensures own_code { IfOk result (λ d. d.code ≡ (if slice_index_or (levels_of pass.old.own.mine) monitor 0 == 0 then not_owner else 0)) }
+    ensures owner { IfOk result (λ d. d.code ≡ (if slice_index_or (levels_of pass.old.own.mine) monitor 0 == 0 then not_owner else 0)) }
     ensures kept { OnErr result (pass.new.own ≡ pass.old.own) }
     ensures stop { IfErr result (λ s. IsStop (call.Exit monitor) shared.now pass.old pass.new s) }
     ensures quiet { OnErr result (pass.new.quiet ≡ pass.old.quiet) }

@@ -8,8 +8,8 @@ use Rattle.gl_events.specs.declared.done.Done.{Done}
 use Rattle.gl_events.proofs.ExitCodes.{exit_code, ok_both}
 use Rattle.gl_events.proofs.events.exit.Goals as goal
 
-pub returns-clause-own_code : goal.returns-clause-own_code
-returns-clause-own_code c =
+pub returns-clause-owner : goal.returns-clause-owner
+returns-clause-owner c =
     let z = c.args.shared.now in
     let p = c.args.pass.now in
     let q = c.event.new.pass in
