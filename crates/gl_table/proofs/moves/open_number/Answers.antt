@@ -1,5 +1,4 @@
 use Rattle.std.proofs.Common.{arith, refl, subst, map}
-use Rattle.gl_model.specs.Entries.{seen}
 use Rattle.gl_rule.specs.Told.{Opened}
 use Rattle.gl_rule.specs.View.{shelf}
 use Rattle.gl_table.specs.CaughtUp.{block_of, caught_up}
@@ -13,7 +12,7 @@ fetch_add-requires g c = let near = c.requires.near in let long = c.requires.tab
 pub returns-clause-drew : goal.returns-clause-drew
 returns-clause-drew g c =
     let o = c.requires.told in
-    let es = map seen c.args.mine.now.items in
+    let es = c.args.mine.now.entries in
     let s = shelf c.args.id es in
     let v = caught_up c.args.seat.now.me.0 c.args.id es in
     let h = g.B.Told.held in
