@@ -233,7 +233,7 @@ module _ (p : PassView) (x : ℕ) (row : Row) (tail : ℕ) (known : List (ℕ ×
       let h' : Held = record h { drew = Some (draw p.own.id (block_of p.own.mine) (Entered (Plain x nth false a.write a.value a.raised))) } in
       let all = end ∙ ap (λ (z : PassView). after z (left (view_of z) (suc x) false)) (is ∙ ap (at_held a) (held_is p x row tail)) in
       let gone : without (suc x) (h' ∷ without (suc x) (h ∷ map (with_tail tail) p.own.held)) ≡ p.own.held =
-          ap (λ (l : List Held). without (suc x) (h' ∷ without (suc x) (h ∷ map (with_tail tail) l))) empty ∙ ap (λ (l : List Held). without (suc x) (h' ∷ l)) (none_left (suc x) h refl) ∙ none_left (suc x) h' refl ∙ sym empty in
+      ap (λ (l : List Held). without (suc x) (h' ∷ without (suc x) (h ∷ map (with_tail tail) l))) empty ∙ ap (λ (l : List Held). without (suc x) (h' ∷ l)) (none_left (suc x) h refl) ∙ none_left (suc x) h' refl ∙ sym empty in
       record {
         own = ap (λ (z : PassView). z.own) all ∙ ap (λ (l : List Held). record p.own { mine = p.own.mine ++ Plain x nth false a.write a.value a.raised ∷ []; held = l }) gone;
         reads = ap (λ (z : PassView). z.reads) all;
