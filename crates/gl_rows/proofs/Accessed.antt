@@ -1,9 +1,8 @@
 -- A pass between taking a row and putting it back, for an access.
-use Rattle.std.proofs.Common.{◌≡◌, ℕ, zero, suc, ◌+◌, ◌-◌, ◌<◌, ◌≤◌, ◌==◌, ◌||◌, not, map, List, [], ◌∷◌, ◌++◌, set, replicate, refl, sym, ap, subst, arith, ◌∙◌, inl, inr, true, false, Bool, Some, None, eq-eqb}
+use Rattle.std.proofs.Common.{◌≡◌, ℕ, zero, suc, ◌+◌, ◌-◌, ◌<◌, ◌||◌, not, map, List, [], ◌∷◌, ◌++◌, set, replicate, refl, sym, ap, subst, arith, ◌∙◌, inl, inr, true, false, Bool, Some, None, eq-eqb}
 use Rattle.std.specs.Prelude.{ℤ, pos, Option, ◌↔◌, ◌⊎◌, if◌then◌else◌, slice_set, slice_index_or, Contains}
 use Rattle.std.proofs.lemmas.Option.{slice_get_within}
 use Rattle.std.specs.Option.{is_some}
-use Rattle.gl_model.specs.declared.event.Element.{Element}
 use Rattle.gl_model.specs.declared.event.Stamp.{Stamp}
 use Rattle.gl_model.specs.declared.limits.TheConstants.{THREADS}
 use Rattle.gl_model.specs.declared.row.Info.{Info}
@@ -13,7 +12,8 @@ use Rattle.gl_model.specs.Entries.{Entry, Plain}
 use Rattle.gl_model.specs.Infos.{InfoFor, AreLeastOwned}
 use Rattle.gl_model.specs.Lockset.{Has}
 use Rattle.gl_model.specs.Locksets.{InitialLockset}
-use Rattle.gl_model.specs.Machine.{Setting}
+use Rattle.gl_model.specs.Machine.{Setting, Allows}
+use Rattle.gl_draws.specs.Events.{AreEvents}
 use Rattle.gl_draws.specs.Draws.{Draw, draw, Entered, access_of as access_drawn}
 use Rattle.gl_draws.specs.RowFacts.{RowStands, SomeFails, IsWithin}
 use Rattle.gl_draws.specs.Ties.{last_position}
@@ -38,9 +38,9 @@ use Rattle.gl_rows.specs.declared.accessing.PlainAccess.{PlainAccess}
 use Rattle.gl_rows.specs.declared.accessing.Seen.{Seen}
 use Rattle.gl_rows.specs.declared.accessing.Seen.TheVariants.{Value, Raised}
 use Rattle.gl_rows.specs.Accessing.{MayAccess, access_of, RowAfter, IsSeen, HasNumber, Answers, is_raised, value_told, question_of, IsJudged}
-use Rattle.gl_rows.specs.Walks.{placed_from, HasWalked, HoldsRow}
+use Rattle.gl_rows.specs.Walks.{HasWalked, HoldsRow}
 use Rattle.gl_rows.proofs.Noting.{OwnLeast, fits_pop, own_stands, still_last, raised_follows, write_follows, read_follows}
-use Rattle.gl_rows.proofs.Windows.{fits_before, stand_judged}
+use Rattle.gl_rows.proofs.Windows.{stand_judged}
 
 -- the row was taken, and the tail loaded
 abbrev pub with_row : PassView → ℕ → Row → ℕ → PassView
@@ -72,24 +72,20 @@ asks_as p q write by plain writes =
 pub block_is : (es : List Entry) (p : ℕ) → last_position es ≡ Some p → last_position es ≡ Some (block_of es)
 block_is es p e = e ∙ ap Some (sym (ap or_zero e))
 
--- the least monitors are so over what the pass knows later, too
-pub least_later : (setting : Setting) (p : PassView) (x : ℕ) (row : Row) (tail : ℕ) (w u : PassView) (held : List ℕ) → w ≡ with_row p x row tail → HasWalked row w u → OwnLeast setting w.own.id w.own.mine w.seen w.known held → OwnLeast setting p.own.id p.own.mine tail u.known held
-least_later setting p x row tail w u held is walk least = λ l now f allowed.
-    let known = ap (λ (z : PassView). z.known) walk.is in
-    let fewer = fits_before setting (shelf_of p) tail w.known (placed_from walk.from walk.events) l (subst (λ (k : List (ℕ × Stamp)). IsFitting setting (shelf_of p) tail k l) known f) in
-    let at_w = subst (λ (z : PassView). IsFitting setting (shelf_of z) z.seen w.known l) (sym is) fewer in
-    subst (λ t. AreLeastOwned now t held) (ap (λ (z : PassView). z.own.id) is) (least l now at_w allowed)
+-- the least monitors that its thread owns, before it took the row
+pub least_before : (setting : Setting) (p : PassView) (x : ℕ) (row : Row) (tail : ℕ) (w : PassView) (held : List ℕ) → w ≡ with_row p x row tail → OwnLeast setting w.own.id w.own.mine held → OwnLeast setting p.own.id p.own.mine held
+least_before setting p x row tail w held is least = λ l now. subst (λ (z : PassView). AreEvents l z.own.id z.own.mine → Allows setting l now → AreLeastOwned now z.own.id held) is (least l now)
 
 -- what is judged over the lists that the pass cannot tell from the table's
 pub judged_row : (setting : Setting) (p : PassView) (x : ℕ) (row : Row) (tail : ℕ) (w u : PassView) (q : Question) (write : Option ℤ) (verdict : Verdict) (race : Bool) → life_of p.own.mine ≡ Running → w ≡ with_row p x row tail → HasWalked row w u
-    → q.thread ≡ p.own.id → q.commit ≡ None → q.write ≡ is_some write → OwnLeast setting w.own.id w.own.mine w.seen w.known q.held
+    → q.thread ≡ p.own.id → q.commit ≡ None → q.write ≡ is_some write → OwnLeast setting w.own.id w.own.mine q.held
     → ((l : List Stamp) → IsFitting setting (shelf_of u) u.seen u.known l → IsOfNext setting l q → judging.InfosStand setting l row → (verdict ≡ Race) ↔ SomeFails l row q)
     → ((race ≡ true) ↔ (verdict ≡ Race)) → (l : List Stamp) → IsFitting setting (shelf_of p) tail u.known l → InfosStand setting l row → (race ≡ true) ↔ SomeFails l row (question_of p.own write)
 judged_row setting p x row tail w u q write verdict race runs is walk by plain writes least judges same l f stand =
     let u_is = walked_is p x row tail w u is walk in
     let fits = subst (λ (z : PassView). IsFitting setting (shelf_of z) z.seen u.known l) (sym u_is) f in
     let b = has_block p.own.mine runs in
-    let later = least_later setting p x row tail w u q.held is walk least in
+    let before = least_before setting p x row tail w q.held is least in
     let next : IsOfNext setting l q = record {
       thread = refl;
       write_mark = refl;
@@ -97,7 +93,7 @@ judged_row setting p x row tail w u q write verdict race runs is walk by plain w
       now = f.now;
       allowed = f.allowed;
       runs = subst (λ t. f.now.threads t ≡ Rattle.gl_model.specs.Machine.Running) (sym by) (running_law setting l f.now p.own.id b.0 p.own.mine f.allowed f.own b.1 (no_end p.own.mine runs));
-      held = subst (λ t. AreLeastOwned f.now t q.held) (sym by) (later l f.now f f.allowed);
+      held = subst (λ t. AreLeastOwned f.now t q.held) (sym by) (before l f.now f.own f.allowed);
     } in
     let k = judges l fits next (stand_judged setting l row stand) in
     let both : (race ≡ true) ↔ SomeFails l row q = (λ r. k.0 (same.0 r), λ s. same.1 (k.1 s)) in
@@ -250,7 +246,7 @@ module _ (p : PassView) (x : ℕ) (row : Row) (tail : ℕ) (known : List (ℕ ×
       let h = subst (λ m. IsFitting setting (shelf p.own.id (p.own.mine ++ Plain x nth false a.write a.value a.raised ∷ [])) m r.known l) s.seen g in
       fits_pop setting p.own.id p.own.mine (Plain x nth false a.write a.value a.raised) tail known l refl (subst (λ (k : List (ℕ × Stamp)). IsFitting setting (shelf p.own.id (p.own.mine ++ Plain x nth false a.write a.value a.raised ∷ [])) tail k l) s.known_is h)
 
-module _ (setting : Setting) (p : PassView) (x : ℕ) (row : Row) (tail : ℕ) (known : List (ℕ × Stamp)) (loaded : List CellWord) (runs : life_of p.own.mine ≡ Running) (nth : ℕ) (q : Question) (near : p.own.id < THREADS) (by : q.thread ≡ p.own.id) (plain : q.commit ≡ None) (least : OwnLeast setting p.own.id p.own.mine tail known q.held) where
+module _ (setting : Setting) (p : PassView) (x : ℕ) (row : Row) (tail : ℕ) (known : List (ℕ × Stamp)) (loaded : List CellWord) (runs : life_of p.own.mine ≡ Running) (nth : ℕ) (q : Question) (near : p.own.id < THREADS) (by : q.thread ≡ p.own.id) (plain : q.commit ≡ None) (least : OwnLeast setting p.own.id p.own.mine q.held) where
   last : last_position p.own.mine ≡ Some (block_of p.own.mine)
   last = let b = has_block p.own.mine runs in block_is p.own.mine b.0 b.1
 
@@ -272,7 +268,7 @@ module _ (setting : Setting) (p : PassView) (x : ℕ) (row : Row) (tail : ℕ) (
       let at = n.pos in
       own_stands setting p.own.id (block_of p.own.mine) x nth p.own.mine write raised value last goes tail known i (n.thread ∙ by) (n.write ∙ w) (n.commit ∙ ap is_some plain) (omega arith) (omega arith)
       (λ y. subst (λ t. Has i.set y ↔ InitialLockset t None y) by (subst (λ v. Has i.set y ↔ InitialLockset q.thread v y) plain (n.set y)))
-      (subst (OwnLeast setting p.own.id p.own.mine tail known) (sym n.held) least) l f
+      (subst (OwnLeast setting p.own.id p.own.mine) (sym n.held) least) l f
 
   follows : (write raised : Bool) (value : ℤ) → q.write ≡ write → (write ≡ false → raised ≡ false → value ≡ row.value) → (new : Row) → RowAfter row (record { write = write; value = value; raised = raised }) q tail new → (l : List Stamp) → Fits write raised value l → (ds : List Draw) → RowStands setting l x ds row
       → RowStands setting l x (drawn write raised value ∷ ds) new

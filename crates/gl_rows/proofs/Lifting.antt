@@ -1,11 +1,10 @@
 -- A pass while it moves a row up: how it goes from step to step.
-use Rattle.std.proofs.Common.{◌≡◌, ℕ, suc, ◌+◌, ◌<◌, ◌≤◌, ◌==◌, ◌||◌, not, map, List, [], ◌∷◌, ◌++◌, refl, sym, ap, subst, arith, ◌∙◌, inl, inr, true, false, Bool, Some, None, eq-eqb, ne_eqb, append_assoc, append-nil, length}
-use Rattle.std.specs.Prelude.{◌⊎◌, Contains, if◌then◌else◌}
+use Rattle.std.proofs.Common.{◌≡◌, ℕ, suc, ◌+◌, ◌<◌, ◌≤◌, ◌||◌, not, List, [], ◌∷◌, ◌++◌, refl, sym, ap, subst, arith, ◌∙◌, inl, inr, true, false, Bool, Some, None, eq-eqb, ne_eqb, append_assoc, append-nil}
+use Rattle.std.specs.Prelude.{Contains, if◌then◌else◌}
 use Rattle.gl_model.specs.declared.event.Stamp.{Stamp}
 use Rattle.gl_model.specs.declared.row.Info.{Info}
 use Rattle.gl_model.specs.declared.row.Row.{Row}
 use Rattle.gl_model.specs.Machine.{Setting}
-use Rattle.gl_draws.specs.Draws.{Draw}
 use Rattle.gl_draws.specs.Moved.{IsRowMoved}
 use Rattle.gl_draws.specs.RowFacts.{RowStands, IsWithin}
 use Rattle.gl_draws.proofs.MovedRows.{row_moved}
@@ -17,7 +16,7 @@ use Rattle.gl_rule.specs.View.{Held, Read, CellWord, Taken, Hold, new_held, with
 use Rattle.gl_table.specs.PassView.{PassView, view_of, shelf_of, after}
 use Rattle.gl_table.specs.Putting.{MayPutBack, held_at}
 use Rattle.gl_table.specs.Says.{no_held}
-use Rattle.gl_rows.specs.Advancing.{LoadedHolds, HasAdvanced}
+use Rattle.gl_rows.specs.Advancing.{HasAdvanced}
 use Rattle.gl_rows.specs.Walks.{placed_from, HasWalkedTo, HoldsRow}
 
 or_false : (b : Bool) → (b || false) ≡ b

@@ -1,6 +1,6 @@
 -- A row whose Infos were moved up to a position, over each list that a pass cannot tell from the table's.
 use Rattle.std.proofs.Common.{◌≡◌, ℕ, ◌+◌, ◌-◌, ◌<◌, ◌≤◌, List, length, take, drop, refl, sym, ap, subst, ◌∙◌, inl, inr, arith, Some, None}
-use Rattle.std.specs.Prelude.{◌⊎◌, ◌↔◌, Option, Contains, slice_get}
+use Rattle.std.specs.Prelude.{◌↔◌, Option, Contains, slice_get}
 use Rattle.std.proofs.lemmas.List.{drop-drop, drop-take, take-append-drop, length-take-le}
 use Rattle.std.proofs.lemmas.List.Elements.{All-contains}
 use Rattle.std.proofs.lemmas.Option.{slice_get_within}
@@ -20,7 +20,7 @@ use Rattle.gl_rule.specs.Values.{InRow}
 use Rattle.gl_rule.specs.View.{Shelf}
 use Rattle.gl_table.specs.PassView.{PassView, shelf_of}
 use Rattle.gl_rows.specs.Moving.{IsMovedTo, AreMovedTo, IsRowMovedTo}
-use Rattle.gl_rows.specs.Walks.{placed_from, KnowsFrom}
+use Rattle.gl_rows.specs.Walks.{KnowsFrom}
 use Rattle.gl_rows.proofs.Windows.{known_from}
 
 -- the events that were loaded are those of each such list, up to where they end

@@ -1,5 +1,5 @@
 -- The row that comes back after a plain access was marked: over each fitting list it is that of the draws of the row as it was taken, and of the mark's.
-use Rattle.std.proofs.Common.{◌≡◌, ℕ, ◌+◌, ◌<◌, ◌≤◌, List, [], ◌∷◌, ◌++◌, length, take, set, replicate, sym, refl, ap, subst, arith, ◌∙◌, true, false, Bool, inl, inr, Some, None}
+use Rattle.std.proofs.Common.{◌≡◌, ℕ, ◌+◌, ◌<◌, ◌≤◌, List, [], ◌∷◌, ◌++◌, set, replicate, refl, ap, arith, ◌∙◌, true, false, Bool, inl, inr, Some, None}
 use Rattle.std.specs.Prelude.{ℤ, ◌↔◌}
 use Rattle.gl_model.specs.declared.event.Stamp.{Stamp}
 use Rattle.gl_model.specs.declared.event.Element.{Element}
@@ -40,9 +40,9 @@ events_pop h t es e none k = record {
 pub fits_pop : (setting : Setting) (t : ℕ) (es : List Entry) (e : Entry) (seen : ℕ) (known : List (ℕ × Stamp)) (l : List Stamp) → position_of e ≡ None → IsFitting setting (shelf t (es ++ e ∷ [])) seen known l → IsFitting setting (shelf t es) seen known l
 fits_pop setting t es e seen known l none f = record { long = f.long; now = f.now; allowed = f.allowed; knows = f.knows; own = events_pop l t es e none f.own }
 
--- over each fitting list these are the least monitors that the thread owns behind it
-abbrev pub OwnLeast : Setting → ℕ → List Entry → ℕ → List (ℕ × Stamp) → List ℕ → Type 0
-OwnLeast setting t es seen known held = (l : List Stamp) (now : State) → IsFitting setting (shelf t es) seen known l → Allows setting l now → AreLeastOwned now t held
+-- over each list that has the thread's events these are the least monitors that it owns behind it
+abbrev pub OwnLeast : Setting → ℕ → List Entry → List ℕ → Type 0
+OwnLeast setting t es held = (l : List Stamp) (now : State) → AreEvents l t es → Allows setting l now → AreLeastOwned now t held
 
 -- thread t has stored es, and then a plain entry on x in the block at p
 module _ (setting : Setting) (t p x nth : ℕ) (es : List Entry) (write raised : Bool) (value : ℤ) (last : last_position es ≡ Some p) (goes_on : IsNotOver es) (seen : ℕ) (known : List (ℕ × Stamp)) where
@@ -68,13 +68,13 @@ module _ (setting : Setting) (t p x nth : ℕ) (es : List Entry) (write raised :
 
   -- an Info with the set that an own access starts with, at a position that was seen, stands for the access over each fitting list
   pub own_stands : (i : Info) → i.thread ≡ t → i.write ≡ write → i.commit ≡ false → p < i.pos → i.pos ≤ seen → ((y : Element) → Has i.set y ↔ InitialLockset t None y)
-      → OwnLeast setting t es seen known i.held → (l : List Stamp) → Fits l → InfoFor setting l i (access_of d) write
+      → OwnLeast setting t es i.held → (l : List Stamp) → Fits l → InfoFor setting l i (access_of d) write
   own_stands i by writes commit behind within starts held l f =
       let k = last_own l t (es ++ e ∷ []) f.own p still_last in
       let long = f.long in
       let s = state_at setting (start setting) f.now l (p + 1) t f.allowed (λ q ev here own. let w = k.upto q ev here own in omega arith) in
       own_info setting l f.now f.allowed (access_of d) (made_there l f) refl k.upto i write by writes commit s.state s.run
-      (least_owned s.state f.now t i.held s.owns (held l f.now (fits_pop setting t es (Plain x nth false write value raised) seen known l refl f) f.allowed))
+      (least_owned s.state f.now t i.held s.owns (held l f.now (events_pop l t es (Plain x nth false write value raised) refl f.own) f.allowed))
       behind (omega arith) starts
 
 -- what the row becomes

@@ -8,14 +8,14 @@ use native.Mathlib.Decide.{ℕ_discrete}
 use Rattle.gl_events.specs.Settling.{MaySettle, IsSettled, IsOpen}
 use Rattle.gl_events.specs.Settling as settling
 use Rattle.gl_model.specs.declared.limits.TheConstants.{VARIABLES}
-use Rattle.gl_model.specs.Entries.{Entry, Trim}
+use Rattle.gl_model.specs.Entries.{Trim}
 use Rattle.gl_rule.specs.declared.slot.Slot.TheVariants as slot
 use Rattle.gl_rule.specs.View.{Read, Hold, Taken, Busy, saw, saw_tail}
 use Rattle.gl_table.specs.declared.shared.Busy.{Busy as WasBusy}
 use Rattle.gl_table.specs.PassView.{PassView, Own, view_of, after}
 use Rattle.gl_table.specs.TableView.{TableView}
 use Rattle.gl_rows.specs.Advancing.{HasAdvanced, LoadedHolds}
-use Rattle.gl_rows.specs.Sweeping.{IsFar, IsStill, IsTried, AreTried, Reaches, IsSwept}
+use Rattle.gl_rows.specs.Sweeping.{IsFar, IsStill, IsTried, AreTried, IsSwept}
 use Rattle.gl_rows.specs.Walks.{ReadBusy}
 
 -- more reads say no less

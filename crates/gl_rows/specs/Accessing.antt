@@ -4,7 +4,7 @@ use Rattle.std.specs.Option.{is_some}
 use Rattle.gl_model.specs.declared.event.Stamp.{Stamp}
 use Rattle.gl_model.specs.declared.row.Row.{Row}
 use Rattle.gl_model.specs.declared.row.Question.{Question}
-use Rattle.gl_model.specs.Entries.{Entry, Plain}
+use Rattle.gl_model.specs.Entries.{Plain}
 use Rattle.gl_model.specs.Machine.{Setting}
 use Rattle.gl_draws.specs.RowFacts.{SomeFails}
 use Rattle.gl_draws.specs.Ties.{counted}

@@ -1,6 +1,5 @@
 -- A pass that makes room in the ring.
-use Rattle.std.specs.Prelude.{◌≡◌, ◌⊎◌, ℕ, suc, ◌*◌, ◌/◌, ◌<◌, ◌≤◌, List, [], ◌∷◌, ◌++◌, Contains}
-use Rattle.gl_model.specs.declared.limits.TheConstants.{VARIABLES}
+use Rattle.std.specs.Prelude.{◌≡◌, ◌⊎◌, ℕ, suc, ◌/◌, ◌<◌, ◌≤◌, List, [], ◌∷◌, ◌++◌, Contains}
 use Rattle.gl_model.specs.Entries.{Entry, Trim}
 use Rattle.gl_rule.specs.View.{Read, Hold, Busy}
 use Rattle.gl_table.specs.PassView.{PassView}

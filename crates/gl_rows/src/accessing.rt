@@ -7,7 +7,6 @@ ghost use Rattle.gl_rows.specs.Accessing.{MayAccess, access_of, RowAfter, IsSeen
 ghost use Rattle.gl_rows.specs.Walks.{ReadBusy};
 
 use crate::checking::check;
-use crate::owning::monitors;
 use crate::window::Window;
 use gl_judge::{Verdict, note};
 use gl_model::{Question, Row};
@@ -113,7 +112,7 @@ pub fn access(
         thread: pass.id(),
         write: write.is_some(),
         commit: None,
-        held: monitors(pass),
+        held: pass.monitors(),
     };
     let race = is_race(check(shared, pass, kept.row(), &q, cuts, window));
     let access = judged(kept.row(), write, race);

@@ -6,7 +6,6 @@ mod accessing;
 mod advancing;
 mod checking;
 mod moving;
-mod owning;
 mod storing;
 mod sweeping;
 mod walking;

@@ -1,4 +1,4 @@
-use Rattle.std.proofs.Common.{◌≡◌, ◌<◌, refl, sym, ap, subst, ◌∙◌, rules, true, false, FitsSigned, w64}
+use Rattle.std.proofs.Common.{◌≡◌, ◌<◌, refl, sym, ap, subst, ◌∙◌, rules, FitsSigned, w64}
 use Rattle.std.specs.Prelude.{◌↔◌, None}
 use Rattle.std.proofs.lemmas.Int.{to_z-of_z}
 use Rattle.gl_model.specs.declared.limits.TheConstants.{THREADS}
@@ -9,9 +9,9 @@ use Rattle.gl_judge.specs.Standing as judging
 use Rattle.gl_table.specs.PassView.{PassView, view_of, after}
 use Rattle.gl_table.specs.Putting.{MayMarkPlain, marked_plain}
 use Rattle.gl_rule.specs.View.{saw_tail}
-use Rattle.gl_rows.specs.Accessing.{access_of, RowAfter}
+use Rattle.gl_rows.specs.Accessing.{access_of}
 use Rattle.gl_rows.specs.Walks.{HoldsRow, HasWalked}
-use Rattle.gl_rows.proofs.Accessed.{walked_is, least_later, judged_row, holds_row, row_within, access_facts, may_mark_row, may_put_row, is_stored, is_judged}
+use Rattle.gl_rows.proofs.Accessed.{walked_is, least_before, judged_row, holds_row, row_within, access_facts, may_mark_row, may_put_row, is_stored, is_judged}
 use Rattle.gl_rows.proofs.accessing.access.Goals as goal
 
 pub check-requires-clause-held : goal.check-requires-clause-held
@@ -38,7 +38,7 @@ mark-nth-requires-clause-may g c =
     let fits : FitsSigned w64 a.value = search rules in
     let q : Question = record { thread = c.id.result; write = c.is_some.result; commit = None; held = c.monitors.result } in
     let judged = judged_row z.key.setting p c.args.var row c.tail-tail.result w u q c.args.write c.check.result c.is_race-race.result c.requires.may.runs is walk
-    (c.id.ensures.is ∙ ap (λ (q : PassView). q.own.id) is) refl c.is_some.ensures (c.monitors.ensures z.key.setting)
+    (c.id.ensures.is ∙ ap (λ (q : PassView). q.own.id) is) refl c.is_some.ensures (c.monitors.ensures.owned z.key.setting)
     (λ l f next stand. subst (λ r. (c.check.result ≡ Race) ↔ SomeFails l r q) c.row.ensures (c.check.ensures.race z.key.setting l f next (subst (judging.InfosStand z.key.setting l) (sym c.row.ensures) stand)))
     c.is_race-race.ensures in
     let same = c.judged-access.ensures ∙ ap (λ r. access_of r c.args.write c.is_race-race.result) c.row-2.ensures in
@@ -64,7 +64,7 @@ put_row-requires-clause-may g c =
     let same = c.judged-access.ensures ∙ ap (λ r. access_of r c.args.write c.is_race-race.result) c.row-2.ensures in
     let f = access_facts row c.args.write c.is_race-race.result in
     may_put_row z.key.setting p c.args.var row c.tail-tail.result u.known u.loaded c.requires.may.runs c.mark-nth.result q (subst (λ t. t < THREADS) own c.id.ensures.near) own refl
-    (least_later z.key.setting p c.args.var row c.tail-tail.result w u c.monitors.result is walk (c.monitors.ensures z.key.setting))
+    (least_before z.key.setting p c.args.var row c.tail-tail.result w c.monitors.result is (c.monitors.ensures.owned z.key.setting))
     a (c.is_some.ensures ∙ sym (ap (λ a. a.write) same ∙ f.0)) (λ n r. ap (λ a. a.value) same ∙ f.2 (sym (ap (λ a. a.write) same) ∙ n) (sym (ap (λ a. a.raised) same) ∙ r))
     c.store.new.kept c.mark-nth.new.pass made c.store.ensures
 
@@ -86,6 +86,6 @@ returns-clause-judged g c =
     is_judged z.key.setting p c.args.var row c.tail-tail.result u.known u.loaded c.mark-nth.result c.args.write c.is_race-race.result a c.answer.result c.put_row.new.pass same c.answer.ensures
     (is_stored p c.args.var row c.tail-tail.result u.known u.loaded c.mark-nth.result a c.mark-nth.new.pass c.put_row.new.pass c.requires.may.held made c.put_row.ensures)
     (judged_row z.key.setting p c.args.var row c.tail-tail.result w u q c.args.write c.check.result c.is_race-race.result c.requires.may.runs is walk
-    (c.id.ensures.is ∙ ap (λ (q : PassView). q.own.id) is) refl c.is_some.ensures (c.monitors.ensures z.key.setting)
+    (c.id.ensures.is ∙ ap (λ (q : PassView). q.own.id) is) refl c.is_some.ensures (c.monitors.ensures.owned z.key.setting)
     (λ l f next stand. subst (λ r. (c.check.result ≡ Race) ↔ SomeFails l r q) c.row.ensures (c.check.ensures.race z.key.setting l f next (subst (judging.InfosStand z.key.setting l) (sym c.row.ensures) stand)))
     c.is_race-race.ensures)

@@ -1,4 +1,4 @@
-use Rattle.std.proofs.Common.{◌≡◌, suc, ◌+◌, ◌<◌, ◌≤◌, sym, ap, subst, arith, ◌∙◌, false}
+use Rattle.std.proofs.Common.{suc, ◌≤◌, sym, ap, subst, arith, false}
 use Rattle.gl_draws.specs.Moved.{IsRowMoved}
 use Rattle.gl_draws.specs.RowFacts.{IsWithin}
 use Rattle.gl_rule.specs.declared.slot.Slot.TheVariants as slot

@@ -1,4 +1,4 @@
-use Rattle.std.proofs.Common.{◌≡◌, ◌+◌, length, sym, subst, ◌∙◌}
+use Rattle.std.proofs.Common.{subst}
 use Rattle.gl_rows.specs.Moving.{IsRowMovedTo}
 use Rattle.gl_rows.proofs.Windows.{has_walked}
 use Rattle.gl_rows.proofs.Moved.{row_lifted, row_above}

@@ -1,4 +1,4 @@
-use Rattle.std.proofs.Common.{◌<◌, ◌≤◌, arith, rules, ap, ◌∙◌, refl}
+use Rattle.std.proofs.Common.{◌∙◌, refl}
 use Rattle.gl_rows.proofs.Swept.{tried_none, tried_next}
 use Rattle.gl_rows.proofs.sweeping.try_rows.Goals as goal
 
