@@ -163,8 +163,8 @@ draws_number key slots id v c s h x taken p what s' drawn' one may shows st rule
     let bound : length ds ≤ 16 * (2 ^ 51 + 2) = draws_bound 16 (2 ^ 51 + 2) ds (H.whole.numbers.threads x) (H.whole.numbers.few x) in
     let small : n + 1 < 2 ^ 64 = omega arith in
     let above : IsAboveDrawn x n v.drawn = λ k look waits.
-      let at = shelf_draws.numbers.in_flight (record { var = x; nth = k; look = look }) waits in
-      subst (λ z. k < z) (sym count) (draw_below ds k at.0 at.1) in
+    let at = shelf_draws.numbers.in_flight (record { var = x; nth = k; look = look }) waits in
+    subst (λ z. k < z) (sym count) (draw_below ds k at.0 at.1) in
     let m = (n + 1) % 2 ^ 64 in
     let next : m ≡ n + 1 = mod-eq_of_lt small in
     let b' = board cap (set st.words (3 * k) m) in

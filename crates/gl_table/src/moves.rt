@@ -16,7 +16,7 @@ ghost use Rattle.gl_rule.specs.Objects.{capacity, objects};
 ghost use Rattle.gl_table.specs.OfTable.{OfTable};
 ghost use Rattle.gl_table.specs.PassInside.{IsReady};
 ghost use Rattle.gl_table.specs.Putting.{MayPutBack, held_at};
-ghost use Rattle.gl_rule.specs.Told.{Took, Left, SawTail, Saw, PutWord, PublishedAct, Marked, Opened, SawCell, SawEvent, SawFloor, Raised, Lowered};
+ghost use Rattle.gl_rule.specs.Told.{Took, Left, SawTail, Saw, SawHold, PutWord, PublishedAct, Marked, Opened, SawCell, SawEvent, SawFloor, Raised, Lowered};
 ghost use Rattle.gl_rule.specs.View.{Shelf, shelf, Held, Hold, Stop};
 ghost use Rattle.gl_rule.specs.declared.slot.Slot.{Slot as ASlot};
 ghost use Rattle.gl_rule.specs.declared.slot.Slot.TheVariants as slot;
@@ -97,7 +97,7 @@ pub fn load_hold<B: Told>(
     requires told { (B.view ≡ caught_up seat.old.me.0 id mine.now.entries) × (B.object ≡ object) }
     requires near { object < objects }
     ensures seat { (seat.new.table_id ≡ seat.old.table_id) × (seat.new.id ≡ seat.old.id) }
-    ensures saw { Saw (Hold object result) (caught_up seat.old.me.0 id mine.now.entries) seat.old.me.1 seat.new.me }
+    ensures saw { SawHold object (caught_up seat.old.me.0 id mine.now.entries) seat.old.me.1 result seat.new.me }
 {
     board.load::<SeesHold<B>>(seat, 3 * object as usize + 2)
 }

@@ -1,5 +1,5 @@
 // What one thread brings to the table and takes from it.
-ghost use Rattle.std.specs.Prelude.{◌≡◌, map, ◌||◌, ℕ, ◌<◌, ◌≤◌, ◌+◌, true, false, suc, Contains, OnOk, OnErr, IfOk, IfErr};
+ghost use Rattle.std.specs.Prelude.{◌≡◌, map, ◌||◌, ℕ, ◌<◌, ◌≤◌, ◌+◌, true, false, suc, Contains, OnOk, OnErr, IfOk, IfErr, Some};
 ghost use Rattle.gl_model.specs.declared.limits.TheConstants.{THREADS};
 ghost use Rattle.gl_model.specs.Entries.{Abort, Over, Plain};
 ghost use Rattle.gl_rule.specs.Adding.{MayCache};
@@ -238,6 +238,7 @@ pub(crate) fn see_hold(board: &Board, pass: &mut Pass, k: u16) -> u64
     requires table { OfTable pass.old.own.table board.now.table_id (key_of board.now.key) }
     requires near { k < objects }
     ensures pass { pass.new ≡ after pass.old (saw (view_of pass.old) (Hold k result)) }
+    ensures risen { (m : ℕ) → Contains pass.old.reads (Hold k m) → m ≤ result }
 {
     load_hold::<Brand>(board, &mut pass.seat, pass.id, &pass.mine, k)
 }
@@ -300,6 +301,7 @@ pub(crate) fn see_floor(board: &Board, pass: &mut Pass, var: u16) -> u64
     requires near { var < 1024 }
     requires held { Contains pass.old.own.held (held_at (var + 1) pass.old.own.held) × ((held_at (var + 1) pass.old.own.held).object ≡ suc var) }
     ensures pass { pass.new ≡ after pass.old (saw_floor (view_of pass.old) (held_at (var + 1) pass.old.own.held) result) }
+    ensures same { (m : ℕ) → (held_at (var + 1) pass.old.own.held).floor ≡ Some m → result ≡ m }
 {
     load_floor::<Brand>(board, &mut pass.seat, pass.id, &pass.mine, var)
 }

@@ -1,5 +1,5 @@
 // The table that threads share.
-ghost use Rattle.std.specs.Prelude.{◌≡◌, ◌≢◌, max, Contains, ℕ, ◌+◌, ◌*◌, ◌<◌, ◌≤◌, IsTrue, ◌↔◌, IfOk, OnOk, IfErr, [], pos, suc, false, List};
+ghost use Rattle.std.specs.Prelude.{◌≡◌, ◌≢◌, max, Contains, ℕ, ◌+◌, ◌*◌, ◌<◌, ◌≤◌, IsTrue, ◌↔◌, IfOk, OnOk, IfErr, [], pos, suc, false, List, Some};
 ghost use Rattle.gl_model.specs.declared.limits.TheConstants.{MONITORS, VARIABLES};
 ghost use Rattle.gl_segments.specs.Rings.{IsRing};
 ghost use Rattle.gl_rule.specs.Objects.{capacity, objects};
@@ -203,21 +203,24 @@ impl Shared {
         mark_plain(&self.table.shared, pass, var, write, value, raised)
     }
 
-    /// Loads the hold of a row: no position below it is walked from for the variable.
+    /// Loads the hold of a row: no position below it is walked from for the variable. It is no less than this pass has loaded it before.
     pub fn hold_of(&self, pass: &mut Pass, var: u16) -> u64
         requires table { pass.old.own.table ≡ self.now.id }
         requires near { var < VARIABLES }
         ensures pass { pass.new ≡ after pass.old (saw (view_of pass.old) (Hold (var + 1) result)) }
+        ensures risen { (m : ℕ) → Contains pass.old.reads (Hold (var + 1) m) → m ≤ result }
     {
         see_hold(&self.table.shared, pass, var + 1)
     }
 
-    /// Loads the hold of a row that the pass holds, which stays as it is until the row is put back, or until the pass raises it.
+    /// Loads the hold of a row that the pass holds, which stays as it is until the row is put back, or until the pass raises it: where it
+    /// was loaded or raised since the row was taken, it is that.
     pub fn floor_of(&self, pass: &mut Pass, var: u16) -> u64
         requires table { pass.old.own.table ≡ self.now.id }
         requires near { var < VARIABLES }
         requires held { Contains pass.old.own.held (held_at (var + 1) pass.old.own.held) × ((held_at (var + 1) pass.old.own.held).object ≡ suc var) }
         ensures pass { pass.new ≡ after pass.old (saw_floor (view_of pass.old) (held_at (var + 1) pass.old.own.held) result) }
+        ensures same { (m : ℕ) → (held_at (var + 1) pass.old.own.held).floor ≡ Some m → result ≡ m }
     {
         see_floor(&self.table.shared, pass, var)
     }
