@@ -24,6 +24,8 @@ pub record AreLoaded (k : ℕ) (p q : PassView) (least : ℕ) : Type 0 where
   pub is : q ≡ record p { reads = p.reads ++ further }
   pub each : (x : ℕ) → x < k → (n : ℕ) × Contains further (Hold (suc x) n) × (least ≤ n)
   pub one : 0 < k → (x : ℕ) × (x < VARIABLES) × Contains further (Hold (suc x) least)
+  -- each is no less than the pass had loaded it before
+  pub risen : (x n m : ℕ) → Contains further (Hold (suc x) n) → Contains p.reads (Hold (suc x) m) → m ≤ n
 
 -- a Trim where the first segment rose
 abbrev pub trims : ℕ → ℕ → List Entry
