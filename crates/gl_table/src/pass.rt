@@ -20,7 +20,7 @@ ghost use Rattle.gl_table.specs.Putting.{MayAbort, MayPutBack, held_at};
 ghost use Rattle.gl_rule.specs.Taken.{TakenTold};
 ghost use Rattle.gl_draws.specs.RowFacts.{IsWithin};
 ghost use Rattle.gl_rule.specs.Knowledge.{AreBelow};
-ghost use Rattle.gl_rule.specs.View.{Held, Hold, Stop, took, refused, left, saw_tail, saw, saw_floor, raised};
+ghost use Rattle.gl_rule.specs.View.{Held, Hold, Stop, SetStop, took, refused, left, saw_tail, saw, saw_floor, raised};
 
 use crate::hold::bring;
 use crate::moves::{
@@ -220,7 +220,7 @@ pub(crate) fn lower(board: &Board, pass: &mut Pass, to: u64) -> u64
 // Sets the stop word.
 pub(crate) fn stop(board: &Board, pass: &mut Pass)
     requires table { OfTable pass.old.own.table board.now.table_id (key_of board.now.key) }
-    ensures pass { pass.new ≡ pass.old }
+    ensures pass { pass.new ≡ after pass.old (saw (view_of pass.old) SetStop) }
 {
     set_word::<Brand>(board, &mut pass.seat, pass.id, &pass.mine);
 }
