@@ -1,5 +1,5 @@
 -- Loads of holds, one after another, and raising the first segment behind them.
-use Rattle.std.proofs.Common.{◌≡◌, ℕ, suc, ◌+◌, ◌*◌, ◌/◌, ◌<◌, ◌≤◌, List, [], ◌∷◌, ◌++◌, refl, sym, ap, subst, arith, ◌∙◌, inl, inr, true, false, Bool, append_assoc, append-nil}
+use Rattle.std.proofs.Common.{◌≡◌, ℕ, suc, ◌+◌, ◌-◌, ◌*◌, ◌/◌, ◌<◌, ◌≤◌, List, [], ◌∷◌, ◌++◌, refl, sym, ap, subst, arith, ◌∙◌, inl, inr, true, false, Bool, append_assoc, append-nil}
 use Rattle.std.specs.Prelude.{◌⊎◌, Contains, nat_lt, if◌then◌else◌, max}
 use Rattle.std.proofs.lemmas.List.Elements.{Contains-append_left, Contains-append_right, Contains-push, Contains-push_cases}
 use Rattle.std.proofs.Math.Nat.{div-mul-le_self}
@@ -71,6 +71,11 @@ own_lowered p n to = by (nat_lt n to)
     by true = refl
     by false = ap (λ (m : List Entry). record p.own { mine = m }) (sym (append-nil p.own.mine))
 
+-- a Trim takes the room of one entry
+one_less : (b : Bool) (s : ℕ) → s - 1 ≤ (if b then s - 1 else s)
+one_less true s = omega arith
+one_less false s = omega arith
+
 pub settled : (z : TableView) (p q r : PassView) (least n low : ℕ) → AreLoaded VARIABLES p q least → low ≡ max n (least / z.key.cells) → r ≡ lowered_pass q n (least / z.key.cells) → IsSettled z p r low
 settled z p q r least n low l is to = record {
   loaded = q;
@@ -83,6 +88,7 @@ settled z p q r least n low l is to = record {
   seen = ap (λ (x : PassView). x.seen) to ∙ ap (λ (x : PassView). x.seen) l.is;
   known = ap (λ (x : PassView). x.known) to ∙ ap (λ (x : PassView). x.known) l.is;
   quiet = ap (λ (x : PassView). x.quiet) to ∙ ap (λ (x : PassView). x.quiet) l.is;
+  spare = subst (λ m. p.spare - 1 ≤ m) (sym (ap (λ (x : PassView). x.spare) to)) (subst (λ (x : PassView). x.spare - 1 ≤ (if nat_lt n (least / z.key.cells) then q.spare - 1 else q.spare)) l.is (one_less (nat_lt n (least / z.key.cells)) q.spare));
 }
 
 -- which of the two is the lesser, where the one before the first hold is the greatest word

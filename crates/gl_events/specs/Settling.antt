@@ -1,5 +1,5 @@
 -- What is asked of a pass that raises the first segment of the ring, and what it learns.
-use Rattle.std.specs.Prelude.{◌≡◌, ◌⊎◌, ℕ, suc, ◌<◌, ◌≤◌, ◌/◌, List, [], ◌∷◌, ◌++◌, Contains, nat_lt, if◌then◌else◌, max}
+use Rattle.std.specs.Prelude.{◌≡◌, ◌⊎◌, ℕ, suc, ◌<◌, ◌≤◌, ◌-◌, ◌/◌, List, [], ◌∷◌, ◌++◌, Contains, nat_lt, if◌then◌else◌, max}
 use Rattle.gl_model.specs.declared.limits.TheConstants.{VARIABLES}
 use Rattle.gl_model.specs.Entries.{Entry, Trim}
 use Rattle.gl_rule.specs.Lives.{Unbegun, Running, life_of}
@@ -43,3 +43,4 @@ pub record IsSettled (z : TableView) (p q : PassView) (low : ℕ) : Type 0 where
   pub seen : q.seen ≡ p.seen
   pub known : q.known ≡ p.known
   pub quiet : q.quiet ≡ p.quiet
+  pub spare : p.spare - 1 ≤ q.spare

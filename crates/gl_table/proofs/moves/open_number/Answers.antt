@@ -1,5 +1,4 @@
 use Rattle.std.proofs.Common.{arith, refl, subst, map}
-use Rattle.gl_model.specs.Entries.{seen}
 use Rattle.gl_rule.specs.Told.{Opened}
 use Rattle.gl_rule.specs.View.{shelf}
 use Rattle.gl_table.specs.CaughtUp.{block_of, caught_up}
