@@ -1,0 +1,5 @@
+pub mod PartLists
+pub mod Reading
+pub mod WrittenLines
+pub mod WrittenLists
+pub mod WrittenNumbers
