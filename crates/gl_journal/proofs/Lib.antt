@@ -1,3 +1,4 @@
+pub mod BackLists
 pub mod PartLists
 pub mod Reading
 pub mod WrittenLines
