@@ -4,7 +4,7 @@ use Rattle.std.specs.Prelude.{if◌then◌else◌}
 use Rattle.std.specs.Fmt.{decimal, signed_decimal}
 use Rattle.std.specs.List.{AllByRecursion, list_all}
 use Rattle.std.proofs.lemmas.Bool.{and_parts, eq-eqb, leb-true, ltb-true}
-use Rattle.std.proofs.Math.Nat.{div-add-mod', mod-lt}
+use Rattle.std.proofs.lemmas.Nat.{div-add-mod', mod_below}
 use Rattle.gl_model.specs.declared.event.Act.{Act}
 use Rattle.gl_model.specs.declared.event.Act.TheVariants as acts
 use Rattle.gl_model.specs.declared.record.Ending.{Ending}
@@ -88,7 +88,7 @@ fork_back : (u f : ℕ) → u < THREADS → ((u + THREADS * f) % THREADS ≡ u) 
 fork_back u f low =
     let n : ℕ = u + 16 * f in
     let whole : n / 16 * 16 + n % 16 ≡ n = div-add-mod' n 16 in
-    let rest : n % 16 < 16 = mod-lt n 16 (omega arith) in
+    let rest : n % 16 < 16 = mod_below n 16 (omega arith) in
     (omega arith, omega arith)
 
 act_back : (a : Act) → IsActInRange a → act_of (kind_of a) (arg_of a) ≡ a

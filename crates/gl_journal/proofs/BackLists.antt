@@ -229,7 +229,7 @@ rise_back part (x ∷ xs) up = and_from _ _ (are_above part (part x).var xs up.0
 
 set_back : {A : Type 0} (part : A → Part) (xs : List A) → AreVariables (map (λ x. (part x).var) xs) → is_set (map part xs) ≡ true
 set_back part xs are =
-    let few : length (map part xs) ≤ TX_VARIABLES = omega (arith, are.0, length-map part xs, length-map (λ x. (part x).var) xs) in
+    let few : length (map part xs) ≤ TX_VARIABLES = omega (arith, are.0, length-map xs part, length-map xs (λ x. (part x).var)) in
     and_from _ _ (le-leb (length (map part xs)) TX_VARIABLES few) (rise_back part xs are.1)
 
 -- ## The lists of a transaction

@@ -1,4 +1,6 @@
+pub mod BackEntries
 pub mod BackLists
+pub mod BackRecord
 pub mod PartLists
 pub mod Reading
 pub mod WrittenLines
