@@ -255,11 +255,25 @@ entry_are_words (Sync at act value) kept is =
     let arg : arg_of act ≤ most_of (kind_of act) = arg_small act kept is.1 in
     (keyword (codes "sync") refl, (decimal_word at (omega (arith, is.0)), (kind_word (kind_of act), (decimal_word (arg_of act) (omega (arith, most_small (kind_of act))), (signed_word value is.2, tt)))))
 entry_are_words (Commit at tx) kept is = (keyword (codes "commit") refl, (decimal_word at (omega (arith, is.0)), tx_are_words tx kept is.1))
-entry_are_words (Plain var nth cached write value raised) kept is =
-    (keyword (codes "plain") refl, (decimal_word var (omega arith), (decimal_word nth (omega (arith, is.0)),
-    (choice_word write (codes "rd") (codes "wr") (keyword (codes "rd") refl) (keyword (codes "wr") refl), (signed_word value is.1,
-    (choice_word cached (codes "own") (codes "cached") (keyword (codes "own") refl) (keyword (codes "cached") refl),
-    (choice_word raised (codes "ok") (codes "race") (keyword (codes "ok") refl) (keyword (codes "race") refl), tt)))))))
+entry_are_words (Plain var nth cached write value raised) kept is = (
+  keyword (codes "plain") refl,
+  (
+    decimal_word var (omega arith),
+    (
+      decimal_word nth (omega (arith, is.0)),
+      (
+        choice_word write (codes "rd") (codes "wr") (keyword (codes "rd") refl) (keyword (codes "wr") refl),
+        (
+          signed_word value is.1,
+          (
+            choice_word cached (codes "own") (codes "cached") (keyword (codes "own") refl) (keyword (codes "cached") refl),
+            (choice_word raised (codes "ok") (codes "race") (keyword (codes "ok") refl) (keyword (codes "race") refl), tt),
+          ),
+        ),
+      ),
+    ),
+  ),
+)
 entry_are_words (Abort tx (Changed var read found)) kept is =
     (keyword (codes "abort") refl, (keyword (codes "changed") refl, (decimal_word var (omega (arith, kept.1)), (signed_word read is.1.0, (signed_word found is.1.1, tx_are_words tx kept.0 is.0)))))
 entry_are_words (Abort tx (Raised var)) kept is =

@@ -304,7 +304,19 @@ one_letter b low high = (omega arith, ((omega arith, omega arith, λ e. omega ar
 -- the words of a transaction are words
 pub tx_are_words : (tx : Tx) → IsTxKept tx → IsTxIn tx → AllByRecursion IsWord (tx_words tx)
 tx_are_words tx kept is =
-    let back = is_tx_back tx kept is in
-    (one_letter 114 (omega arith) (omega arith), (word_back forms.Look look_word part_of_look tx.looks back.looks, (one_letter 119 (omega arith) (omega arith),
-    (word_back forms.Pair pair_word part_of_pair tx.writes back.writes, (one_letter 110 (omega arith) (omega arith),
-    (word_back forms.Number number_word part_of_number tx.numbers back.numbers, tt))))))
+    let back = is_tx_back tx kept is in (
+      one_letter 114 (omega arith) (omega arith),
+      (
+        word_back forms.Look look_word part_of_look tx.looks back.looks,
+        (
+          one_letter 119 (omega arith) (omega arith),
+          (
+            word_back forms.Pair pair_word part_of_pair tx.writes back.writes,
+            (
+              one_letter 110 (omega arith) (omega arith),
+              (word_back forms.Number number_word part_of_number tx.numbers back.numbers, tt),
+            ),
+          ),
+        ),
+      ),
+    )

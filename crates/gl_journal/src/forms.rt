@@ -92,9 +92,7 @@ pub fn operands_of(form: Form, mut words: Words<'_>) -> Words<'_>
         ) => {
             words.next();
         }
-        Form::Entry(
-            EntryForm::Sync | EntryForm::Commit | EntryForm::Plain | EntryForm::Trim,
-        )
+        Form::Entry(EntryForm::Sync | EntryForm::Commit | EntryForm::Plain | EntryForm::Trim)
         | Form::Header
         | Form::Thread
         | Form::Done => {}

@@ -191,14 +191,9 @@ impl Standing {
     fn outcome(self) -> Option<(u32, Record)>
         ensures { result ≡ outcome self }
     {
-        match self.steps {
-            None => None,
-            Some(steps) => {
-                if self.done {
-                    return Some((steps, self.lists));
-                }
-                None
-            }
+        match (self.steps, self.done) {
+            (Some(steps), true) => Some((steps, self.lists)),
+            _ => None,
         }
     }
 }
@@ -234,11 +229,7 @@ fn read_lines(alloc: Global, bytes: &[u8], first_line: u32) -> Result<Standing, 
 
 /// The number of steps and the record that a record text means, or its first fault: that of the least line that has one, or else, in
 /// line 0, that the text has no end. The lines are counted from `first_line` on.
-pub fn read_record(
-    alloc: Global,
-    bytes: &[u8],
-    first_line: u32,
-) -> Result<(u32, Record), TextError>
+pub fn read_record(alloc: Global, bytes: &[u8], first_line: u32) -> Result<(u32, Record), TextError>
     requires first { 1 ≤ first_line }
     requires last { first_line + length bytes.now < 2 ^ 32 }
     ensures ok { IfOk result (λ said. IsRecordText bytes.now said.0 said.1) }

@@ -5,7 +5,10 @@ ghost use Rattle.gl_model.specs.Entries.{seen, Sync as SyncEntry};
 ghost use Rattle.gl_journal.specs.Rows.{list_word, look_word, pair_word, number_word, tx_words, over_row, abort_row, entry_row, entry_rows, thread_row, header_row, row_text, record_text};
 
 use crate::sync_kinds::{kind_of, number_of};
-use gl_model::{Act, Ending, Entry, Look, Looks, Number, Numbers, Pair, Pairs, Record, THREADS, TX_VARIABLES, Tx, Why};
+use gl_model::{
+    Act, Ending, Entry, Look, Looks, Number, Numbers, Pair, Pairs, Record, THREADS, TX_VARIABLES,
+    Tx, Why,
+};
 use std::alloc::{AllocError, Global};
 
 const MOST_PARTS: usize = TX_VARIABLES as usize;
