@@ -11,4 +11,5 @@ pub mod Moves
 pub mod OneList
 pub mod Reporting
 pub mod Running
+pub mod Summing
 pub mod Telling

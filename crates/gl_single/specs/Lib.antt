@@ -6,5 +6,6 @@ pub mod Moments
 pub mod OneList
 pub mod OneThread
 pub mod Running
+pub mod Summary
 pub mod World
 pub mod WorldView

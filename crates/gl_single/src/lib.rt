@@ -1,5 +1,5 @@
-//! The run of a program of one thread over one plain memory, whose record is lawful; and the report of a record, of any number of
-//! threads.
+//! The run of a program of one thread over one plain memory, whose record is lawful; and the report and the summary of a record, of any
+//! number of threads.
 #![tactic(auto)]
 
 mod entries;
@@ -12,6 +12,9 @@ mod prints;
 mod run;
 #[cfg(test)]
 mod tests;
+mod totals;
+#[cfg(test)]
+mod totals_tests;
 mod world;
 
 pub use entries::entries_of;
@@ -19,3 +22,4 @@ pub use lines::is_raised;
 pub use looking::runs_alone;
 pub use page::report;
 pub use run::run_alone;
+pub use totals::summary;
