@@ -73,8 +73,8 @@ Answers row write (Raised nth) = Unit {0}
 abbrev pub question_of : Own → Option ℤ → Question
 question_of o write = record { thread = o.id; write = is_some write; commit = None; held = [] }
 
--- the row that the call took, by which it answered: raised exactly where some Info that conflicts with the access fails its test, over each list of events that the pass
--- cannot tell from the table's and in which the row's Infos stand for accesses
+-- the row that the call took, by which it answered: raised exactly where some Info that conflicts with the access fails its test, over each
+-- list of events that the pass cannot tell from the table's and in which the row's Infos stand for accesses
 pub record IsJudged (setting : Setting) (x : ℕ) (write : Option ℤ) (p : PassView) (s : Seen) (q : PassView) : Type 0 where
   pub row : Row
   pub took : q.reads ≡ p.reads ++ Taken (suc x) (slot.Row row) ∷ []

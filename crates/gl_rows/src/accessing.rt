@@ -75,15 +75,15 @@ fn store(kept: &mut KeptRow, access: &PlainAccess, q: &Question, at: u64)
 fn answer(nth: u64, access: &PlainAccess) -> Seen
     ensures { IsSeen access.now nth result }
 {
-    if access.raised {
-        return Seen::Raised { nth };
+    if !access.raised {
+        return Seen::Value(access.value);
     }
-    Seen::Value(access.value)
+    Seen::Raised { nth }
 }
 
-/// Reads a variable, or writes it a value. Raised comes exactly where the row that the call took says that the access completes a race; its word and
-/// Infos stay then. Else a read answers the row's word, and a write the value written. Either way the pass stores one entry. Busy comes only where this call read the
-/// row's turn as held by another pass; the pass stores nothing then.
+/// Reads a variable, or writes it a value. Raised comes exactly where the row that the call took says that the access completes a race; its
+/// word and Infos stay then. Else a read answers the row's word, and a write the value written. Either way the pass stores one entry. Busy
+/// comes only where this call read the row's turn as held by another pass; the pass stores nothing then.
 pub fn access(
     shared: &Shared,
     pass: &mut Pass,

@@ -52,7 +52,8 @@ fn move_reads(reads: &mut [Option<Info>], from: u64, to: u64, window: &[Stamp])
     }
 }
 
-// The row with each of its Infos that stands before a position moved up to it. The window goes from a position at which none stands before up to that one.
+// The row with each of its Infos that stands before a position moved up to it. The window goes up to that one, from a position before which
+// none stands.
 pub(crate) fn moved_row(row: &Row, from: u64, to: u64, window: &[Stamp]) -> Row
     requires stamps { All IsStampInRange window.now }
     requires ends { from + length window.now ≡ to }
