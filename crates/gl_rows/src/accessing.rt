@@ -3,7 +3,7 @@ ghost use Rattle.std.specs.Prelude.{◌≡◌, ◌<◌, ◌≤◌, ◌-◌, List
 ghost use Rattle.gl_judge.specs.declared.judging.Verdict.TheVariants.{Race};
 ghost use Rattle.gl_model.specs.declared.limits.TheConstants.{THREADS, VARIABLES};
 ghost use Rattle.gl_rule.specs.Objects.{capacity};
-ghost use Rattle.gl_rows.specs.Accessing.{MayAccess, access_of, RowAfter, IsSeen, HasEntry, IsJudged};
+ghost use Rattle.gl_rows.specs.Accessing.{MayAccess, access_of, RowAfter, IsSeen, HasEntry, IsJudged, LoadsNone};
 ghost use Rattle.gl_rows.specs.Walks.{ReadBusy};
 
 use crate::checking::check;
@@ -97,6 +97,7 @@ pub fn access(
     requires window { capacity shared.now.key ≤ window.old }
     ensures own { IfOk result (λ s. HasEntry var write pass.old.own s pass.new.own) }
     ensures judged { IfOk result (λ s. IsJudged shared.now.key.setting var write pass.old s pass.new) }
+    ensures loads { OnOk result (LoadsNone cuts.now var write pass.old pass.new) }
     ensures spare { OnOk result (pass.new.spare ≡ pass.old.spare - 1) }
     ensures busy { IfErr result (λ b. ReadBusy var b.by pass.old pass.new) }
     ensures later { pass.old.seen ≤ pass.new.seen }
