@@ -1,5 +1,5 @@
 // A checked access to a row.
-ghost use Rattle.std.specs.Prelude.{◌≡◌, ◌<◌, ◌≤◌, ◌-◌, List, [], IfOk, IfErr, OnOk, IsTrue, ◌↔◌, ℕ, true, is_some, None};
+ghost use Rattle.std.specs.Prelude.{◌≡◌, ◌<◌, ◌≤◌, ◌-◌, IfOk, IfErr, OnOk, ◌↔◌, true};
 ghost use Rattle.gl_judge.specs.declared.judging.Verdict.TheVariants.{Race};
 ghost use Rattle.gl_model.specs.declared.limits.TheConstants.{THREADS, VARIABLES};
 ghost use Rattle.gl_rule.specs.Objects.{capacity};

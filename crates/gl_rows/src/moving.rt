@@ -1,5 +1,5 @@
 // Infos that are moved up to a position.
-ghost use Rattle.std.specs.Prelude.{◌≡◌, ℕ, ◌+◌, ◌≤◌, List, All, Some, length};
+ghost use Rattle.std.specs.Prelude.{◌≡◌, ℕ, ◌+◌, ◌≤◌, All, Some, length};
 ghost use Rattle.gl_model.specs.declared.row.Info.{Info as AnInfo};
 ghost use Rattle.gl_model.specs.Elements.{IsStampInRange};
 ghost use Rattle.gl_draws.specs.RowFacts.{read_of};
