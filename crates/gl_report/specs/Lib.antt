@@ -1,0 +1,3 @@
+pub mod ByThread
+pub mod Firsts
+pub mod Lines
