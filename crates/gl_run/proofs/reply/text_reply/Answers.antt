@@ -3,9 +3,10 @@ use Rattle.std.specs.Io.KnownBytes.{Consumes}
 use Rattle.gl_run.specs.Texts.{AnswersLonger}
 use Rattle.gl_run.specs.Output.{usage}
 use Rattle.gl_run.specs.Words.{most_of}
+use Rattle.gl_run.specs.declared.status.TheConstants.{NO_COMMAND}
 use Rattle.gl_run.proofs.LongPrograms.{long_reply, usage_reply}
 use Rattle.gl_run.proofs.SaidLines.{more_if_ok}
-use Rattle.gl_run.proofs.top.reply.Goals as goal
+use Rattle.gl_run.proofs.reply.text_reply.Goals as goal
 
 pub returns-in-Err-TooLong-clause-page : goal.returns-in-Err-TooLong-clause-page
 returns-in-Err-TooLong-clause-page g c =
@@ -19,7 +20,7 @@ returns-in-Err-TooLong-clause-page g c =
 
 pub returns-in-None-clause-page : goal.returns-in-None-clause-page
 returns-in-None-clause-page g c =
-    let status : IfOk c.map_err.result (λ p. p.status ≡ 1) = search rules in
+    let status : IfOk c.map_err.result (λ p. p.status ≡ NO_COMMAND) = search rules in
     let text : IfOk c.map_err.result (λ p. p.text.items ≡ usage) = search rules in
     let kept : IfOk c.map_err.result (λ p. p.kept ≡ None) = search rules in
     usage_reply c.args.keep c.args.asked (g.S.Source.left c.args.source.now) c.map_err.result c.in-None.is status text kept
