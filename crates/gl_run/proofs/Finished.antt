@@ -155,7 +155,7 @@ module _ (keep : Keep) (asked : Option Command) (left : Option (List ℕ)) (sour
           whole = λ is. (
             p.text.items,
             subst (λ s. Replies keep asked page.input s p.text.items a.kept) (sym written.status_is)
-            (subst (Replies keep asked page.input p.status p.text.items) (sym kept) page.reply),
+                (subst (Replies keep asked page.input p.status p.text.items) (sym kept) page.reply),
             written.all,
           );
           part = λ is. absurd (cut_is_not_whole a.status is whole);

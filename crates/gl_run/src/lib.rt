@@ -23,4 +23,6 @@ pub use stated::{limits_are_stated, statuses_are_stated};
 pub use top::{Answer, goldi, goldi_run, goldi_text, goldi_without_trace};
 
 #[cfg(test)]
+mod gate_tests;
+#[cfg(test)]
 mod tests;

@@ -136,7 +136,8 @@ fn programs(rt: HostRuntime) -> Result<(), Fail> {
 }
 
 // A thread that is forked with 7 prints it.
-const FORKS: &str = "func main 0 0\n push 7\n fork f\n join\n halt\nfunc f 1 1\n load 0\n print\n push 0\n ret\n";
+const FORKS: &str =
+    "func main 0 0\n push 7\n fork f\n join\n halt\nfunc f 1 1\n load 0\n print\n push 0\n ret\n";
 
 // Each row: the words, the program, the status, and what `run` writes.
 #[test]
@@ -170,7 +171,15 @@ fn runs(rt: HostRuntime) -> Result<(), Fail> {
             "out 41\nend 0 halt\nraces 0\n",
         ),
         (
-            &["goldi", "run", "--workers=16", "--segments", "2", "--cells", "4"],
+            &[
+                "goldi",
+                "run",
+                "--workers=16",
+                "--segments",
+                "2",
+                "--cells",
+                "4",
+            ],
             FORKS,
             0,
             "out 7\nend 0 halt\nend 1 halt\nraces 0\n",
@@ -200,7 +209,19 @@ fn options(rt: HostRuntime) -> Result<(), Fail> {
         (&["goldi", "run", "--workers", "1"], 4),
         (&["goldi", "run", "--workers=16", "--steps=1000000"], 4),
         (&["goldi", "run", "--cells", "4", "--segments=2"], 4),
-        (&["goldi", "run", "--segments=64", "--cells=64", "--steps", "1", "--workers", "0004"], 4),
+        (
+            &[
+                "goldi",
+                "run",
+                "--segments=64",
+                "--cells=64",
+                "--steps",
+                "1",
+                "--workers",
+                "0004",
+            ],
+            4,
+        ),
         (&["goldi", "run", "--workers", "0"], 1),
         (&["goldi", "run", "--workers", "17"], 1),
         (&["goldi", "run", "--steps=1000001"], 1),
@@ -226,14 +247,26 @@ fn faults(rt: HostRuntime) -> Result<(), Fail> {
     let input = "0 wr 1\n0 fork 1\n1 rd 1\n";
     let written = "1 ok\n3 ok\nraces 0\n".as_bytes();
     for call in 1..=4 {
-        assert_eq!(rt; checked(&rt, rt.alloc(), CHECK, input, &[call], &[], &[])?, (2, true));
+        assert_eq!(rt;
+            checked(&rt, rt.alloc(), CHECK, input, &[call], &[], &[])?,
+            (2, true)
+        );
     }
-    assert_eq!(rt; checked(&rt, rt.alloc(), CHECK, input, &[5], &[], written)?, (0, true));
+    assert_eq!(rt;
+        checked(&rt, rt.alloc(), CHECK, input, &[5], &[], written)?,
+        (0, true)
+    );
     for call in 1..=5 {
         let part = &written[..4 * (call as usize - 1)];
-        assert_eq!(rt; checked(&rt, rt.alloc(), CHECK, input, &[], &[call], part)?, (3, true));
+        assert_eq!(rt;
+            checked(&rt, rt.alloc(), CHECK, input, &[], &[call], part)?,
+            (3, true)
+        );
     }
-    assert_eq!(rt; checked(&rt, rt.alloc(), CHECK, input, &[], &[6], written)?, (0, true));
+    assert_eq!(rt;
+        checked(&rt, rt.alloc(), CHECK, input, &[], &[6], written)?,
+        (0, true)
+    );
     Ok(())
 }
 

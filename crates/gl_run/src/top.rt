@@ -86,7 +86,15 @@ pub fn goldi_run<S: Source, K: Sink, G: Gate, R: Threads + Wait + Sync>(
     ensures left { HasLeft (run_command_of (map string_bytes words.now)) (S.left source.old) (S.left source.new) result.status }
     ensures written { Serves Keep.Record (run_command_of (map string_bytes words.now)) (S.left source.old) result.status result.kept (K.written sink.old) (K.written sink.new) }
 {
-    let reply = reply(rt, alloc, run_command_of(words), source, cuts, gate, Keep::Record);
+    let reply = reply(
+        rt,
+        alloc,
+        run_command_of(words),
+        source,
+        cuts,
+        gate,
+        Keep::Record,
+    );
     finish(sink, reply)
 }
 
@@ -105,7 +113,15 @@ pub fn goldi<S: Source, K: Sink, G: Gate, R: Threads + Wait + Sync>(
     ensures left { HasLeft (command_of (map string_bytes words.now)) (S.left source.old) (S.left source.new) result.status }
     ensures written { Serves Keep.Record (command_of (map string_bytes words.now)) (S.left source.old) result.status result.kept (K.written sink.old) (K.written sink.new) }
 {
-    let reply = reply(rt, alloc, command_of(words), source, cuts, gate, Keep::Record);
+    let reply = reply(
+        rt,
+        alloc,
+        command_of(words),
+        source,
+        cuts,
+        gate,
+        Keep::Record,
+    );
     finish(sink, reply)
 }
 
@@ -124,6 +140,14 @@ pub fn goldi_without_trace<S: Source, K: Sink, G: Gate, R: Threads + Wait + Sync
     ensures left { HasLeft (command_of (map string_bytes words.now)) (S.left source.old) (S.left source.new) result.status }
     ensures written { Serves Keep.Nothing (command_of (map string_bytes words.now)) (S.left source.old) result.status result.kept (K.written sink.old) (K.written sink.new) }
 {
-    let reply = reply(rt, alloc, command_of(words), source, cuts, gate, Keep::Nothing);
+    let reply = reply(
+        rt,
+        alloc,
+        command_of(words),
+        source,
+        cuts,
+        gate,
+        Keep::Nothing,
+    );
     finish(sink, reply)
 }
