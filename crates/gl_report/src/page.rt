@@ -12,7 +12,7 @@ use gl_model::{Entry, Record};
 use std::alloc::{AllocError, Global};
 
 // How many of them were refused for a race.
-fn races(entries: &[(u8, &Entry)]) -> usize
+pub(crate) fn races(entries: &[(u8, &Entry)]) -> usize
     ensures { result ≡ count_by (λ p. is_raised (seen p.1.now)) entries.now }
 {
     entries.iter().filter(|(_, entry)| is_raised(entry)).count()

@@ -14,4 +14,5 @@ pub mod Aborts
 pub mod Commitments
 pub mod Unpacking
 pub mod FiveWords
-pub mod Starts
+pub mod LeastEntered
+pub mod RightsKept

@@ -4,10 +4,14 @@
 mod close;
 mod hold;
 mod layout;
+mod levels;
+mod monitors;
 mod moves;
 mod new;
+mod own_list;
 mod pack;
 mod pass;
+mod rights;
 mod rule;
 mod sealed;
 mod setting;
