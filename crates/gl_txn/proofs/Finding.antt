@@ -45,10 +45,10 @@ found_mapped f same k (h ∷ hs) = elim (ℕ_discrete h.object k) [
 ]
 
 -- without one of them
-without_here : (h : Held) (hs : List Held) (j : ℕ) → h.object ≡ j → without j (h ∷ hs) ≡ without j hs
+pub without_here : (h : Held) (hs : List Held) (j : ℕ) → h.object ≡ j → without j (h ∷ hs) ≡ without j hs
 without_here h hs j e = let b : (h.object == j) ≡ true = eq-eqb h.object j e in rw b refl
 
-without_past : (h : Held) (hs : List Held) (j : ℕ) → h.object ≢ j → without j (h ∷ hs) ≡ h ∷ without j hs
+pub without_past : (h : Held) (hs : List Held) (j : ℕ) → h.object ≢ j → without j (h ∷ hs) ≡ h ∷ without j hs
 without_past h hs j ne = let b : (h.object == j) ≡ false = ne_eqb h.object j ne in rw b refl
 
 pub found_gone : (j : ℕ) (held : List Held) → found j (without j held) ≡ None

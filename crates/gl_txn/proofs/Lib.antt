@@ -1,1 +1,5 @@
 pub mod Finding
+pub mod Unions
+pub mod Sizes
+pub mod LookSteps
+pub mod NewLooks

@@ -1,6 +1,7 @@
 pub mod Attempts
 pub mod Trying
 pub mod Reading
+pub mod Looked
 pub mod TxnInside
 pub mod Ending
 pub mod Holding

@@ -6,9 +6,10 @@ ghost use Rattle.gl_txn.specs.Trying.{MayTry};
 ghost use Rattle.gl_txn.specs.Reading.{IsRead, HasLooked, IsReadStop, IfTooLarge};
 ghost use Rattle.gl_txn.specs.declared.stops.TxStop.TheVariants.{TooLarge};
 
+use crate::looking::look_at;
 use crate::stops::TxStop;
 use crate::taken::TakenRow;
-use gl_model::{Look, Looks, Numbers, Pair, Pairs, Tx, VarSet};
+use gl_model::{Looks, Numbers, Pair, Pairs, Tx, VarSet};
 use gl_table::{Pass, Shared};
 use std::alloc::{AllocError, Global};
 use std::marker::Model;
@@ -76,12 +77,25 @@ impl Txn {
         if let Some(look) = self.tx.looks.of(var) {
             return Ok(look.value);
         }
-        if self.all.len() == 16 {
+        self.all.keeps();
+        let mut all = self.all;
+        if all.insert(var).is_err() {
             return Err(TxStop::TooLarge);
         }
-        let _pass = pass;
-        let _shared = shared;
-        Err(TxStop::Busy { by: 0 })
+        let mut looked = self.looked;
+        let Ok(()) = looked.insert(var) else {
+            unreachable!()
+        };
+        let look = match look_at(shared, pass, var) {
+            Ok(look) => look,
+            Err(by) => return Err(TxStop::Busy { by }),
+        };
+        let Ok(()) = self.tx.looks.put(look) else {
+            unreachable!()
+        };
+        self.all = all;
+        self.looked = looked;
+        Ok(look.value)
     }
 
     /// Writes a variable inside the attempt. It stops exactly where the variable is not in the attempt and that has no room for another.
@@ -92,9 +106,13 @@ impl Txn {
         ensures large { IfErr result (λ s. (s ≡ TooLarge) × IsTooLarge self.old var) }
         ensures stop { OnErr result (self.new ≡ self.old) }
     {
+        self.tx.writes.keeps();
+        self.tx.looks.keeps();
+        self.all.keeps();
         if self.all.insert(var).is_err() {
             return Err(TxStop::TooLarge);
         }
+        self.all.keeps();
         let Ok(()) = self.tx.writes.put(Pair { var, value }) else {
             unreachable!()
         };

@@ -4,6 +4,7 @@
 
 mod attempt;
 mod ending;
+mod looking;
 mod stops;
 mod taken;
 
