@@ -1,2 +1,3 @@
 pub mod WritingBack
 pub mod Walks
+pub mod Accessing

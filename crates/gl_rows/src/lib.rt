@@ -2,11 +2,14 @@
 //! private word is written back.
 #![tactic(auto)]
 
+mod accessing;
 mod checking;
+mod owning;
 mod storing;
 mod walking;
 mod window;
 
+pub use accessing::{Seen, access};
 pub use checking::check;
 pub use storing::write_back;
 pub use window::Window;

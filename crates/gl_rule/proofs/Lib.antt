@@ -30,3 +30,4 @@ pub mod Turning
 pub mod Words
 pub mod Safety
 pub mod Agreeing
+pub mod Levels

@@ -9,6 +9,7 @@ use Rattle.gl_model.specs.declared.event.Stamp.{Stamp}
 use Rattle.gl_model.specs.declared.row.Row.{Row}
 use Rattle.gl_model.specs.Machine.{Setting}
 use Rattle.gl_draws.specs.RowFacts.{IsWithin}
+use Rattle.gl_draws.specs.Ties.{Drawn}
 use Rattle.gl_rule.specs.declared.slot.Slot.TheVariants as slot
 use Rattle.gl_rule.specs.Taken.{TakenTold}
 use Rattle.gl_rule.specs.Cells.{packed, HasSmallCode}
@@ -70,10 +71,14 @@ Raised h y to v c w = w ≡ (raised v h y to, c)
 abbrev pub Lowered : Shelf → ℕ → View → List (ℕ × Slot) → ℕ → Seat → Type 0
 Lowered s to v c n w = w ≡ (lowered v s.thread s.marked n to, c)
 
+-- n is above the numbers of x that the pass drew and that wait for their entry
+abbrev pub IsAboveDrawn : ℕ → ℕ → List Drawn → Type 0
+IsAboveDrawn x n drawn = (k : ℕ) (look : Option ℤ) → Contains drawn (record { var = x; nth = k; look = look }) → k < n
+
 -- a plain access drew n
 abbrev pub Marked : Shelf → Held → ℕ → ℕ → Bool → ℤ → Bool → View → List (ℕ × Slot) → ℕ → Seat → Type 0
 Marked s h x p write value raised v c n w =
-    (n + 1 < 2 ^ 64) × (w ≡ (marked v (shelf s.thread (s.marked ++ Plain x n false write value raised ∷ [])) v.drawn h (draw s.thread p (Entered (Plain x n false write value raised))), c))
+    (n + 1 < 2 ^ 64) × (w ≡ (marked v (shelf s.thread (s.marked ++ Plain x n false write value raised ∷ [])) v.drawn h (draw s.thread p (Entered (Plain x n false write value raised))), c)) × IsAboveDrawn x n v.drawn
 
 -- what a number that waits is for
 abbrev pub what_of : Option ℤ → What
@@ -82,7 +87,7 @@ what_of None = Open
 
 -- a look, with the value that it saw, or the end of an attempt drew n, which waits for its entry
 abbrev pub Opened : Shelf → Held → ℕ → ℕ → Option ℤ → View → List (ℕ × Slot) → ℕ → Seat → Type 0
-Opened s h x p look v c n w = (n + 1 < 2 ^ 64) × (w ≡ (marked v s (v.drawn ++ record { var = x; nth = n; look = look } ∷ []) h (draw s.thread p (what_of look)), c))
+Opened s h x p look v c n w = (n + 1 < 2 ^ 64) × (w ≡ (marked v s (v.drawn ++ record { var = x; nth = n; look = look } ∷ []) h (draw s.thread p (what_of look)), c)) × IsAboveDrawn x n v.drawn
 
 -- an act was published
 abbrev pub PublishedAct : Shelf → Act → ℤ → Slot → View → List (ℕ × Slot) → ℕ → Seat → Type 0

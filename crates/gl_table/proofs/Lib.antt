@@ -14,4 +14,3 @@ pub mod Aborts
 pub mod Commitments
 pub mod Unpacking
 pub mod FiveWords
-pub mod Starts

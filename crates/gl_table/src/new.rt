@@ -1,5 +1,6 @@
 // The beginning of a table.
 ghost use Rattle.std.specs.Prelude.{◌≡◌, ℕ, ◌+◌, ◌-◌, ◌*◌, ◌≤◌, ◌<◌, ◌∷◌, [], IfOk, IfErr};
+ghost use Rattle.std.specs.List.{All};
 ghost use Rattle.gl_model.specs.declared.limits.TheConstants.{THREADS, FUNCTIONS};
 ghost use Rattle.gl_rule.specs.Objects.{capacity, word_count};
 ghost use Rattle.gl_rule.specs.Opened.{first_slots, shelves_from, sixteen};
@@ -107,6 +108,7 @@ impl Shared {
     pub fn new(alloc: Global, layout: Layout) -> Result<(Shared, Vec<Pass>), (Layout, AllocError)>
         requires ring { IsRing layout.ring }
         requires main { layout.main < FUNCTIONS }
+        requires starts { All (λ f. f < FUNCTIONS) layout.starts.items }
         ensures key { IfOk result (λ r. r.0.key ≡ key_of layout) }
         ensures passes { IfOk result (λ r. r.1.items ≡ fresh_from r.0.id 0 16) }
         ensures err { IfErr result (λ e. e.0 ≡ layout) }

@@ -20,6 +20,7 @@ ghost use Rattle.gl_table.specs.PassView.{view_of, shelf_of, after, after_adding
 ghost use Rattle.gl_table.specs.Putting.{MayAbort, MayPutBack, held_at};
 ghost use Rattle.gl_rule.specs.Taken.{TakenTold};
 ghost use Rattle.gl_draws.specs.RowFacts.{IsWithin};
+ghost use Rattle.gl_rule.specs.Knowledge.{AreBelow};
 ghost use Rattle.gl_rule.specs.View.{Held, Hold, Stop, took, refused, left, saw_tail, saw, saw_floor, raised};
 
 use crate::hold::bring;
@@ -224,6 +225,7 @@ pub(crate) fn see_tail(board: &Board, pass: &mut Pass) -> u64
     ensures pass { pass.new ≡ after pass.old (saw_tail (view_of pass.old) result) }
     ensures later { pass.old.seen ≤ result }
     ensures within { (h : Held) (row : ARow) → Contains pass.old.own.held h → h.taken ≡ slot.Row row → IsWithin row result }
+    ensures below { AreBelow result (shelf_of pass.old) }
 {
     let tail = load_tail::<Brand>(board, &mut pass.seat, pass.id, &pass.mine);
     pass.seen = tail;

@@ -11,6 +11,7 @@ ghost use Rattle.gl_table.specs.OfTable.{OfTable};
 ghost use Rattle.gl_table.specs.PassInside.{IsReady};
 ghost use Rattle.gl_table.specs.PassView.{view_of, after_storing};
 ghost use Rattle.gl_table.specs.Putting.{MayPutWords, MayPublishAct, MayMarkPlain, MayOpenOn, MayPayOn, marked_plain, opened, paid_back, published_act};
+ghost use Rattle.gl_rule.specs.Told.{IsAboveDrawn};
 ghost use Rattle.gl_rule.specs.View.{published};
 ghost use Rattle.gl_rule.specs.declared.slot.Slot.TheVariants as slot;
 
@@ -160,6 +161,7 @@ pub(crate) fn open(board: &Board, pass: &mut Pass, var: u16, look: Option<i64>) 
     requires near { var < 1024 }
     requires may { MayOpenOn pass.old var look }
     ensures opened { pass.new ≡ opened pass.old var result look }
+    ensures above { IsAboveDrawn var result pass.old.own.drawn }
 {
     open_number::<Brand>(board, &mut pass.seat, pass.id, &pass.mine, var, look)
 }

@@ -1,0 +1,4 @@
+use Rattle.gl_rows.proofs.owning.monitors.Goals as goal
+
+pub returns : goal.returns
+returns c = ?
