@@ -14,6 +14,7 @@ ghost use Rattle.gl_table.specs.Words.{no_words};
 
 use crate::layout::Layout;
 use crate::moves::{Board, Seat};
+use crate::own_list::OwnList;
 use crate::pass::Pass;
 use crate::rule::{Cut, Order};
 use crate::shared::Shared;
@@ -79,10 +80,11 @@ fn cut_pass(board: &Board, seat: &mut Seat, id: u8, alloc: Global) -> Result<Pas
     ensures pass { IfOk result (λ p. p ≡ fresh board.now.table_id id) }
 {
     let order = Vec::with_capacity(alloc, OBJECTS)?;
+    let mine = OwnList::empty(alloc)?;
     Ok(Pass {
         seat: board.split_seat::<Cut>(seat),
         id,
-        mine: Vec::new(alloc),
+        mine,
         seen: 0,
         quiet: false,
         order,

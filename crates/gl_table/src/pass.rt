@@ -28,6 +28,7 @@ use crate::moves::{
     Board, Seat, leave_turn, load_floor, load_hold, load_stop, load_tail, raise_first, raise_floor,
     set_word, take_turn,
 };
+use crate::own_list::OwnList;
 use gl_model::{Ending, Entry, Row, Tx, Why};
 use gl_rule::Slot;
 use std::alloc::AllocError;
@@ -38,7 +39,7 @@ use std::marker::{Brand, Model};
 pub struct Pass {
     pub(crate) seat: Seat,
     pub(crate) id: u8,
-    pub(crate) mine: Vec<Entry>,
+    pub(crate) mine: OwnList,
     pub(crate) seen: u64,
     // Whether it has put back a state of the list in which no thread is live.
     pub(crate) quiet: bool,
@@ -71,8 +72,8 @@ fn is_over(entry: &Entry) -> bool
     }
 }
 
-fn ends(mine: &Vec<Entry>, quiet: bool) -> bool
-    ensures { result ≡ is_done (map seen mine.now.items) quiet }
+fn ends(mine: &[Entry], quiet: bool) -> bool
+    ensures { result ≡ is_done (map seen mine.now) quiet }
 {
     if mine.is_empty() {
         return quiet;
@@ -110,8 +111,8 @@ fn right_told(entry: &Entry, of: u16) -> RightChange
 }
 
 // The right on a variable, from the end of the list.
-fn right_in(mine: &Vec<Entry>, var: u16) -> Option<(u64, bool)>
-    ensures { result ≡ right_of (map seen mine.now.items) var }
+fn right_in(mine: &[Entry], var: u16) -> Option<(u64, bool)>
+    ensures { result ≡ right_of (map seen mine.now) var }
 {
     let mut i = mine.len();
     while i > 0 {
@@ -146,14 +147,14 @@ impl Pass {
         ensures is { result ≡ is_done self.now.own.mine self.now.quiet }
         ensures done { result ≡ true → IsDone self.now.own.mine self.now.quiet }
     {
-        ends(&self.mine, self.quiet)
+        ends(self.mine.entries(), self.quiet)
     }
 
     /// Number and kind of the last numbered performed access of the variable since the last event or dropped attempt: the right to repeat it.
     pub fn right(&self, var: u16) -> Option<(u64, bool)>
         ensures { result ≡ right_of self.now.own.mine var }
     {
-        right_in(&self.mine, var)
+        right_in(self.mine.entries(), var)
     }
 
     /// Makes room for so many entries more.
@@ -171,7 +172,7 @@ impl Pass {
         requires spare { 0 < self.old.spare }
         ensures { self.new ≡ after_adding self.old (Over ending) }
     {
-        self.mine.push_reserved(Entry::Over(ending));
+        self.mine.push(Entry::Over(ending));
     }
 
     /// Ends an attempt that is dropped, with its entry.
@@ -181,7 +182,7 @@ impl Pass {
         ensures { self.new ≡ after_adding self.old (Abort tx.value why) }
     {
         tx.keeps();
-        self.mine.push_reserved(Entry::Abort { tx, why });
+        self.mine.push(Entry::Abort { tx, why });
     }
 
     /// Repeats its last access of the variable, whose number is `nth`.
@@ -190,7 +191,7 @@ impl Pass {
         requires spare { 0 < self.old.spare }
         ensures { self.new ≡ after_adding self.old (Plain var nth true write value false) }
     {
-        self.mine.push_reserved(Entry::Plain {
+        self.mine.push(Entry::Plain {
             var,
             nth,
             cached: true,
@@ -256,7 +257,7 @@ pub(crate) fn lower(board: &Board, pass: &mut Pass, to: u64) -> u64
 {
     let before = raise_first::<Brand>(board, &mut pass.seat, pass.id, &pass.mine, to);
     if before < to {
-        pass.mine.push_reserved(Entry::Trim { low: to });
+        pass.mine.push(Entry::Trim { low: to });
     }
     before
 }
