@@ -19,6 +19,7 @@ use Rattle.gl_state.specs.ListView.{ListView}
 use Rattle.gl_table.specs.PassView.{Own, PassView, view_of, shelf_of}
 use Rattle.gl_table.specs.TableView.{TableView}
 use Rattle.gl_txn.specs.Attempts.{Attempting, variables_at, writes_at}
+use Rattle.gl_txn.specs.Holding.{takes, vars_of}
 use Rattle.gl_txn.specs.declared.taken.TakenRow.{TakenRow}
 use Rattle.gl_txn.specs.declared.stops.TxEnd.{TxEnd}
 use Rattle.gl_txn.specs.declared.stops.TxEnd.TheVariants as end
@@ -44,13 +45,9 @@ pub record HasEnded (a : Attempting) (keep : Bool) (end : TxEnd) (old new : Own)
   pub whole : IsEndOf a keep tx
   pub own : new ≡ ended (entry_of end tx) old
 
--- what a pass read by taking rows, one after another
-abbrev pub takes : List TakenRow → List Read
-takes rows = map (λ r. Taken (suc r.var) (slot.Row r.row)) rows
-
 -- the pass, which was p and is q, took the row of each variable of the attempt's end, and then read this
 pub record HasTaken (a : Attempting) (keep : Bool) (p q : PassView) (rows : List TakenRow) (further : List Read) : Type 0 where
-  pub of : map (λ r. r.var) rows ≡ variables_at a keep
+  pub of : vars_of rows ≡ variables_at a keep
   pub reads : q.reads ≡ (p.reads ++ takes rows) ++ further
 
 -- each word that was looked at, of a variable below n, is that of its row
@@ -138,7 +135,7 @@ pub record RowWasBusy (a : Attempting) (keep : Bool) (by : ℕ) (p q : PassView)
   pub rows : List TakenRow
   pub var : ℕ
   pub rest : List ℕ
-  pub of : variables_at a keep ≡ map (λ r. r.var) rows ++ var ∷ rest
+  pub of : variables_at a keep ≡ vars_of rows ++ var ∷ rest
   pub reads : q.reads ≡ (p.reads ++ takes rows) ++ Busy (suc var) by ∷ []
 
 -- nothing speaks against the commit, and the list's turn was read as held

@@ -1,14 +1,20 @@
 -- The rows that an attempt's end holds, as the pass's view has them.
-use Rattle.std.specs.Prelude.{◌≡◌, ℕ, zero, suc, ◌==◌, if◌then◌else◌, List, [], ◌∷◌, map, Contains, Option, Some, None}
+use Rattle.std.specs.Prelude.{◌≡◌, ℕ, zero, suc, ◌==◌, ◌<◌, false, if◌then◌else◌, List, [], ◌∷◌, ◌++◌, map, Contains, Option, Some, None}
+use Rattle.gl_model.specs.declared.limits.TheConstants.{THREADS}
 use Rattle.gl_model.specs.Kept.{AreVariables}
-use Rattle.gl_draws.specs.Draws.{Draw}
+use Rattle.gl_draws.specs.Draws.{Draw, is_write, is_read}
 use Rattle.gl_rule.specs.declared.slot.Slot.TheVariants as slot
-use Rattle.gl_rule.specs.View.{Held}
+use Rattle.gl_rule.specs.View.{Held, Read, Busy, Taken}
+use Rattle.gl_table.specs.PassView.{PassView}
 use Rattle.gl_txn.specs.declared.taken.TakenRow.{TakenRow}
 
 -- the variables of the rows
 abbrev pub vars_of : List TakenRow → List ℕ
 vars_of rows = map (λ r. r.var) rows
+
+-- what a pass read by taking rows, one after another
+abbrev pub takes : List TakenRow → List Read
+takes rows = map (λ r. Taken (suc r.var) (slot.Row r.row)) rows
 
 -- the first held object with this number
 abbrev pub found : ℕ → List Held → Option Held
@@ -42,3 +48,25 @@ pub record AreHeld (held : List Held) (list : Option Held) (rows : List TakenRow
 -- nothing was drawn on any row
 abbrev pub undrawn : ℕ → Option Draw
 undrawn y = None
+
+-- these rows alone are held, and no access of them was drawn
+pub record AreUnused (held : List Held) (rows : List TakenRow) : Type 0 where
+  pub tails : List ℕ
+  pub drew : ℕ → Option Draw
+  pub holds : AreHeld held None rows tails drew
+  pub unused : (y : ℕ) (d : Draw) → drew y ≡ Some d → (is_write y d.what ≡ false) × (is_read y d.what ≡ false)
+
+-- the pass, which was p and is q, took the rows of these variables and did nothing else
+pub record HaveTaken (p q : PassView) (ys : List ℕ) (rows : List TakenRow) : Type 0 where
+  pub of : vars_of rows ≡ ys
+  pub is : q ≡ record p { own = record p.own { held = q.own.held }; reads = p.reads ++ takes rows }
+  pub held : AreHeld q.own.held None rows [] undrawn
+
+-- it took some of them, the first ones, found the next one's turn held, and put them back
+pub record WereBusy (ys : List ℕ) (by : ℕ) (p q : PassView) : Type 0 where
+  pub near : by < THREADS
+  pub rows : List TakenRow
+  pub var : ℕ
+  pub rest : List ℕ
+  pub of : ys ≡ vars_of rows ++ var ∷ rest
+  pub is : q ≡ record p { reads = (p.reads ++ takes rows) ++ Busy (suc var) by ∷ [] }
