@@ -13,7 +13,7 @@ fetch_add-requires g c = let near = c.requires.near in let long = c.requires.tab
 pub returns-clause-drew : goal.returns-clause-drew
 returns-clause-drew g c =
     let o = c.requires.told in
-    let es = map seen c.args.mine.now.items in
+    let es = c.args.mine.now.entries in
     let s = shelf c.args.id es in
     let v = caught_up c.args.seat.now.me.0 c.args.id es in
     let h = g.B.Told.held in

@@ -22,4 +22,4 @@ invariant_of-pass c = record { pass = pass_sees _ _ _ _ _ _ c.pass.invariant.pas
 pub returns-clause-below : goal.returns-clause-below
 returns-clause-below c =
     subst (λ (p : PassView). AreBelow c.load_tail-tail.result (shelf_of p)) c.pass.view_is
-    (below_later c.pass.inside.seen c.load_tail-tail.result c.pass.inside.id (map seen c.pass.inside.mine.items) (let later = c.load_tail-tail.ensures.saw.1 in let sees = c.pass.invariant.pass.sees in omega arith) c.pass.invariant.pass.below)
+    (below_later c.pass.inside.seen c.load_tail-tail.result c.pass.inside.id c.pass.inside.mine.entries (let later = c.load_tail-tail.ensures.saw.1 in let sees = c.pass.invariant.pass.sees in omega arith) c.pass.invariant.pass.below)
