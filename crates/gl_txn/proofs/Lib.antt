@@ -3,4 +3,8 @@ pub mod Unions
 pub mod Sizes
 pub mod LookSteps
 pub mod Holdings
+pub mod TakeSteps
+pub mod Drawings
+pub mod EndFacts
+pub mod Changes
 pub mod NewLooks

@@ -4,4 +4,6 @@ pub mod Reading
 pub mod Looked
 pub mod TxnInside
 pub mod Ending
+pub mod Changing
+pub mod Drawing
 pub mod Holding

@@ -3,6 +3,8 @@
 #![tactic(auto)]
 
 mod attempt;
+mod changing;
+mod dropping;
 mod ending;
 mod looking;
 mod stops;

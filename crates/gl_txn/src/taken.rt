@@ -32,9 +32,10 @@ fn put_last(shared: &Shared, pass: &mut Pass, rows: &mut Vec<TakenRow>)
     ensures len { vec_len rows.new + 1 ≡ vec_len rows.old }
     ensures room { vec_capacity rows.new ≡ vec_capacity rows.old }
 {
-    let Some(TakenRow { var, row }) = rows.pop() else {
+    let Some(taken) = rows.pop() else {
         unreachable!()
     };
+    let TakenRow { var, row } = taken;
     shared.put_row(pass, var, row);
 }
 
