@@ -22,10 +22,10 @@ use Rattle.gl_txn.specs.Holding.{vars_of, found, row_at, row_held, held_by, held
 use Rattle.gl_txn.proofs.Finding.{found_here, found_past, found_held, found_at, found_mapped, changed, found_gone, found_still, once_more, once_mapped, once_without, none_held}
 
 -- the row of a variable among others
-row_here : (r : TakenRow) (rs : List TakenRow) (y : ℕ) → r.var ≡ y → row_at (r ∷ rs) y ≡ Some r
+pub row_here : (r : TakenRow) (rs : List TakenRow) (y : ℕ) → r.var ≡ y → row_at (r ∷ rs) y ≡ Some r
 row_here r rs y e = let b : (r.var == y) ≡ true = eq-eqb r.var y e in rw b refl
 
-row_past : (r : TakenRow) (rs : List TakenRow) (y : ℕ) → r.var ≢ y → row_at (r ∷ rs) y ≡ row_at rs y
+pub row_past : (r : TakenRow) (rs : List TakenRow) (y : ℕ) → r.var ≢ y → row_at (r ∷ rs) y ≡ row_at rs y
 row_past r rs y ne = let b : (r.var == y) ≡ false = ne_eqb r.var y ne in rw b refl
 
 some_row : (a b : TakenRow) → Some a ≡ Some b → a ≡ b
@@ -70,12 +70,12 @@ vars_pushed [] r = refl
 vars_pushed (q ∷ rs) r = ap (λ l. q.var ∷ l) (vars_pushed rs r)
 
 -- the last of rising numbers stands once
-above_in : (x : ℕ) (xs : List ℕ) (y : ℕ) → AllByRecursion (λ z. x < z) xs → Contains xs y → x < y
+pub above_in : (x : ℕ) (xs : List ℕ) (y : ℕ) → AllByRecursion (λ z. x < z) xs → Contains xs y → x < y
 above_in x [] y all c = absurd (let l = c.1 in omega arith)
 above_in x (z ∷ xs) y all (zero, l, e) = subst (λ k. x < k) e all.0
 above_in x (z ∷ xs) y all (suc k, l, e) = above_in x xs y all.1 (k, omega arith, e)
 
-last_in : (xs : List ℕ) (y : ℕ) → Contains (xs ++ y ∷ []) y
+pub last_in : (xs : List ℕ) (y : ℕ) → Contains (xs ++ y ∷ []) y
 last_in [] y = (0, omega arith, refl)
 last_in (x ∷ xs) y = let r = last_in xs y in (suc r.0, (let l = r.1 in omega arith), r.2)
 

@@ -7,4 +7,6 @@ pub mod TakeSteps
 pub mod Drawings
 pub mod EndFacts
 pub mod Changes
+pub mod Numberings
+pub mod Drops
 pub mod NewLooks

@@ -87,3 +87,7 @@ take_are ids i a near = subst AreVariables (take_more ids i 0 near) (
     Rises-take (i + 1) ids a.1,
     All-take (λ x. x < Rattle.gl_model.specs.declared.limits.TheConstants.VARIABLES) (i + 1) ids a.2,
 )
+
+pub empty_of : {A : Type 0} (xs : List A) → length xs ≡ 0 → xs ≡ []
+empty_of [] e = refl
+empty_of (x ∷ xs) e = absurd (omega arith)

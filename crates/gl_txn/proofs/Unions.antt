@@ -170,13 +170,13 @@ module _ {A : Type 0} (key : A → ℕ) where
   found_among x ps p e = let r = found_part x ps p e in subst (λ k. Contains (map key ps) k) r.1 (key_in ps p r.0)
 
   -- the variables of the parts, where one is put among them
-  part_above : (p q : A) (qs : List A) → key p < key q → with_part key p (q ∷ qs) ≡ p ∷ (q ∷ qs)
+  pub part_above : (p q : A) (qs : List A) → key p < key q → with_part key p (q ∷ qs) ≡ p ∷ (q ∷ qs)
   part_above p q qs l = grind (arith, nat_tests)
 
-  part_below : (p q : A) (qs : List A) → key q < key p → with_part key p (q ∷ qs) ≡ q ∷ with_part key p qs
+  pub part_below : (p q : A) (qs : List A) → key q < key p → with_part key p (q ∷ qs) ≡ q ∷ with_part key p qs
   part_below p q qs l = grind (arith, nat_tests)
 
-  part_same : (p q : A) (qs : List A) → key q ≡ key p → with_part key p (q ∷ qs) ≡ p ∷ qs
+  pub part_same : (p q : A) (qs : List A) → key q ≡ key p → with_part key p (q ∷ qs) ≡ p ∷ qs
   part_same p q qs e = grind (arith, nat_tests)
 
   pub keys_with : (p : A) (qs : List A) → map key (with_part key p qs) ≡ with_one (key p) (map key qs)
