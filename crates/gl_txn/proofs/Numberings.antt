@@ -36,8 +36,10 @@ var_at [] i r e = absurd (cc)
 var_at (q ∷ rs) zero r e = (omega arith, (let same : q ≡ r = cc in ap (λ (z : TakenRow). z.var) same))
 var_at (q ∷ rs) (suc i) r e = let s = var_at rs i r e in ((let l = s.0 in omega arith), s.1)
 
-in_vars : (rows : List TakenRow) (i : ℕ) (r : TakenRow) → slice_get rows i ≡ Some r → Contains (vars_of rows) r.var
-in_vars rows i r e = let v = var_at rows i r e in (i, v.0, v.1)
+pub in_vars : (rows : List TakenRow) (i : ℕ) (r : TakenRow) → slice_get rows i ≡ Some r → Contains (vars_of rows) r.var
+in_vars [] i r e = absurd (cc)
+in_vars (q ∷ rs) zero r e = (0, omega arith, (let same : q ≡ r = cc in ap (λ (z : TakenRow). z.var) same))
+in_vars (q ∷ rs) (suc i) r e = let c = in_vars rs i r e in (suc c.0, (let l = c.1 in omega arith), c.2)
 
 -- each row is found by its variable, where these rise
 pub row_found : (rows : List TakenRow) (i : ℕ) (r : TakenRow) → Rises (vars_of rows) → slice_get rows i ≡ Some r → row_at rows r.var ≡ Some r
@@ -76,3 +78,6 @@ drawn_none p list rows tails a = record { is = ap (λ (l : List Drawn). record p
 pub length_vars : (rows : List TakenRow) → length (vars_of rows) ≡ length rows
 length_vars [] = refl
 length_vars (r ∷ rs) = ap suc (length_vars rs)
+
+pub row_near : (rows : List TakenRow) (i : ℕ) (r : TakenRow) → AreVariables (vars_of rows) → slice_get rows i ≡ Some r → r.var < VARIABLES
+row_near rows i r are there = let v = var_at rows i r there in subst (λ k. k < VARIABLES) v.1 (near_in (vars_of rows) i are.2 v.0)

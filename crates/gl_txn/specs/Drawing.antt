@@ -1,6 +1,9 @@
 -- Numbers that are drawn for the end of an attempt.
-use Rattle.std.specs.Prelude.{◌≡◌, ℕ, ℤ, ◌<◌, ◌≤◌, ◌^◌, if◌then◌else◌, List, [], ◌++◌, map, Contains, Option, Some, None}
+use Rattle.std.specs.Prelude.{◌≡◌, ℕ, ℤ, ◌-◌, ◌<◌, ◌≤◌, ◌^◌, if◌then◌else◌, List, [], ◌∷◌, ◌++◌, map, Contains, Option, Some, None}
 use Rattle.gl_model.specs.declared.tx.Number.{Number}
+use Rattle.gl_model.specs.declared.tx.Tx.{Tx}
+use Rattle.gl_model.specs.declared.tx.Why.{Why}
+use Rattle.gl_model.specs.Entries.{Entry, Abort}
 use Rattle.gl_model.specs.Trace.{is_in}
 use Rattle.gl_draws.specs.Draws.{Draw, draw, Open}
 use Rattle.gl_draws.specs.Ties.{Drawn, counted}
@@ -9,6 +12,7 @@ use Rattle.gl_rule.specs.Numbers.{count_on}
 use Rattle.gl_rule.specs.View.{Held}
 use Rattle.gl_table.specs.CaughtUp.{block_of}
 use Rattle.gl_table.specs.PassView.{PassView}
+use Rattle.gl_txn.specs.Attempts.{Attempting}
 use Rattle.gl_txn.specs.Holding.{AreHeld, undrawn}
 use Rattle.gl_txn.specs.declared.taken.TakenRow.{TakenRow}
 
@@ -38,3 +42,18 @@ pub record HasDrawn (p q : PassView) (list : Option Held) (rows : List TakenRow)
   pub is : q ≡ record p { own = record p.own { held = q.own.held; drawn = p.own.drawn ++ map end_of numbers } }
   pub held : AreHeld q.own.held list rows tails (drew_on p (numbered numbers))
   pub above : (y k m : ℕ) (look : Option ℤ) → Contains p.own.drawn (record { var = y; nth = k; look = look }) → Contains numbers (record { var = y; nth = m }) → k < m
+
+-- the attempt of a transaction
+abbrev pub attempt_in : Tx → Attempting
+attempt_in tx = record { looks = tx.looks; writes = tx.writes }
+
+-- the pass stored an entry more, holds nothing, and no number waits
+abbrev pub with_entry : PassView → Entry → PassView
+with_entry p e = record p { own = record p.own { mine = p.own.mine ++ e ∷ []; drawn = []; held = [] }; spare = p.spare - 1 }
+
+-- the attempt was dropped with these looks and writes, and nothing else was done
+pub record HasDropped (tx : Tx) (why : Why) (p q : PassView) : Type 0 where
+  pub ended : Tx
+  pub looks : ended.looks ≡ tx.looks
+  pub writes : ended.writes ≡ tx.writes
+  pub is : q ≡ with_entry p (Abort ended why)

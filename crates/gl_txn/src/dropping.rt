@@ -1,13 +1,19 @@
 // Dropping an attempt: its numbers are drawn, its entry is stored, and its rows go back.
-ghost use Rattle.std.specs.Prelude.{◌≡◌, ℕ, ◌<◌, ◌≤◌, ◌++◌, ◌∷◌, [], List, Option, length};
+ghost use Rattle.std.specs.Prelude.{◌≡◌, ℕ, ◌<◌, ◌≤◌, ◌++◌, ◌∷◌, [], List, Option, None, length};
+ghost use Rattle.gl_model.specs.declared.tx.Why.TheVariants.{Changed};
 ghost use Rattle.gl_model.specs.declared.limits.TheConstants.{VARIABLES, TX_VARIABLES};
 ghost use Rattle.gl_model.specs.Rising.{Rises};
 ghost use Rattle.gl_rule.specs.View.{Held as AHeld};
-ghost use Rattle.gl_txn.specs.Drawing.{MayNumber, HasDrawn, numbered};
+ghost use Rattle.gl_txn.specs.Changing.{IsFirstChange};
+ghost use Rattle.gl_txn.specs.Drawing.{MayNumber, HasDrawn, HasDropped, attempt_in, numbered};
 ghost use Rattle.gl_txn.specs.Holding.{AreHeld, undrawn, vars_of};
+ghost use Rattle.gl_txn.specs.Trying.{Draws};
+ghost use Rattle.gl_txn.specs.declared.stops.TxEnd.TheVariants.{Changed as WasChanged};
 
-use crate::taken::TakenRow;
-use gl_model::{Number, Numbers};
+use crate::changing::Change;
+use crate::stops::TxEnd;
+use crate::taken::{TakenRow, put_rows};
+use gl_model::{Number, Numbers, Tx, Why};
 use gl_table::{Pass, Shared};
 
 // Puts the number behind the others, whose variables are all below.
@@ -38,5 +44,41 @@ pub(crate) fn draw_numbers(
     for taken in rows {
         let nth = shared.mark_open(pass, taken.var, None);
         add(numbers, taken.var, nth);
+    }
+}
+
+// Drops the attempt since this word was changed: a number is drawn on its variable alone.
+pub(crate) fn drop_changed(
+    shared: &Shared,
+    pass: &mut Pass,
+    tx: Box<Tx>,
+    rows: &mut Vec<TakenRow>,
+    change: &Change,
+) -> TxEnd
+    requires table { pass.old.own.table ≡ shared.now.id }
+    requires spare { 0 < pass.old.spare }
+    requires may { MayNumber pass.old rows.old.items }
+    requires held { AreHeld pass.old.own.held None rows.old.items [] undrawn }
+    requires draws { Draws (attempt_in tx.value) pass.old.own }
+    requires none { tx.value.numbers ≡ [] }
+    requires change { IsFirstChange tx.value.looks rows.old.items change.now }
+    ensures dropped { HasDropped tx.value (Changed change.now.var change.now.read change.now.found) pass.old pass.new }
+    ensures end { result ≡ WasChanged change.now.var change.now.read change.now.found }
+{
+    let mut tx = tx;
+    let var = change.var;
+    let nth = shared.mark_open(pass, var, None);
+    add(&mut tx.numbers, var, nth);
+    let why = Why::Changed {
+        var,
+        read: change.read,
+        found: change.found,
+    };
+    pass.abort(tx, why);
+    put_rows(shared, pass, rows);
+    TxEnd::Changed {
+        var,
+        read: change.read,
+        found: change.found,
     }
 }
