@@ -100,7 +100,7 @@ module _ (p q : PassView) (rows : List TakenRow) (tails : List ℕ) (numbers : L
       put ∙ ap (λ (z : PassView). record z { own = record z.own { held = [] } }) added ∙ ap (λ (z : PassView). record (after_adding z (Abort tx (Raised var))) { own = record (after_adding z (Abort tx (Raised var))).own { held = [] } }) d.is
 
 -- the transaction with its one number
-pub tx_is : (t d : Tx) (ns : List Number) (n : Number) → d ≡ t → t.numbers ≡ [] → ns ≡ d.numbers ++ n ∷ [] → record { looks = d.looks; writes = d.writes; numbers = ns } ≡ record { looks = t.looks; writes = t.writes; numbers = n ∷ [] }
+pub tx_is : (t d : Tx) (ns : List Number) (n : Number) → d ≡ t → t.numbers ≡ [] → ns ≡ d.numbers ++ n ∷ [] → ◌≡◌ {A = Tx} (record { looks = d.looks; writes = d.writes; numbers = ns }) (record { looks = t.looks; writes = t.writes; numbers = n ∷ [] })
 tx_is t d ns n is none more =
-    ap (λ (l : List Number). record { looks = d.looks; writes = d.writes; numbers = l }) more ∙ ap (λ (t : Tx). record { looks = t.looks; writes = t.writes; numbers = t.numbers ++ n ∷ [] }) is
-    ∙ ap (λ (l : List Number). record { looks = t.looks; writes = t.writes; numbers = l ++ n ∷ [] }) none
+    ap (λ (l : List Number). record d { numbers = l }) more ∙ ap (λ (t : Tx). record t { numbers = t.numbers ++ n ∷ [] }) is
+    ∙ ap (λ (l : List Number). record t { numbers = l ++ n ∷ [] }) none

@@ -9,4 +9,6 @@ pub mod EndFacts
 pub mod Changes
 pub mod Numberings
 pub mod Drops
+pub mod Races
+pub mod Refusals
 pub mod NewLooks

@@ -6,4 +6,5 @@ pub mod TxnInside
 pub mod Ending
 pub mod Changing
 pub mod Drawing
+pub mod Racing
 pub mod Holding

@@ -1,14 +1,15 @@
 // Dropping an attempt: its numbers are drawn, its entry is stored, and its rows go back.
 ghost use Rattle.std.specs.Prelude.{◌≡◌, ℕ, ◌<◌, ◌≤◌, ◌++◌, ◌∷◌, [], List, Option, None, length};
-ghost use Rattle.gl_model.specs.declared.tx.Why.TheVariants.{Changed};
+ghost use Rattle.gl_model.specs.declared.tx.Why.TheVariants.{Changed, Raised};
 ghost use Rattle.gl_model.specs.declared.limits.TheConstants.{VARIABLES, TX_VARIABLES};
 ghost use Rattle.gl_model.specs.Rising.{Rises};
 ghost use Rattle.gl_rule.specs.View.{Held as AHeld};
 ghost use Rattle.gl_txn.specs.Changing.{IsFirstChange};
 ghost use Rattle.gl_txn.specs.Drawing.{MayNumber, HasDrawn, HasDropped, attempt_in, numbered};
 ghost use Rattle.gl_txn.specs.Holding.{AreHeld, undrawn, vars_of};
+ghost use Rattle.gl_txn.specs.Racing.{RacesOn};
 ghost use Rattle.gl_txn.specs.Trying.{Draws};
-ghost use Rattle.gl_txn.specs.declared.stops.TxEnd.TheVariants.{Changed as WasChanged};
+ghost use Rattle.gl_txn.specs.declared.stops.TxEnd.TheVariants.{Changed as WasChanged, Raised as WasRaised};
 
 use crate::changing::Change;
 use crate::stops::TxEnd;
@@ -81,4 +82,28 @@ pub(crate) fn drop_changed(
         read: change.read,
         found: change.found,
     }
+}
+
+// Drops the attempt since its commit would complete a race on this variable: a number is drawn on each of its variables.
+pub(crate) fn drop_raised(
+    shared: &Shared,
+    pass: &mut Pass,
+    tx: Box<Tx>,
+    rows: &mut Vec<TakenRow>,
+    var: u16,
+) -> TxEnd
+    requires table { pass.old.own.table ≡ shared.now.id }
+    requires spare { 0 < pass.old.spare }
+    requires may { MayNumber pass.old rows.old.items }
+    requires draws { Draws (attempt_in tx.value) pass.old.own }
+    requires none { tx.value.numbers ≡ [] }
+    requires raised { RacesOn pass.old rows.old.items tx.value var }
+    ensures dropped { HasDropped tx.value (Raised var) pass.old pass.new }
+    ensures end { result ≡ WasRaised var }
+{
+    let mut tx = tx;
+    draw_numbers(shared, pass, rows.as_slice(), &mut tx.numbers);
+    pass.abort(tx, Why::Raised { var });
+    put_rows(shared, pass, rows);
+    TxEnd::Raised { var }
 }

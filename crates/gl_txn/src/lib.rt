@@ -7,6 +7,7 @@ mod changing;
 mod dropping;
 mod ending;
 mod looking;
+mod racing;
 mod stops;
 mod taken;
 
