@@ -11,4 +11,5 @@ pub mod Numberings
 pub mod Drops
 pub mod Races
 pub mod Refusals
+pub mod NotedRows
 pub mod NewLooks

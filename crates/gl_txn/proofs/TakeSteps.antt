@@ -1,6 +1,6 @@
 -- Taking rows one after another, and putting them back.
 use Rattle.std.proofs.Common.{◌≡◌, ◌≢◌, ℕ, zero, suc, ◌+◌, ◌<◌, ◌≤◌, ◌==◌, List, [], ◌∷◌, ◌++◌, length, map, take, drop, get_or, true, false, Bool, refl, sym, ap, ◌∙◌, subst, arith, Some, None, inl, inr, ne_eqb, append_assoc, append-nil}
-use Rattle.std.specs.Prelude.{Contains, Option, ◌||◌, if◌then◌else◌}
+use Rattle.std.specs.Prelude.{Contains, Option, ℤ, ◌||◌, if◌then◌else◌}
 use Rattle.std.proofs.lemmas.List.{take_more, take-append-drop}
 use Rattle.std.proofs.Math.Seq.{drop-cons}
 use Rattle.gl_model.specs.declared.limits.TheConstants.{THREADS}
@@ -10,7 +10,7 @@ use Rattle.gl_model.proofs.RisingLists.{All-take, Rises-take}
 use Rattle.gl_rule.specs.declared.slot.Slot.TheVariants as slot
 use Rattle.gl_rule.specs.View.{View, Held, Read, Busy, Taken, new_held, without, took, left, refused}
 use Rattle.gl_table.specs.PassView.{PassView, Own, view_of, after}
-use Rattle.gl_txn.specs.Holding.{vars_of, takes, AreHeld, AreUnused, HaveTaken, WereBusy, undrawn}
+use Rattle.gl_txn.specs.Holding.{vars_of, takes, AreHeld, AreUnused, HaveTaken, HaveWrites, WereBusy, undrawn, write_in}
 use Rattle.gl_txn.specs.declared.taken.TakenRow.{TakenRow}
 use Rattle.gl_txn.proofs.Holdings.{held_more, held_nothing, vars_pushed, taken_unused, unused_none}
 use Rattle.gl_txn.proofs.LookSteps.{or_no}
@@ -44,24 +44,24 @@ pub taken_none : (p : PassView) → p.own.held ≡ [] → HaveTaken p p [] []
 taken_none p none = record { of = refl; is = ap (λ (l : List Read). record p { reads = l }) (sym (append-nil p.reads)); held = held_nothing p.own.held none }
 
 -- one row more was taken
-pub taken_more : (p q r : PassView) (ys : List ℕ) (rows : List TakenRow) (y : ℕ) (row : Row) → HaveTaken p q ys rows → AreVariables (ys ++ y ∷ []) → r ≡ after q (took (view_of q) (suc y) (slot.Row row))
-    → HaveTaken p r (ys ++ y ∷ []) (rows ++ record { var = y; row = row } ∷ [])
-taken_more p q r ys rows y row t are is = record {
-  of = vars_pushed rows (record { var = y; row = row }) ∙ ap (λ l. l ++ y ∷ []) t.of;
+pub taken_more : (p q r : PassView) (ys : List ℕ) (rows : List TakenRow) (y : ℕ) (w : Option ℤ) (row : Row) → HaveTaken p q ys rows → AreVariables (ys ++ y ∷ []) → r ≡ after q (took (view_of q) (suc y) (slot.Row row))
+    → HaveTaken p r (ys ++ y ∷ []) (rows ++ record { var = y; write = w; row = row } ∷ [])
+taken_more p q r ys rows y w row t are is = record {
+  of = vars_pushed rows (record { var = y; write = w; row = row }) ∙ ap (λ l. l ++ y ∷ []) t.of;
   is = whole;
-  held = subst (λ (l : List Held). AreHeld l None (rows ++ record { var = y; row = row } ∷ []) [] undrawn) (sym held_is)
-      (held_more q.own.held rows (record { var = y; row = row }) t.held (subst (λ l. AreVariables (l ++ y ∷ [])) (sym t.of) are));
+  held = subst (λ (l : List Held). AreHeld l None (rows ++ record { var = y; write = w; row = row } ∷ []) [] undrawn) (sym held_is)
+      (held_more q.own.held rows (record { var = y; write = w; row = row }) t.held (subst (λ l. AreVariables (l ++ y ∷ [])) (sym t.of) are));
 }
   where
     held_is : r.own.held ≡ new_held (suc y) (slot.Row row) ∷ q.own.held
     held_is = ap (λ (z : PassView). z.own.held) is
 
-    reads_are : q.reads ++ Taken (suc y) (slot.Row row) ∷ [] ≡ p.reads ++ takes (rows ++ record { var = y; row = row } ∷ [])
+    reads_are : q.reads ++ Taken (suc y) (slot.Row row) ∷ [] ≡ p.reads ++ takes (rows ++ record { var = y; write = w; row = row } ∷ [])
     reads_are =
         ap (λ (z : PassView). z.reads ++ Taken (suc y) (slot.Row row) ∷ []) t.is ∙ append_assoc p.reads (takes rows) (Taken (suc y) (slot.Row row) ∷ [])
-        ∙ ap (λ (l : List Read). p.reads ++ l) (sym (takes_pushed rows (record { var = y; row = row })))
+        ∙ ap (λ (l : List Read). p.reads ++ l) (sym (takes_pushed rows (record { var = y; write = w; row = row })))
 
-    whole : r ≡ record p { own = record p.own { held = r.own.held }; reads = p.reads ++ takes (rows ++ record { var = y; row = row } ∷ []) }
+    whole : r ≡ record p { own = record p.own { held = r.own.held }; reads = p.reads ++ takes (rows ++ record { var = y; write = w; row = row } ∷ []) }
     whole =
         is ∙ ap (λ (z : PassView). record z { own = record z.own { held = new_held (suc y) (slot.Row row) ∷ q.own.held }; reads = q.reads ++ Taken (suc y) (slot.Row row) ∷ [] }) t.is
         ∙ ap (λ (l : List Held). record p { own = record p.own { held = l }; reads = q.reads ++ Taken (suc y) (slot.Row row) ∷ [] }) (sym held_is)
@@ -91,3 +91,10 @@ take_are ids i a near = subst AreVariables (take_more ids i 0 near) (
 pub empty_of : {A : Type 0} (xs : List A) → length xs ≡ 0 → xs ≡ []
 empty_of [] e = refl
 empty_of (x ∷ xs) e = absurd (omega arith)
+
+-- one row more has its word
+pub writes_more : (ws : List Rattle.gl_model.specs.declared.tx.Pair.Pair) (rows : List TakenRow) (r : TakenRow) → HaveWrites ws rows → r.write ≡ write_in ws r.var → HaveWrites ws (rows ++ r ∷ [])
+writes_more ws rows r have is u c = elim (Rattle.std.proofs.lemmas.List.Elements.Contains-push_cases rows r u c) [
+  | inl old ↦ have u old
+  | inr new ↦ subst (λ (v : TakenRow). v.write ≡ write_in ws v.var) new is
+]

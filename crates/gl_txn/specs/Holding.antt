@@ -1,6 +1,8 @@
 -- The rows that an attempt's end holds, as the pass's view has them.
-use Rattle.std.specs.Prelude.{◌≡◌, ℕ, zero, suc, ◌==◌, ◌<◌, false, if◌then◌else◌, List, [], ◌∷◌, ◌++◌, map, Contains, Option, Some, None}
+use Rattle.std.specs.Prelude.{◌≡◌, ℕ, ℤ, zero, suc, ◌==◌, ◌<◌, false, if◌then◌else◌, List, [], ◌∷◌, ◌++◌, map, Contains, Option, Some, None}
 use Rattle.gl_model.specs.declared.limits.TheConstants.{THREADS}
+use Rattle.std.specs.List.{find}
+use Rattle.gl_model.specs.declared.tx.Pair.{Pair}
 use Rattle.gl_model.specs.Kept.{AreVariables}
 use Rattle.gl_draws.specs.Draws.{Draw, is_write, is_read}
 use Rattle.gl_rule.specs.declared.slot.Slot.TheVariants as slot
@@ -70,3 +72,15 @@ pub record WereBusy (ys : List ℕ) (by : ℕ) (p q : PassView) : Type 0 where
   pub rest : List ℕ
   pub of : ys ≡ vars_of rows ++ var ∷ rest
   pub is : q ≡ record p { reads = (p.reads ++ takes rows) ++ Busy (suc var) by ∷ [] }
+
+-- the word that these write to x
+abbrev pub word_by : Option Pair → Option ℤ
+word_by None = None
+word_by (Some w) = Some w.value
+
+abbrev pub write_in : List Pair → ℕ → Option ℤ
+write_in ws x = word_by (find (λ w. w.var == x) ws)
+
+-- each row has the word that is written there
+abbrev pub HaveWrites : List Pair → List TakenRow → Type 0
+HaveWrites ws rows = (r : TakenRow) → Contains rows r → r.write ≡ write_in ws r.var

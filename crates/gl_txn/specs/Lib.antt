@@ -7,4 +7,6 @@ pub mod Ending
 pub mod Changing
 pub mod Drawing
 pub mod Racing
+pub mod Noting
+pub mod Publishing
 pub mod Holding

@@ -7,6 +7,8 @@ mod changing;
 mod dropping;
 mod ending;
 mod looking;
+mod noting;
+mod publishing;
 mod racing;
 mod stops;
 mod taken;
