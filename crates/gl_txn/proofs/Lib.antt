@@ -12,4 +12,6 @@ pub mod Drops
 pub mod Races
 pub mod Refusals
 pub mod NotedRows
+pub mod Published
+pub mod Publishes
 pub mod NewLooks

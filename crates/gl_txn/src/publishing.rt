@@ -33,3 +33,35 @@ pub(crate) fn reach_list(shared: &Shared, pass: &mut Pass) -> Result<ListState, 
     }
     Ok(state)
 }
+
+// Publishes the commit, with a number on each of its variables, and puts the list and the rows back.
+pub(crate) fn publish(
+    shared: &Shared,
+    pass: &mut Pass,
+    tx: Box<Tx>,
+    vars: &VarSet,
+    rows: &mut Vec<TakenRow>,
+    state: ListState,
+) -> u64
+    requires table { pass.old.own.table ≡ shared.now.id }
+    requires spare { 0 < pass.old.spare }
+    requires may { MayPublish shared.now pass.old rows.old.items tx.value state }
+    requires none { tx.value.numbers ≡ [] }
+    requires vars { vars.now ≡ variables_of tx.value }
+    ensures published { HasPublished tx.value result pass.old pass.new }
+    ensures later { pass.old.seen ≤ result }
+{
+    let mut tx = tx;
+    vars.keeps();
+    draw_numbers(shared, pass, rows.as_slice(), &mut tx.numbers);
+    let at = shared.publish_commit(pass, tx, vars, &state);
+    shared.put_list(pass, state, false);
+    let base = Question {
+        thread: pass.id(),
+        write: false,
+        commit: Some(*vars),
+        held: pass.monitors(),
+    };
+    put_all_noted(shared, pass, rows, &base, at + 1);
+    at
+}
