@@ -14,4 +14,5 @@ pub mod Refusals
 pub mod NotedRows
 pub mod Published
 pub mod Publishes
+pub mod Stages
 pub mod NewLooks

@@ -37,7 +37,7 @@ use Rattle.gl_table.specs.Committing.{MayPublishTx, published_tx, commit_stamp}
 use Rattle.gl_table.specs.PassView.{PassView, view_of, shelf_of, after}
 use Rattle.gl_table.specs.Putting.{MayPutBack}
 use Rattle.gl_table.specs.TableView.{TableView}
-use Rattle.gl_table.proofs.Doing.{state_runs, taken_after}
+use Rattle.gl_table.proofs.Doing.{state_runs}
 use Rattle.gl_table.proofs.Passes.{published_object}
 use Rattle.gl_txn.specs.Changing.{look_in}
 use Rattle.gl_txn.specs.Drawing.{attempt_in, end_of, numbered, drew_on, MayNumber, HasDrawn, with_entry}
@@ -54,6 +54,9 @@ use Rattle.gl_txn.proofs.Holdings.{row_among}
 use Rattle.gl_txn.proofs.LookSteps.{block_is, or_no}
 use Rattle.gl_txn.proofs.Published.{held_reached, held_published, may_store_commit, look_found, place_at}
 use Rattle.gl_txn.proofs.Refusals.{row_of, row_is}
+
+taken_after : (n : ℕ) (y : Slot) (drew : Held → Option Draw) (h : Held) → h.object ≡ 0 → (after_publish n y drew h).taken ≡ y
+taken_after n y drew h e = ap (λ b. (if b then record h { taken = y; tails = suc n ∷ [] } else record h { tails = suc n ∷ h.tails; drew = drew h }).taken) (eq-eqb h.object 0 e)
 
 last_read : (xs : List Read) (x : Read) → Contains (xs ++ x ∷ []) x
 last_read [] x = (0, omega arith, refl)

@@ -9,4 +9,5 @@ pub mod Drawing
 pub mod Racing
 pub mod Noting
 pub mod Publishing
+pub mod Stages
 pub mod Holding

@@ -1,14 +1,55 @@
 // The end of an attempt.
-ghost use Rattle.std.specs.Prelude.{◌≡◌, ◌<◌, ◌≤◌, ◌+◌, IfOk, IfErr, OnOk, OnErr};
+ghost use Rattle.std.specs.Prelude.{◌≡◌, ◌<◌, ◌≤◌, ◌+◌, IfOk, IfErr, OnOk, OnErr, [], vec_capacity};
+ghost use Rattle.gl_model.specs.declared.limits.TheConstants.{TX_VARIABLES};
+ghost use Rattle.gl_model.specs.Records.{variables_of};
 ghost use Rattle.gl_rule.specs.Objects.{capacity};
+ghost use Rattle.gl_txn.specs.Changing.{AreUnchangedIn};
+ghost use Rattle.gl_txn.specs.Publishing.{IsReady};
+ghost use Rattle.gl_txn.specs.Stages.{HoldsRows, EndsAs, IsPutBack};
 ghost use Rattle.gl_txn.specs.Trying.{MayTry};
-ghost use Rattle.gl_txn.specs.Ending.{HasEnded, IsCause, IsWaitCause};
+ghost use Rattle.gl_txn.specs.Ending.{HasEnded};
 
 use crate::attempt::Txn;
+use crate::changing::first_change;
+use crate::dropping::{drop_changed, drop_raised};
+use crate::publishing::{publish, reach_list};
+use crate::racing::first_race;
 use crate::stops::{TxEnd, TxWait};
+use crate::taken::{TakenRow, put_rows, take_rows};
+use gl_model::{Pairs, Question, Tx, VarSet};
 use gl_rows::Window;
 use gl_shortcut::Cuts;
 use gl_table::{Pass, Shared};
+
+// The end of an attempt against which nothing speaks: it is committed, where the list is free and has room.
+fn end_clear(
+    shared: &Shared,
+    pass: &mut Pass,
+    tx: Box<Tx>,
+    vars: &VarSet,
+    rows: &mut Vec<TakenRow>,
+) -> Result<TxEnd, (Box<Tx>, TxWait)>
+    requires table { pass.old.own.table ≡ shared.now.id }
+    requires spare { 0 < pass.old.spare }
+    requires ready { IsReady pass.old rows.old.items tx.value }
+    requires none { tx.value.numbers ≡ [] }
+    requires vars { vars.now ≡ variables_of tx.value }
+    ensures done { IfOk result (λ e. EndsAs tx.value e pass.old pass.new) }
+    ensures stop { IfErr result (λ w. w.0.value ≡ tx.value) }
+    ensures back { OnErr result (IsPutBack pass.old pass.new) }
+    ensures rows { OnErr result (rows.new.items ≡ []) }
+    ensures room { OnErr result (vec_capacity rows.new ≡ vec_capacity rows.old) }
+{
+    match reach_list(shared, pass) {
+        Err(wait) => {
+            put_rows(shared, pass, rows);
+            Err((tx, wait))
+        }
+        Ok(state) => Ok(TxEnd::Done {
+            at: publish(shared, pass, tx, vars, rows, state),
+        }),
+    }
+}
 
 impl Txn {
     /// Ends the attempt: with `keep` its looks and its writes are committed, else its looks alone. All its rows are taken. Where a word that it looked
@@ -26,9 +67,7 @@ impl Txn {
         requires spare { 0 < pass.old.spare }
         requires window { capacity shared.now.key ≤ window.old }
         ensures done { IfOk result (λ e. HasEnded self keep e pass.old.own pass.new.own) }
-        ensures cause { IfOk result (λ e. IsCause shared.now self keep e pass.old pass.new) }
         ensures stop { IfErr result (λ w. w.0 ≡ self) }
-        ensures wait { IfErr result (λ w. IsWaitCause shared.now self keep w.1 pass.old pass.new) }
         ensures kept { OnErr result (pass.new.own ≡ pass.old.own) }
         ensures quiet { pass.new.quiet ≡ pass.old.quiet }
         ensures spent { OnOk result (pass.old.spare ≡ pass.new.spare + 1) }

@@ -56,12 +56,13 @@ pub(crate) fn publish(
     draw_numbers(shared, pass, rows.as_slice(), &mut tx.numbers);
     let at = shared.publish_commit(pass, tx, vars, &state);
     shared.put_list(pass, state, false);
+    let behind = pass.seen();
     let base = Question {
         thread: pass.id(),
         write: false,
         commit: Some(*vars),
         held: pass.monitors(),
     };
-    put_all_noted(shared, pass, rows, &base, at + 1);
+    put_all_noted(shared, pass, rows, &base, behind);
     at
 }
