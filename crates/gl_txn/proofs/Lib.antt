@@ -15,4 +15,5 @@ pub mod NotedRows
 pub mod Published
 pub mod Publishes
 pub mod Stages
+pub mod Ready
 pub mod NewLooks
