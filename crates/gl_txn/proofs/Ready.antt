@@ -160,3 +160,30 @@ drops_as tx e why p q entry d = record {
   quiet = ap (λ (u : PassView). u.quiet) d.is;
   spare = ap (λ (u : PassView). u.spare) d.is;
 }
+
+-- the rows that were taken are held
+pub holds_rows : (z : TableView) (p q : PassView) (ys : List ℕ) (rows : List TakenRow) (tx : Tx) → MayTry z p (attempt_in tx) → ys ≡ variables_of tx → HaveTaken p q ys rows → HaveWrites tx.writes rows → HoldsRows q rows tx
+holds_rows z p q ys rows tx may vars t writes = record {
+  of = t.of ∙ vars;
+  held = t.held;
+  owed = ap (λ (u : PassView). u.own.owed) t.is ∙ may.owed;
+  few = subst (λ (u : PassView). Rattle.gl_draws.specs.Ties.counted u.own.mine < Rattle.std.specs.Prelude.◌^◌ 2 50) (sym t.is) may.few;
+  runs = ap (λ (u : PassView). Rattle.gl_rule.specs.Lives.life_of u.own.mine) t.is ∙ may.runs;
+  draws = subst (λ (u : PassView). Draws (attempt_in tx) u.own) (sym t.is) (record { looks = may.draws.looks; ends = may.draws.ends; each = may.draws.each });
+  writes = writes;
+}
+
+-- what is asked of a pass that goes on with an attempt does not speak of its writes
+pub may_try_writes : (z : TableView) (p : PassView) (a b : Rattle.gl_txn.specs.Attempts.Attempting) → b.looks ≡ a.looks → MayTry z p a → MayTry z p b
+may_try_writes z p a b e m = record {
+  table = m.table;
+  held = m.held;
+  owed = m.owed;
+  few = m.few;
+  runs = m.runs;
+  draws = record {
+    looks = λ y k value. subst (λ (ls : List Rattle.gl_model.specs.declared.tx.Look.Look). Rattle.std.specs.Prelude.◌↔◌ (Contains p.own.drawn (record { var = y; nth = k; look = Some value })) (Contains ls (record { var = y; value = value; nth = k }))) (sym e) (m.draws.looks y k value);
+    ends = m.draws.ends;
+    each = m.draws.each;
+  };
+}
