@@ -1,0 +1,34 @@
+-- The first row whose word was changed.
+use Rattle.std.proofs.Common.{◌≡◌, ◌≢◌, ℕ, zero, suc, ◌+◌, ◌<◌, ◌≤◌, List, [], ◌∷◌, length, get_or, true, false, Bool, refl, sym, ap, ◌∙◌, subst, arith, Some, None, inl, inr}
+use Rattle.std.specs.Prelude.{Contains, Option, is_some, slice_get, MatchOption}
+use Rattle.std.proofs.lemmas.Bool.{cases_lt}
+use Rattle.std.proofs.lemmas.Option.{slice_get_within}
+use Rattle.gl_model.specs.declared.tx.Look.{Look}
+use Rattle.gl_txn.specs.Changing.{IsUnchanged, IsChange, IsChangeOf, AreUnchangedIn, AreUnchangedBefore, IsFirstChange}
+use Rattle.gl_txn.specs.declared.changing.Change.{Change}
+use Rattle.gl_txn.specs.declared.taken.TakenRow.{TakenRow}
+
+pub at_item : (xs : List TakenRow) (i : ℕ) (r : TakenRow) → i < length xs → r ≡ get_or xs i r → slice_get xs i ≡ Some r
+at_item [] i r near e = absurd (omega arith)
+at_item (x ∷ xs) zero r near e = ap (λ (z : TakenRow). Some z) (sym e)
+at_item (x ∷ xs) (suc i) r near e = at_item xs i r (omega arith) e
+
+some_one : (a b : TakenRow) → Some a ≡ Some b → a ≡ b
+some_one a b e = cc
+
+pub first_here : (looks : List Look) (rows : List TakenRow) (i : ℕ) (r : TakenRow) (change : Option Change) → is_some change ≡ true → IsChangeOf looks r change → slice_get rows i ≡ Some r → AreUnchangedBefore i looks rows → MatchOption change (AreUnchangedIn looks rows) (IsFirstChange looks rows)
+first_here looks rows i r None some is there before = absurd (cc)
+first_here looks rows i r (Some c) some is there before = record { place = i; row = r; there = there; is = is; before = before }
+
+no_change : (looks : List Look) (r : TakenRow) (change : Option Change) → is_some change ≡ false → IsChangeOf looks r change → IsUnchanged looks r
+no_change looks r None none is = is
+no_change looks r (Some c) none is = absurd (cc)
+
+pub unchanged_next : (looks : List Look) (rows : List TakenRow) (i : ℕ) (r : TakenRow) (change : Option Change) → is_some change ≡ false → IsChangeOf looks r change → slice_get rows i ≡ Some r → AreUnchangedBefore i looks rows → AreUnchangedBefore (i + 1) looks rows
+unchanged_next looks rows i r change none is there before k q near at = elim (cases_lt k i) [
+  | inl low ↦ before k q low at
+  | inr ge ↦ (let same : k ≡ i = omega arith in subst (λ (u : TakenRow). IsUnchanged looks u) (some_one r q (sym there ∙ ap (slice_get rows) (sym same) ∙ at)) (no_change looks r change none is))
+]
+
+pub unchanged_all : (looks : List Look) (rows : List TakenRow) (i : ℕ) → length rows ≤ i → AreUnchangedBefore i looks rows → AreUnchangedIn looks rows
+unchanged_all looks rows i past before k r at = before k r (let near = slice_get_within rows k r at in omega arith) at

@@ -1,0 +1,189 @@
+-- From the rows that were taken to an end that is certain.
+use Rattle.std.proofs.Common.{◌≡◌, ◌≢◌, ℕ, zero, suc, ◌+◌, ◌-◌, ◌<◌, ◌≤◌, List, [], ◌∷◌, ◌++◌, length, map, true, false, Bool, refl, sym, ap, ◌∙◌, subst, arith, Some, None, inl, inr}
+use Rattle.std.specs.Prelude.{Contains, Option, ◌⊎◌, slice_get}
+use Rattle.gl_model.specs.declared.event.Stamp.{Stamp}
+use Rattle.gl_model.specs.declared.limits.TheConstants.{THREADS}
+use Rattle.gl_model.specs.declared.row.Question.{Question}
+use Rattle.gl_model.specs.declared.row.Row.{Row}
+use Rattle.gl_model.specs.declared.tx.Pair.{Pair}
+use Rattle.gl_model.specs.declared.tx.Tx.{Tx}
+use Rattle.gl_model.specs.Infos.{AreLeastOwned}
+use Rattle.gl_model.specs.Kept.{AreVariables}
+use Rattle.gl_model.specs.Machine.{Setting, State, Allows}
+use Rattle.gl_model.specs.Records.{variables_of}
+use Rattle.gl_draws.specs.Events.{AreEvents}
+use Rattle.gl_draws.specs.RowFacts.{IsWithin, SomeFails}
+use Rattle.gl_rule.specs.declared.slot.Slot.TheVariants as slot
+use Rattle.gl_rule.specs.Knowledge.{AreBelow}
+use Rattle.gl_rule.specs.View.{View, Held, saw_tail, with_tail}
+use Rattle.gl_table.specs.PassView.{PassView, view_of, shelf_of, after}
+use Rattle.gl_table.specs.TableView.{TableView}
+use Rattle.gl_txn.specs.Changing.{AreUnchangedIn}
+use Rattle.gl_txn.specs.Drawing.{attempt_in, MayNumber, HasDropped, with_entry}
+use Rattle.gl_txn.specs.Ending.{entry_of}
+use Rattle.gl_txn.specs.Holding.{vars_of, found, row_at, row_held, held_by, held_of, AreHeld, undrawn, HaveTaken, HaveWrites, takes}
+use Rattle.gl_txn.specs.Publishing.{IsReady}
+use Rattle.gl_txn.specs.Racing.{asked_on, asked_of, MayJudge, KnowsOn, Over, AreClear, IsFirstRace, RacesOn}
+use Rattle.gl_txn.specs.Stages.{HoldsRows, EndsAs, IsPutBack}
+use Rattle.gl_txn.specs.Trying.{Draws, MayTry}
+use Rattle.gl_txn.specs.declared.stops.TxEnd.{TxEnd}
+use Rattle.gl_txn.specs.declared.taken.TakenRow.{TakenRow}
+use Rattle.gl_txn.proofs.Finding.{found_held, found_mapped, changed, once_mapped}
+use Rattle.gl_txn.proofs.Refusals.{row_of, row_is}
+
+-- a tail was seen while the rows are held
+held_tail : (held : List Held) (rows : List TakenRow) (tails : List ℕ) → AreHeld held None rows tails undrawn → (n : ℕ) → AreHeld (map (with_tail n) held) None rows (n ∷ tails) undrawn
+held_tail held rows tails a n = record { at = at; once = once_mapped (with_tail n) (λ h. refl) held a.once; are = a.are }
+  where
+    by_row : (o : Option TakenRow) → changed (with_tail n) (held_by tails undrawn o) ≡ held_by (n ∷ tails) undrawn o
+    by_row None = refl
+    by_row (Some r) = refl
+
+    at : (k : ℕ) → found k (map (with_tail n) held) ≡ held_of None rows (n ∷ tails) undrawn k
+    at zero = found_mapped (with_tail n) (λ h. refl) 0 held ∙ ap (changed (with_tail n)) (a.at 0)
+    at (suc y) = found_mapped (with_tail n) (λ h. refl) (suc y) held ∙ ap (changed (with_tail n)) (a.at (suc y)) ∙ by_row (row_at rows y)
+
+-- the test of a row speaks of the thread, the kind and the variables of a question
+same_test : (l : List Stamp) (row : Row) (q u : Question) → q.thread ≡ u.thread → q.write ≡ u.write → q.commit ≡ u.commit → SomeFails l row q → SomeFails l row u
+same_test l row q u a b c f =
+    subst (λ (v : Question). SomeFails l row v) (ap (λ t. record q { thread = t }) a ∙ ap (λ w. record q { thread = u.thread; write = w }) b ∙ ap (λ o. record q { thread = u.thread; write = u.write; commit = o }) c ∙ refl) f
+
+module _ (p q r : PassView) (rows : List TakenRow) (tx : Tx) (h : HoldsRows p rows tx) (n : ℕ) (saw : q ≡ after p (saw_tail (view_of p) n)) (below : AreBelow n (shelf_of p)) (k : KnowsOn q r) (base : Question) (thread : base.thread ≡ p.own.id) (commit : base.commit ≡ Some (variables_of tx)) where
+  abbrev T : PassView
+  T = after p (saw_tail (view_of p) n)
+
+  is : r ≡ record (after p (saw_tail (view_of p) n)) { known = p.known ++ k.more; loaded = r.loaded }
+  is = k.is ∙ ap (λ (u : PassView). record u { known = u.known ++ k.more; loaded = r.loaded }) saw
+
+  pub may_number_seen : MayNumber r rows
+  may_number_seen = subst (λ (u : PassView). MayNumber u rows) (sym is) (record { list = None; tails = n ∷ []; held = held_tail p.own.held rows [] h.held n; owed = h.owed; few = h.few; runs = h.runs; each = h.draws.each })
+
+  draws_seen : Draws (attempt_in tx) (after p (saw_tail (view_of p) n)).own
+  draws_seen = record { looks = h.draws.looks; ends = h.draws.ends; each = h.draws.each }
+
+  pub draws_now : Draws (attempt_in tx) r.own
+  draws_now = subst (λ (u : PassView). Draws (attempt_in tx) u.own) (sym is) draws_seen
+
+  test_same : (id : ℕ) → id ≡ p.own.id → (l : List Stamp) (row : Row) (y : ℕ) → SomeFails l row (asked_on base tx.writes y) → SomeFails l row (asked_of id tx y)
+  test_same id e l row y f = same_test l row (asked_on base tx.writes y) (asked_of id tx y) (thread ∙ sym e) refl commit f
+
+  test_back : (id : ℕ) → id ≡ p.own.id → (l : List Stamp) (row : Row) (y : ℕ) → SomeFails l row (asked_of id tx y) → SomeFails l row (asked_on base tx.writes y)
+  test_back id e l row y f = same_test l row (asked_of id tx y) (asked_on base tx.writes y) (e ∙ sym thread) refl (sym commit) f
+
+  id_is : r.own.id ≡ p.own.id
+  id_is = ap (λ (u : PassView). u.own.id) is
+
+  seen_held : AreHeld r.own.held None rows (r.seen ∷ []) undrawn
+  seen_held = subst (λ (u : PassView). AreHeld u.own.held None rows (u.seen ∷ []) undrawn) (sym is) (held_tail p.own.held rows [] h.held n)
+
+  seen_below : AreBelow r.seen (shelf_of r)
+  seen_below = subst (λ (u : PassView). AreBelow u.seen (shelf_of u)) (sym is) below
+
+  pub races_on : (x : ℕ) → IsFirstRace r base tx.writes rows x → RacesOn r rows tx x
+  races_on x f = record {
+    of = h.of;
+    held = seen_held;
+    below = seen_below;
+    place = f.place;
+    row = f.row;
+    there = f.there;
+    var = f.var;
+    races = λ setting l fits stand. subst (λ y. SomeFails l f.row.row (asked_of r.own.id tx y)) (sym f.var) (test_same r.own.id id_is l f.row.row f.row.var (f.races setting l fits stand));
+    least = λ j u near at setting l fits stand fails. f.before j u near at setting l fits stand (test_back r.own.id id_is l u.row u.var fails);
+  }
+
+  pub is_ready : AreClear r base tx.writes rows → AreUnchangedIn tx.looks rows → AreVariables (map (λ l. l.var) tx.looks) → IsReady r rows tx
+  is_ready clear unchanged looks = record {
+    of = h.of;
+    held = seen_held;
+    below = seen_below;
+    owed = ap (λ (u : PassView). u.own.owed) is ∙ h.owed;
+    few = subst (λ (u : PassView). Rattle.gl_draws.specs.Ties.counted u.own.mine < Rattle.std.specs.Prelude.◌^◌ 2 50) (sym is) h.few;
+    runs = ap (λ (u : PassView). Rattle.gl_rule.specs.Lives.life_of u.own.mine) is ∙ h.runs;
+    draws = draws_now;
+    looks = looks;
+    writes = h.writes;
+    unchanged = unchanged;
+    clear = λ j u at setting l fits stand fails. clear j u at setting l fits stand (test_back r.own.id id_is l u.row u.var fails);
+  }
+
+  pub ends_seen : (e : TxEnd) (s : PassView) → EndsAs tx e r s → EndsAs tx e p s
+  ends_seen e s f = record {
+    ended = f.ended;
+    looks = f.looks;
+    writes = f.writes;
+    own = f.own ∙ ap (λ (u : PassView). record u.own { mine = u.own.mine ++ entry_of e f.ended ∷ []; drawn = []; held = [] }) is;
+    quiet = f.quiet ∙ ap (λ (u : PassView). u.quiet) is;
+    spare = f.spare ∙ ap (λ (u : PassView). u.spare - 1) is;
+  }
+
+  pub back_seen : (s : PassView) → IsPutBack r s → IsPutBack p s
+  back_seen s f = record { own = f.own ∙ ap (λ (u : PassView). record u.own { held = [] }) is; quiet = f.quiet ∙ ap (λ (u : PassView). u.quiet) is; spare = f.spare ∙ ap (λ (u : PassView). u.spare) is }
+
+  pub seen_table : r.own.table ≡ p.own.table
+  seen_table = ap (λ (u : PassView). u.own.table) is
+
+  pub seen_spare : r.spare ≡ p.spare
+  seen_spare = ap (λ (u : PassView). u.spare) is
+
+-- the rows may be judged once the tail was seen
+pub may_judge : (p q : PassView) (rows : List TakenRow) (tx : Tx) → HoldsRows p rows tx → (n : ℕ) → q ≡ after p (saw_tail (view_of p) n) → ((h : Held) (row : Row) → Contains p.own.held h → h.taken ≡ slot.Row row → IsWithin row n) → (base : Question) → base.thread ≡ q.own.id → base.thread < THREADS
+    → ((setting : Setting) (l : List Stamp) (now : State) → AreEvents l q.own.id q.own.mine → Allows setting l now → AreLeastOwned now q.own.id base.held) → MayJudge q rows base
+may_judge p q rows tx h n saw within base thread near owned = record {
+  list = None;
+  tails = n ∷ [];
+  drew = undrawn;
+  held = subst (λ (u : PassView). AreHeld u.own.held None rows (n ∷ []) undrawn) (sym saw) (held_tail p.own.held rows [] h.held n);
+  within = λ r c. subst (λ (u : PassView). IsWithin r.row u.seen) (sym saw) (within (row_held [] undrawn r) r.row (found_held (suc r.var) p.own.held (row_held [] undrawn r) (h.held.at (suc r.var) ∙ ap (held_by [] undrawn) (there r c))).0 refl);
+  thread = thread;
+  near = near;
+  runs = ap (λ (u : PassView). Rattle.gl_rule.specs.Lives.life_of u.own.mine) saw ∙ h.runs;
+  owned = owned;
+}
+  where
+    among : (xs : List TakenRow) (r : TakenRow) → Contains xs r → Contains (vars_of xs) r.var
+    among [] r c = absurd (let n = c.1 in omega arith)
+    among (x ∷ xs) r (zero, n, e) = (0, omega arith, ap (λ (z : TakenRow). z.var) e)
+    among (x ∷ xs) r (suc k, n, e) = let f = among xs r (k, omega arith, e) in (suc f.0, (let n = f.1 in omega arith), f.2)
+
+    there : (r : TakenRow) → Contains rows r → row_at rows r.var ≡ Some r
+    there r c =
+        let b = Rattle.gl_draws.proofs.EntryKinds.contains-is_in r.var (vars_of rows) (among rows r c) in
+        (row_of rows r.var b).1 ∙ ap (λ (u : TakenRow). Some u) (row_is rows h.held.are.1 r c b)
+
+pub drops_as : (tx : Tx) (e : TxEnd) (why : _) (p q : PassView) → ((t : Tx) → entry_of e t ≡ Rattle.gl_model.specs.Entries.Abort t why) → HasDropped tx why p q → EndsAs tx e p q
+drops_as tx e why p q entry d = record {
+  ended = d.ended;
+  looks = d.looks;
+  writes = d.writes;
+  own = ap (λ (u : PassView). u.own) d.is ∙ ap (λ f. record p.own { mine = p.own.mine ++ f ∷ []; drawn = []; held = [] }) (sym (entry d.ended));
+  quiet = ap (λ (u : PassView). u.quiet) d.is;
+  spare = ap (λ (u : PassView). u.spare) d.is;
+}
+
+-- the rows that were taken are held
+pub holds_rows : (z : TableView) (p q : PassView) (ys : List ℕ) (rows : List TakenRow) (tx : Tx) → MayTry z p (attempt_in tx) → ys ≡ variables_of tx → HaveTaken p q ys rows → HaveWrites tx.writes rows → HoldsRows q rows tx
+holds_rows z p q ys rows tx may vars t writes = record {
+  of = t.of ∙ vars;
+  held = t.held;
+  owed = ap (λ (u : PassView). u.own.owed) t.is ∙ may.owed;
+  few = subst (λ (u : PassView). Rattle.gl_draws.specs.Ties.counted u.own.mine < Rattle.std.specs.Prelude.◌^◌ 2 50) (sym t.is) may.few;
+  runs = ap (λ (u : PassView). Rattle.gl_rule.specs.Lives.life_of u.own.mine) t.is ∙ may.runs;
+  draws = subst (λ (u : PassView). Draws (attempt_in tx) u.own) (sym t.is) (record { looks = may.draws.looks; ends = may.draws.ends; each = may.draws.each });
+  writes = writes;
+}
+
+-- what is asked of a pass that goes on with an attempt does not speak of its writes
+pub may_try_writes : (z : TableView) (p : PassView) (a b : Rattle.gl_txn.specs.Attempts.Attempting) → b.looks ≡ a.looks → MayTry z p a → MayTry z p b
+may_try_writes z p a b e m = record {
+  table = m.table;
+  held = m.held;
+  owed = m.owed;
+  few = m.few;
+  runs = m.runs;
+  draws = record {
+    looks = λ y k value. subst (λ (ls : List Rattle.gl_model.specs.declared.tx.Look.Look). Rattle.std.specs.Prelude.◌↔◌ (Contains p.own.drawn (record { var = y; nth = k; look = Some value })) (Contains ls (record { var = y; value = value; nth = k }))) (sym e) (m.draws.looks y k value);
+    ends = m.draws.ends;
+    each = m.draws.each;
+  };
+}

@@ -1,0 +1,13 @@
+pub mod Attempts
+pub mod Trying
+pub mod Reading
+pub mod Looked
+pub mod TxnInside
+pub mod Ending
+pub mod Changing
+pub mod Drawing
+pub mod Racing
+pub mod Noting
+pub mod Publishing
+pub mod Stages
+pub mod Holding

@@ -1,0 +1,81 @@
+// The rows after a commit.
+ghost use Rattle.std.specs.Prelude.{◌≡◌, ◌<◌, ◌+◌, ◌≤◌, [], vec_len, vec_capacity};
+ghost use Rattle.gl_model.specs.declared.limits.TheConstants.{THREADS};
+ghost use Rattle.gl_txn.specs.Noting.{IsNotedRow, AreCommitted};
+
+use crate::taken::TakenRow;
+use gl_judge::note;
+use gl_model::{Question, Row};
+use gl_state::KeptRow;
+use gl_table::{Pass, Shared};
+
+// The row with its access by a commit, behind the event before this position.
+fn noted(old: &Row, base: &Question, write: Option<i64>, at: u64) -> Row
+    requires { base.now.thread < THREADS }
+    ensures { IsNotedRow base.now at write old.now result }
+{
+    let q = Question {
+        thread: base.thread,
+        write: write.is_some(),
+        commit: base.commit,
+        held: base.held,
+    };
+    let mut row = *old;
+    note(&mut row, &q, at);
+    match write {
+        None => row,
+        Some(value) => Row {
+            value,
+            last_write: row.last_write,
+            reads: row.reads,
+        },
+    }
+}
+
+fn store(kept: &mut KeptRow, base: &Question, write: Option<i64>, at: u64)
+    requires { base.now.thread < THREADS }
+    ensures { IsNotedRow base.now at write kept.old kept.new }
+{
+    let row = noted(kept.row(), base, write, at);
+    kept.set(&row);
+}
+
+// Puts the last row back as it is after the commit.
+fn put_noted(
+    shared: &Shared,
+    pass: &mut Pass,
+    rows: &mut Vec<TakenRow>,
+    base: &Question,
+    at: u64,
+)
+    requires table { pass.old.own.table ≡ shared.now.id }
+    requires held { AreCommitted pass.old rows.old.items base.now at }
+    requires some { 0 < vec_len rows.old }
+    ensures pass { pass.new ≡ record pass.old { own = record pass.old.own { held = pass.new.own.held } } }
+    ensures held { AreCommitted pass.new rows.new.items base.now at }
+    ensures len { vec_len rows.new + 1 ≡ vec_len rows.old }
+{
+    let Some(taken) = rows.pop() else {
+        unreachable!()
+    };
+    let TakenRow { var, write, mut row } = taken;
+    store(&mut row, base, write, at);
+    shared.put_row(pass, var, row);
+}
+
+// Puts all of them back.
+pub(crate) fn put_all_noted(
+    shared: &Shared,
+    pass: &mut Pass,
+    rows: &mut Vec<TakenRow>,
+    base: &Question,
+    at: u64,
+)
+    requires table { pass.old.own.table ≡ shared.now.id }
+    requires held { AreCommitted pass.old rows.old.items base.now at }
+    ensures { pass.new ≡ record pass.old { own = record pass.old.own { held = [] } } }
+{
+    for _ in 0..rows.len() {
+        put_noted(shared, pass, rows, base, at);
+    }
+}
