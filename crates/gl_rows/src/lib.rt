@@ -5,6 +5,8 @@
 mod checking;
 mod storing;
 mod walking;
+mod window;
 
 pub use checking::check;
 pub use storing::write_back;
+pub use window::Window;

@@ -1,15 +1,14 @@
 // The events that a row's Infos are walked over.
-ghost use Rattle.std.specs.Prelude.{◌≡◌, ◌⊎◌, ◌<◌, ◌≤◌, ℕ, List, [], ◌∷◌, ◌++◌, ◌+◌, All, Some, vec_len, vec_capacity};
+ghost use Rattle.std.specs.Prelude.{◌≡◌, ◌⊎◌, ◌<◌, ◌≤◌, ℕ, List, [], ◌∷◌, ◌++◌, ◌+◌, All, Some, length, vec_len, vec_capacity};
 ghost use Rattle.gl_model.specs.declared.event.Stamp.{Stamp as AStamp};
 ghost use Rattle.gl_model.specs.declared.row.Info.{Info as AnInfo};
 ghost use Rattle.gl_model.specs.Elements.{IsStampInRange};
 ghost use Rattle.gl_draws.specs.RowFacts.{read_of};
-ghost use Rattle.gl_rule.specs.Agreeing.{IsWindow};
 ghost use Rattle.gl_rule.specs.Fitting.{MayWalk};
 ghost use Rattle.gl_rule.specs.Objects.{capacity};
 ghost use Rattle.gl_rule.specs.Values.{InRow};
 ghost use Rattle.gl_table.specs.PassView.{view_of};
-ghost use Rattle.gl_rows.specs.Walks.{KnowsMore};
+ghost use Rattle.gl_rows.specs.Walks.{KnowsFrom};
 
 use gl_model::{Event, Info, Row, Stamp};
 use gl_table::{Pass, Shared};
@@ -59,7 +58,7 @@ fn keep(shared: &Shared, pass: &mut Pass, pos: u64, window: &mut Vec<Stamp>)
     requires table { pass.old.own.table ≡ shared.now.id }
     requires may { (pos < pass.old.seen) × MayWalk (view_of pass.old) pos }
     requires room { pass.old.seen ≤ pos + capacity shared.now.key → vec_len window.old < vec_capacity window.old }
-    ensures pass { KnowsMore pass.old pass.new }
+    ensures pass { pass.new ≡ record pass.old { known = pass.new.known; loaded = pass.new.loaded } }
     ensures known { (event : AStamp) × (pass.new.known ≡ pass.old.known ++ (pos, event) ∷ []) × (window.new.items ≡ window.old.items ++ event ∷ []) × IsStampInRange event }
     ensures ring { pass.old.seen ≤ pos + capacity shared.now.key }
     ensures room { vec_capacity window.new ≡ vec_capacity window.old }
@@ -74,8 +73,8 @@ pub(crate) fn load(shared: &Shared, pass: &mut Pass, from: u64, window: &mut Vec
     requires from { from ≤ pass.old.seen }
     requires named { (pos : ℕ) → from ≤ pos → pos < pass.old.seen → MayWalk (view_of pass.old) pos }
     requires room { capacity shared.now.key ≤ vec_capacity window.old }
-    ensures pass { KnowsMore pass.old pass.new }
-    ensures window { IsWindow pass.new.seen pass.new.known from window.new.items }
+    ensures pass { KnowsFrom from window.new.items pass.old pass.new }
+    ensures ends { from + length window.new.items ≡ pass.old.seen }
     ensures stamps { All IsStampInRange window.new.items }
     ensures room { vec_capacity window.new ≡ vec_capacity window.old }
 {

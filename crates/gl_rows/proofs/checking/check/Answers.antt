@@ -1,16 +1,15 @@
-use Rattle.std.proofs.Common.{sym, ap, subst, ◌∙◌}
-use Rattle.gl_draws.specs.RowFacts.{IsWithin}
-use Rattle.gl_judge.specs.Asked.{IsRowFrom}
-use Rattle.gl_table.specs.PassView.{PassView, shelf_of}
-use Rattle.gl_rule.proofs.Agreeing.{events_agree}
-use Rattle.gl_rows.proofs.Windows.{row_from}
+use Rattle.std.proofs.Common.{◌≡◌}
+use Rattle.gl_judge.specs.declared.judging.Verdict.{Verdict}
+use Rattle.gl_judge.specs.declared.judging.Verdict.TheVariants.{Race, Ordered}
+use Rattle.gl_rows.proofs.Windows.{not_walked}
 use Rattle.gl_rows.proofs.checking.check.Goals as goal
 
-pub judge-requires-clause-within : goal.judge-requires-clause-within
-judge-requires-clause-within g c =
-    subst (λ w. IsRowFrom c.least-from.result w c.args.row.now) (sym c.as_slice.ensures.value)
-    (row_from c.least-from.result c.load.new.pass.seen c.load.new.window.items c.args.row.now c.load.ensures.window.ends c.least-from.ensures.below (subst (IsWithin c.args.row.now) (sym (ap (λ (p : PassView). p.seen) c.load.ensures.pass)) c.requires.within))
+pub returns-then-early-clause-pass : goal.returns-then-early-clause-pass
+returns-then-early-clause-pass g c = not_walked c.args.row.now c.args.pass.now
 
-pub returns-clause-race : goal.returns-clause-race
-returns-clause-race g c = λ setting l fits next stand.
-    c.judge.ensures.fails setting l (events_agree setting (shelf_of c.load.new.pass) c.load.new.pass.seen c.load.new.pass.known c.least-from.result c.load.new.window.items c.load.ensures.window l fits ∙ sym c.as_slice.ensures.value, next) stand
+-- a yes of the early cuts is right
+pub returns-then-early-clause-race : goal.returns-then-early-clause-race
+returns-then-early-clause-race g c = λ setting l fits next stand. (
+  λ e. absurd (let apart : ◌≡◌ {A = Verdict} Ordered Race = e in cc),
+  λ s. absurd (c.early.ensures.right c.if-early.true setting l next stand s),
+)

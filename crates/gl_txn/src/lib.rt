@@ -1,0 +1,11 @@
+//! Attempts: transactions over the shared table. An attempt looks at words and keeps its writes to itself. Its end is one of three: it is
+//! committed, or dropped because a word that it looked at was changed, or dropped because its commit would complete a race.
+#![tactic(auto)]
+
+mod attempt;
+mod ending;
+mod stops;
+mod taken;
+
+pub use attempt::Txn;
+pub use stops::{TxEnd, TxStop, TxWait};
