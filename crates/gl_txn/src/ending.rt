@@ -2,7 +2,7 @@
 ghost use Rattle.std.specs.Prelude.{◌≡◌, ◌<◌, ◌≤◌, ◌+◌, IfOk, IfErr, OnOk, OnErr};
 ghost use Rattle.gl_rule.specs.Objects.{capacity};
 ghost use Rattle.gl_txn.specs.Trying.{MayTry};
-ghost use Rattle.gl_txn.specs.Ending.{HasEnded, IsCause, IsWaitCause};
+ghost use Rattle.gl_txn.specs.Ending.{HasEnded};
 
 use crate::attempt::Txn;
 use crate::stops::{TxEnd, TxWait};
@@ -26,9 +26,7 @@ impl Txn {
         requires spare { 0 < pass.old.spare }
         requires window { capacity shared.now.key ≤ window.old }
         ensures done { IfOk result (λ e. HasEnded self keep e pass.old.own pass.new.own) }
-        ensures cause { IfOk result (λ e. IsCause shared.now self keep e pass.old pass.new) }
         ensures stop { IfErr result (λ w. w.0 ≡ self) }
-        ensures wait { IfErr result (λ w. IsWaitCause shared.now self keep w.1 pass.old pass.new) }
         ensures kept { OnErr result (pass.new.own ≡ pass.old.own) }
         ensures quiet { pass.new.quiet ≡ pass.old.quiet }
         ensures spent { OnOk result (pass.old.spare ≡ pass.new.spare + 1) }

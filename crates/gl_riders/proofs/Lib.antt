@@ -1,0 +1,10 @@
+pub mod Lists
+pub mod Sparings
+pub mod Words
+pub mod Owings
+pub mod Growing
+pub mod Starting
+pub mod Telling
+pub mod Asking
+pub mod Attempting
+pub mod Trying
