@@ -1,9 +1,10 @@
 pub mod Lists
 pub mod Sparings
-pub mod Words
+pub mod OwedLists
 pub mod Owings
 pub mod Growing
 pub mod Starting
+pub mod Few
 pub mod Telling
 pub mod Asking
 pub mod Attempting

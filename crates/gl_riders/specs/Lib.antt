@@ -1,4 +1,3 @@
-pub mod Levels
 pub mod Sparing
 pub mod Events
 pub mod Riding

@@ -1,11 +1,13 @@
 // Private words: plain accesses that need no table move, and what is owed for them.
-ghost use Rattle.std.specs.Prelude.{◌≡◌, ◌<◌, ◌≤◌, ℕ, true, [], Some, None, IfOk, OnErr};
+ghost use Rattle.std.specs.Prelude.{◌≡◌, ◌<◌, ◌≤◌, true, false, [], Some, None, IfOk, OnErr};
 ghost use Rattle.gl_model.specs.declared.limits.TheConstants.{VARIABLES};
 ghost use Rattle.gl_access.specs.Accessing.{HasEntry};
 ghost use Rattle.gl_rule.specs.Lives.{Running, life_of};
 ghost use Rattle.gl_rule.specs.Objects.{capacity};
 ghost use Rattle.gl_table.specs.RightOf.{right_of};
-ghost use Rattle.gl_riders.specs.Owing.{MayMark, Owns, PlainBy, repeat_number};
+ghost use Rattle.gl_riders.specs.Owing.{MayMark, Owns, PlainBy, repeat_number, repeated};
+ghost use Rattle.gl_rule.specs.Adding.{MayCache};
+ghost use Rattle.gl_table.specs.PassView.{shelf_of, view_of};
 
 use gl_access::{Seen, access};
 use gl_cache::WordCache;
@@ -47,8 +49,58 @@ fn number_of(right: Option<(u64, bool)>, write: Option<i64>) -> Option<u64>
     }
 }
 
+// Adds the entry of a repeat.
+fn add_repeat(pass: &mut Pass, var: u16, nth: u64, write: bool, value: i64)
+    requires may { MayCache (shelf_of pass.old) (view_of pass.old) var nth write value }
+    requires spare { 0 < pass.old.spare }
+    ensures { pass.new.own ≡ repeated var nth write value pass.old.own }
+{
+    pass.cached(var, nth, write, value);
+}
+
+// Reads a variable again.
+fn read_again(pass: &mut Pass, words: &WordCache, var: u16, nth: u64) -> i64
+    requires right { repeat_number (right_of pass.old.own.mine var) None ≡ Some nth }
+    requires held { pass.old.own.held ≡ [] }
+    requires runs { life_of pass.old.own.mine ≡ Running }
+    requires spare { 0 < pass.old.spare }
+    requires there { var < VARIABLES }
+    requires owns { Owns words.now pass.old.own }
+    ensures done { pass.new.own ≡ repeated var nth false result pass.old.own }
+    ensures owns { Owns words.now pass.new.own }
+{
+    match words.find(var) {
+        Some(value) => {
+            add_repeat(pass, var, nth, false, value);
+            value
+        }
+        None => unreachable!(),
+    }
+}
+
+// Writes a variable again.
+fn write_again(pass: &mut Pass, words: &mut WordCache, var: u16, nth: u64, value: i64)
+    requires right { repeat_number (right_of pass.old.own.mine var) (Some value) ≡ Some nth }
+    requires held { pass.old.own.held ≡ [] }
+    requires runs { life_of pass.old.own.mine ≡ Running }
+    requires spare { 0 < pass.old.spare }
+    requires there { var < VARIABLES }
+    requires owns { Owns words.old pass.old.own }
+    ensures done { pass.new.own ≡ repeated var nth true value pass.old.own }
+    ensures owns { Owns words.new pass.new.own }
+{
+    add_repeat(pass, var, nth, true, value);
+    words.put(var, value, true);
+}
+
 // Repeats an access without a table move.
-fn repeat(pass: &mut Pass, words: &mut WordCache, var: u16, nth: u64, write: Option<i64>) -> Seen
+fn repeat(
+    pass: &mut Pass,
+    words: &mut WordCache,
+    var: u16,
+    nth: u64,
+    write: Option<i64>,
+) -> Seen
     requires right { repeat_number (right_of pass.old.own.mine var) write ≡ Some nth }
     requires held { pass.old.own.held ≡ [] }
     requires runs { life_of pass.old.own.mine ≡ Running }
@@ -59,16 +111,9 @@ fn repeat(pass: &mut Pass, words: &mut WordCache, var: u16, nth: u64, write: Opt
     ensures owns { Owns words.new pass.new.own }
 {
     match write {
-        None => match words.find(var) {
-            Some(value) => {
-                pass.cached(var, nth, false, value);
-                Seen::Value(value)
-            }
-            None => unreachable!(),
-        },
+        None => Seen::Value(read_again(pass, words, var, nth)),
         Some(value) => {
-            pass.cached(var, nth, true, value);
-            words.put(var, value, true);
+            write_again(pass, words, var, nth, value);
             Seen::Value(value)
         }
     }

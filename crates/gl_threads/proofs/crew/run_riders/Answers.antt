@@ -1,0 +1,7 @@
+use Rattle.std.proofs.Common.{◌∙◌, sym}
+use Rattle.gl_threads.proofs.Finishing.{all_finished}
+use Rattle.gl_threads.proofs.crew.run_riders.Goals as goal
+
+pub returns-then-are_home-clause-done : goal.returns-then-are_home-clause-done
+returns-then-are_home-clause-done g c is =
+    all_finished c.args.program.now c.args.limit c.args.shared.now.id c.loop-turn.riders.items (sym c.are_home.ensures ∙ c.if-are_home.true) c.loop-turn.invariant.0
