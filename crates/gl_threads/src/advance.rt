@@ -9,9 +9,9 @@ ghost use Rattle.gl_riders.specs.Riding.{IsSetFor, Rides};
 ghost use Rattle.gl_riders.specs.Tries.{IfAgain, IfAnswered, IfFull};
 
 use crate::gate::{Gate, kind_of};
+use gl_access::sweep;
 use gl_bytecode::Program;
 use gl_cache::WordCache;
-use gl_access::sweep;
 use gl_riders::{Tried, try_one};
 use gl_rows::Window;
 use gl_shortcut::Cuts;

@@ -88,9 +88,7 @@ fn run_riders<G: Gate, R: Wait>(
         if are_home(riders) {
             return true;
         }
-        match round(
-            alloc, riders, shared, program, limit, cuts, window, gate,
-        ) {
+        match round(alloc, riders, shared, program, limit, cuts, window, gate) {
             Pace::Moved => idle = 0,
             Pace::Idle => {
                 rest(rt, idle);

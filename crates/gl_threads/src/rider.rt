@@ -157,7 +157,14 @@ pub(crate) fn round<G: Gate>(
     let mut moved = false;
     for i in 0..riders.len() {
         match ride(
-            alloc, &mut riders[i], shared, program, limit, cuts, window, gate,
+            alloc,
+            &mut riders[i],
+            shared,
+            program,
+            limit,
+            cuts,
+            window,
+            gate,
         ) {
             Pace::Moved => moved = true,
             Pace::Idle => {}
