@@ -1,7 +1,7 @@
 -- Loads of holds, one after another, and raising the first segment behind them.
-use Rattle.std.proofs.Common.{◌≡◌, ℕ, suc, ◌+◌, ◌*◌, ◌/◌, ◌<◌, ◌≤◌, List, [], ◌∷◌, ◌++◌, refl, sym, ap, subst, arith, ◌∙◌, inl, inr, true, false, Bool, append_assoc, append-nil}
+use Rattle.std.proofs.Common.{◌≡◌, ℕ, suc, ◌+◌, ◌-◌, ◌*◌, ◌/◌, ◌<◌, ◌≤◌, List, [], ◌∷◌, ◌++◌, refl, sym, ap, subst, arith, ◌∙◌, inl, inr, true, false, Bool, append_assoc, append-nil}
 use Rattle.std.specs.Prelude.{◌⊎◌, Contains, nat_lt, if◌then◌else◌, max}
-use Rattle.std.proofs.lemmas.List.Elements.{Contains-append_left, Contains-append_right, Contains-push}
+use Rattle.std.proofs.lemmas.List.Elements.{Contains-append_left, Contains-append_right, Contains-push, Contains-push_cases}
 use Rattle.std.proofs.Math.Nat.{div-mul-le_self}
 use native.Mathlib.Decide.{ℕ_discrete}
 use Rattle.gl_model.specs.declared.limits.TheConstants.{VARIABLES}
@@ -17,8 +17,8 @@ use Rattle.gl_events.specs.Settling.{IsOpen, AreLoaded, IsSettled, trims}
 use Rattle.gl_events.proofs.Lives.{none_ended}
 
 -- one hold more
-pub loaded_more : (k : ℕ) (p q q' : PassView) (least n least' : ℕ) → AreLoaded k p q least → k < VARIABLES → q' ≡ after q (saw (view_of q) (Hold (k + 1) n)) → least' ≤ least → least' ≤ n → ((0 < k) × (least' ≡ least)) ⊎ (least' ≡ n) → AreLoaded (k + 1) p q' least'
-loaded_more k p q q' least n least' l near is a b one = record {
+pub loaded_more : (k : ℕ) (p q q' : PassView) (least n least' : ℕ) → AreLoaded k p q least → k < VARIABLES → q' ≡ after q (saw (view_of q) (Hold (k + 1) n)) → least' ≤ least → least' ≤ n → ((0 < k) × (least' ≡ least)) ⊎ (least' ≡ n) → ((m : ℕ) → Contains q.reads (Hold (k + 1) m) → m ≤ n) → AreLoaded (k + 1) p q' least'
+loaded_more k p q q' least n least' l near is a b one up = record {
   further = l.further ++ Hold (k + 1) n ∷ [];
   is = is ∙ ap (λ (z : PassView). after z (saw (view_of z) (Hold (k + 1) n))) l.is ∙ ap (λ (rs : List Read). record p { reads = rs }) (append_assoc p.reads l.further (Hold (k + 1) n ∷ []));
   each = λ x small. elim (ℕ_discrete x k) [
@@ -26,8 +26,19 @@ loaded_more k p q q' least n least' l near is a b one = record {
     | no ne ↦ let r = l.each x (omega arith) in (r.0, Contains-append_left l.further (Hold (k + 1) n ∷ []) (Hold (suc x) r.0) r.1, (let m = r.2 in omega arith))
   ];
   one = λ _. by one;
+  risen = λ x v m new old. elim (Contains-push_cases l.further (Hold (k + 1) n) (Hold (suc x) v) new) [
+    | inl before ↦ l.risen x v m before old
+    | inr e ↦ same_hold x v m e old
+  ];
 }
   where
+    same_hold : (x v m : ℕ) → Hold (k + 1) n ≡ Hold (suc x) v → Contains p.reads (Hold (suc x) m) → m ≤ v
+    same_hold x v m e old =
+        let at : suc x ≡ k + 1 = cc in
+        let same : n ≡ v = cc in
+        let le = up m (subst (λ (z : PassView). Contains z.reads (Hold (k + 1) m)) (sym l.is) (Contains-append_left p.reads l.further (Hold (k + 1) m) (subst (λ y. Contains p.reads (Hold y m)) at old))) in
+        omega arith
+
     by : ((0 < k) × (least' ≡ least)) ⊎ (least' ≡ n) → (x : ℕ) × (x < VARIABLES) × Contains (l.further ++ Hold (k + 1) n ∷ []) (Hold (suc x) least')
     by (inl e) = let o = l.one e.0 in (o.0, o.1, subst (λ m. Contains (l.further ++ Hold (k + 1) n ∷ []) (Hold (suc o.0) m)) (sym e.1) (Contains-append_left l.further (Hold (k + 1) n ∷ []) (Hold (suc o.0) least) o.2))
     by (inr e) = (k, near, subst (λ m. Contains (l.further ++ Hold (k + 1) n ∷ []) (Hold (suc k) m)) (sym e) (subst (λ y. Contains (l.further ++ Hold (k + 1) n ∷ []) (Hold y n)) (let z : k + 1 ≡ suc k = omega arith in z) (Contains-push l.further (Hold (k + 1) n))))
@@ -39,6 +50,7 @@ loaded_none p least = record {
   is = ap (λ (rs : List Read). record p { reads = rs }) (sym (append-nil p.reads));
   each = λ x small. absurd (omega arith);
   one = λ some. absurd (omega arith);
+  risen = λ x n m new old. absurd (let k = new.1 in omega arith);
 }
 
 pub may_trim : (key : Key) (p q : PassView) (least to : ℕ) → AreLoaded VARIABLES p q least → to * key.cells ≤ least → IsOpen p.own.mine → MayTrim key (shelf_of q) (view_of q) to
@@ -59,6 +71,11 @@ own_lowered p n to = by (nat_lt n to)
     by true = refl
     by false = ap (λ (m : List Entry). record p.own { mine = m }) (sym (append-nil p.own.mine))
 
+-- a Trim takes the room of one entry
+one_less : (b : Bool) (s : ℕ) → s - 1 ≤ (if b then s - 1 else s)
+one_less true s = omega arith
+one_less false s = omega arith
+
 pub settled : (z : TableView) (p q r : PassView) (least n low : ℕ) → AreLoaded VARIABLES p q least → low ≡ max n (least / z.key.cells) → r ≡ lowered_pass q n (least / z.key.cells) → IsSettled z p r low
 settled z p q r least n low l is to = record {
   loaded = q;
@@ -71,6 +88,7 @@ settled z p q r least n low l is to = record {
   seen = ap (λ (x : PassView). x.seen) to ∙ ap (λ (x : PassView). x.seen) l.is;
   known = ap (λ (x : PassView). x.known) to ∙ ap (λ (x : PassView). x.known) l.is;
   quiet = ap (λ (x : PassView). x.quiet) to ∙ ap (λ (x : PassView). x.quiet) l.is;
+  spare = subst (λ m. p.spare - 1 ≤ m) (sym (ap (λ (x : PassView). x.spare) to)) (subst (λ (x : PassView). x.spare - 1 ≤ (if nat_lt n (least / z.key.cells) then q.spare - 1 else q.spare)) l.is (one_less (nat_lt n (least / z.key.cells)) q.spare));
 }
 
 -- which of the two is the lesser, where the one before the first hold is the greatest word

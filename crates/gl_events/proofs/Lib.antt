@@ -4,3 +4,4 @@ pub mod Acts
 pub mod Answering
 pub mod Publishing
 pub mod HoldsLoaded
+pub mod ExitCodes

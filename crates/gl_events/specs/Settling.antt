@@ -1,5 +1,5 @@
 -- What is asked of a pass that raises the first segment of the ring, and what it learns.
-use Rattle.std.specs.Prelude.{◌≡◌, ◌⊎◌, ℕ, suc, ◌<◌, ◌≤◌, ◌/◌, List, [], ◌∷◌, ◌++◌, Contains, nat_lt, if◌then◌else◌, max}
+use Rattle.std.specs.Prelude.{◌≡◌, ◌⊎◌, ℕ, suc, ◌<◌, ◌≤◌, ◌-◌, ◌/◌, List, [], ◌∷◌, ◌++◌, Contains, nat_lt, if◌then◌else◌, max}
 use Rattle.gl_model.specs.declared.limits.TheConstants.{VARIABLES}
 use Rattle.gl_model.specs.Entries.{Entry, Trim}
 use Rattle.gl_rule.specs.Lives.{Unbegun, Running, life_of}
@@ -24,6 +24,8 @@ pub record AreLoaded (k : ℕ) (p q : PassView) (least : ℕ) : Type 0 where
   pub is : q ≡ record p { reads = p.reads ++ further }
   pub each : (x : ℕ) → x < k → (n : ℕ) × Contains further (Hold (suc x) n) × (least ≤ n)
   pub one : 0 < k → (x : ℕ) × (x < VARIABLES) × Contains further (Hold (suc x) least)
+  -- each is no less than the pass had loaded it before
+  pub risen : (x n m : ℕ) → Contains further (Hold (suc x) n) → Contains p.reads (Hold (suc x) m) → m ≤ n
 
 -- a Trim where the first segment rose
 abbrev pub trims : ℕ → ℕ → List Entry
@@ -41,3 +43,4 @@ pub record IsSettled (z : TableView) (p q : PassView) (low : ℕ) : Type 0 where
   pub seen : q.seen ≡ p.seen
   pub known : q.known ≡ p.known
   pub quiet : q.quiet ≡ p.quiet
+  pub spare : p.spare - 1 ≤ q.spare

@@ -1,8 +1,9 @@
 // The calls.
-ghost use Rattle.std.specs.Prelude.{◌≡◌, ◌<◌, ◌||◌, ◌==◌, if◌then◌else◌, IfOk, IfErr, OnErr, pos, length, Contains};
+ghost use Rattle.std.specs.Prelude.{◌≡◌, ◌<◌, ◌||◌, ◌==◌, if◌then◌else◌, IfOk, IfErr, OnErr, pos, length, slice_index_or, Contains};
 ghost use Rattle.gl_model.specs.declared.event.Act.TheVariants.{Begin, End, Acq, Rel, VRead, VWrite, Fork, Join, Alloc, Print, Input, Fail};
 ghost use Rattle.gl_model.specs.declared.limits.TheConstants.{THREADS, FUNCTIONS, CLASSES, MONITORS, VOLATILES};
 ghost use Rattle.gl_model.specs.Entries.{Sync};
+ghost use Rattle.gl_rule.specs.Levels.{levels_of};
 ghost use Rattle.gl_table.specs.Doing.{told};
 ghost use Rattle.gl_events.specs.Acting.{MayStart};
 ghost use Rattle.gl_events.specs.Answers.{MayCall, IsDone, IsStop, says_quiet};
@@ -55,13 +56,14 @@ pub fn enter(shared: &Shared, pass: &mut Pass, monitor: u16) -> Result<Done, Sto
     event(shared, pass, &Call::Enter(monitor))
 }
 
-/// The thread leaves the monitor once; the code 5 comes exactly where it is not in it.
+/// The thread leaves the monitor once; the code 5 comes exactly where it is not in it, as its own list says.
 pub fn exit(shared: &Shared, pass: &mut Pass, monitor: u16) -> Result<Done, Stop>
     requires may { MayCall (call.Exit monitor) shared.now pass.old }
     requires there { monitor < MONITORS }
     ensures own { IfOk result (λ d. pass.new.own ≡ told (Sync d.at (if d.code == 0 then Rel monitor else Fail not_owner) (if d.code == 0 then pos 0 else pos monitor)) pass.old.own) }
     ensures done { IfOk result (λ d. IsDone shared.now pass.old pass.new (if d.code == 0 then Rel monitor else Fail not_owner) (if d.code == 0 then pos 0 else pos monitor) d) }
     ensures code { IfOk result (λ d. HasCode (call.Exit monitor) d) }
+    ensures owner { IfOk result (λ d. d.code ≡ (if slice_index_or (levels_of pass.old.own.mine) monitor 0 == 0 then not_owner else 0)) }
     ensures kept { OnErr result (pass.new.own ≡ pass.old.own) }
     ensures stop { IfErr result (λ s. IsStop (call.Exit monitor) shared.now pass.old pass.new s) }
     ensures quiet { OnErr result (pass.new.quiet ≡ pass.old.quiet) }

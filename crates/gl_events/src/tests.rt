@@ -1,4 +1,4 @@
-ghost use Rattle.std.specs.Prelude.{◌≡◌};
+ghost use Rattle.std.specs.Prelude.{◌≡◌, []};
 ghost use Rattle.gl_segments.specs.Rings.{IsRing};
 
 use crate::{Stop, begin, end, exit, input};
@@ -11,12 +11,13 @@ use std::test::Fail;
 fn layout(alloc: Global) -> Layout
     ensures ring { IsRing result.ring }
     ensures main { result.main ≡ 0 }
+    ensures starts { result.starts.items ≡ [] }
 {
     Layout {
         classes: Classes::empty(alloc),
         inputs: Inputs::empty(alloc),
         main: 0,
-        starts: 0,
+        starts: Vec::new(alloc),
         ring: Ring::standard(),
     }
 }

@@ -1,1 +1,6 @@
 pub mod Windows
+pub mod Noting
+pub mod Accessed
+pub mod Moved
+pub mod Lifting
+pub mod Swept

@@ -15,7 +15,7 @@ use Rattle.gl_rule.specs.Values.{InRow}
 use Rattle.gl_rule.specs.View.{Shelf}
 use Rattle.gl_rule.proofs.HeldLists.{in_cons}
 use Rattle.gl_table.specs.PassView.{PassView}
-use Rattle.gl_rows.specs.Walks.{placed_from, KnowsFrom, HasWalked}
+use Rattle.gl_rows.specs.Walks.{placed_from, KnowsFrom, HasWalkedTo, HasWalked}
 
 -- all of them stand in it, where none is below its first position and none above its end
 pub row_from : (from seen : ℕ) (window : List Stamp) (row : Row) → from + length window ≡ seen → ((i : Info) → InRow row i → from ≤ i.pos) → IsWithin row seen → IsRowFrom from window row
@@ -53,11 +53,15 @@ knows_next n m xs x p q r at is more known =
     ∙ ap (λ (l : List (ℕ × Stamp)). p.known ++ l) (ap (λ j. placed_from n xs ++ (j, x) ∷ []) (sym at) ∙ sym (placed_push n xs x)) in
     more ∙ ap (λ (z : PassView). record z { known = r.known; loaded = r.loaded }) is ∙ ap (λ (l : List (ℕ × Stamp)). record p { known = l; loaded = r.loaded }) k
 
+-- the pass knows each of the events that it loaded
+pub known_from : (n : ℕ) (xs : List Stamp) (p q : PassView) → KnowsFrom n xs p q → (k : ℕ) (x : Stamp) → slice_get xs k ≡ Some x → Contains q.known (n + k, x)
+known_from n xs p q is k x at = subst (λ (l : List (ℕ × Stamp)). Contains l (n + k, x)) (sym (ap (λ (z : PassView). z.known) is)) (Contains-append_right p.known (placed_from n xs) (n + k, x) (placed_at n xs k x at))
+
 -- the events that were loaded are a window
 pub window_of : (n : ℕ) (xs : List Stamp) (p q : PassView) → KnowsFrom n xs p q → n + length xs ≡ p.seen → IsWindow q.seen q.known n xs
 window_of n xs p q is ends = record {
   ends = ends ∙ sym (ap (λ (z : PassView). z.seen) is);
-  is_known = λ k x at. subst (λ (l : List (ℕ × Stamp)). Contains l (n + k, x)) (sym (ap (λ (z : PassView). z.known) is)) (Contains-append_right p.known (placed_from n xs) (n + k, x) (placed_at n xs k x at));
+  is_known = known_from n xs p q is;
 }
 
 empty_of : (xs : List Stamp) → length xs ≡ 0 → xs ≡ []
@@ -65,8 +69,8 @@ empty_of [] e = refl
 empty_of (x ∷ xs) e = absurd (omega arith)
 
 -- a walk over a row from the least position of its Infos
-pub has_walked : (row : Row) (n : ℕ) (xs : List Stamp) (p q : PassView) → KnowsFrom n xs p q → n + length xs ≡ p.seen → (n ≡ p.seen) ⊎ ((i : Info) × InRow row i × (i.pos ≡ n)) → HasWalked row p q
-has_walked row n xs p q is ends named = record {
+pub has_walked : (row : Row) (n to : ℕ) (xs : List Stamp) (p q : PassView) → KnowsFrom n xs p q → n + length xs ≡ to → (n ≡ to) ⊎ ((i : Info) × InRow row i × (i.pos ≡ n)) → HasWalkedTo row to p q
+has_walked row n to xs p q is ends named = record {
   from = n;
   events = xs;
   is = is;

@@ -21,14 +21,18 @@ placed_from n (x ∷ xs) = (n, x) ∷ placed_from (suc n) xs
 abbrev pub KnowsFrom : ℕ → List Stamp → PassView → PassView → Type 0
 KnowsFrom n xs p q = q ≡ record p { known = p.known ++ placed_from n xs; loaded = q.loaded }
 
--- the pass loaded the events from a position on to the last tail that it saw, each of them once, and did nothing else. The position is that of
--- an Info of the row, or nothing was loaded
-pub record HasWalked (row : Row) (p q : PassView) : Type 0 where
+-- the pass loaded the events from a position up to another, each of them once, and did nothing else. The first position is that of an Info of the
+-- row, or nothing was loaded
+pub record HasWalkedTo (row : Row) (to : ℕ) (p q : PassView) : Type 0 where
   pub from : ℕ
   pub events : List Stamp
   pub is : KnowsFrom from events p q
-  pub ends : from + length events ≡ p.seen
+  pub ends : from + length events ≡ to
   pub named : (events ≡ []) ⊎ ((i : Info) × InRow row i × (i.pos ≡ from))
+
+-- up to the last tail that it saw
+abbrev pub HasWalked : Row → PassView → PassView → Type 0
+HasWalked row p q = HasWalkedTo row p.seen p q
 
 -- the pass read the turn of x's row as held by this one, and did nothing else
 pub record ReadBusy (x by : ℕ) (p q : PassView) : Type 0 where

@@ -40,8 +40,9 @@ fn walked(
     ensures race { (setting : Setting) (l : List AStamp) → IsFitting setting (shelf_of pass.new) pass.new.seen pass.new.known l → IsOfNext setting l q.now → InfosStand setting l row.now → (result ≡ Race) ↔ SomeFails l row.now q.now }
     ensures room { vec_capacity window.new ≡ vec_capacity window.old }
 {
-    let from = least(row, pass.seen());
-    load(shared, pass, from, window);
+    let end = pass.seen();
+    let from = least(row, end);
+    load(shared, pass, from, end, window);
     judge(row, q, from, window.as_slice(), cuts)
 }
 

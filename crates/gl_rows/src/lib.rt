@@ -2,11 +2,18 @@
 //! private word is written back.
 #![tactic(auto)]
 
+mod accessing;
+mod advancing;
 mod checking;
+mod moving;
 mod storing;
+mod sweeping;
 mod walking;
 mod window;
 
+pub use accessing::{Seen, access};
+pub use advancing::advance_row;
 pub use checking::check;
 pub use storing::write_back;
+pub use sweeping::sweep;
 pub use window::Window;

@@ -67,19 +67,20 @@ fn keep(shared: &Shared, pass: &mut Pass, pos: u64, window: &mut Vec<Stamp>)
     push_event(window, thread, event);
 }
 
-// Loads the events from a position on to the last tail that the pass saw, each of them once.
-pub(crate) fn load(shared: &Shared, pass: &mut Pass, from: u64, window: &mut Vec<Stamp>)
+// Loads the events from a position on, up to one that the pass has seen, each of them once.
+pub(crate) fn load(shared: &Shared, pass: &mut Pass, from: u64, to: u64, window: &mut Vec<Stamp>)
     requires table { pass.old.own.table ≡ shared.now.id }
-    requires from { from ≤ pass.old.seen }
-    requires named { (pos : ℕ) → from ≤ pos → pos < pass.old.seen → MayWalk (view_of pass.old) pos }
+    requires from { from ≤ to }
+    requires to { to ≤ pass.old.seen }
+    requires named { (pos : ℕ) → from ≤ pos → pos < to → MayWalk (view_of pass.old) pos }
     requires room { capacity shared.now.key ≤ vec_capacity window.old }
     ensures pass { KnowsFrom from window.new.items pass.old pass.new }
-    ensures ends { from + length window.new.items ≡ pass.old.seen }
+    ensures ends { from + length window.new.items ≡ to }
     ensures stamps { All IsStampInRange window.new.items }
     ensures room { vec_capacity window.new ≡ vec_capacity window.old }
 {
     window.clear();
-    for pos in from..pass.seen() {
+    for pos in from..to {
         keep(shared, pass, pos, window);
     }
 }

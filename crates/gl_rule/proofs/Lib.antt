@@ -30,3 +30,5 @@ pub mod Turning
 pub mod Words
 pub mod Safety
 pub mod Agreeing
+pub mod Levels
+pub mod OwnEvents

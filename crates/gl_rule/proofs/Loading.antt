@@ -23,14 +23,14 @@ use Rattle.gl_rule.specs.World.{World}
 use Rattle.gl_model.specs.Elements.{IsStampInRange}
 use Rattle.gl_rule.specs.Turns.{HeldOne}
 use Rattle.gl_rule.specs.Values.{StandsHeld, HeldStands, RowHeld}
-use Rattle.gl_rule.specs.Knowledge.{AreBelow, TailFits, TailsFit, WordFits}
+use Rattle.gl_rule.specs.Knowledge.{AreBelow, TailFits, TailsFit, ReadFits, WordFits}
 use Rattle.gl_rule.specs.Ring.{FloorFits}
 use Rattle.gl_draws.specs.Verdicts.{DrawsHold}
 use Rattle.gl_rule.specs.Refusals.{DrawsBelow}
 use Rattle.gl_rule.proofs.Refusing.{commits_tail}
 use Rattle.gl_rule.specs.Fitting.{MayWalk}
 use Rattle.gl_rule.specs.Rule.{Fits, Holds, Rule}
-use Rattle.gl_rule.specs.Told.{SawTail, Saw, SawCell, SawEvent}
+use Rattle.gl_rule.specs.Told.{SawTail, Saw, SawHold, SawCell, SawEvent}
 use Rattle.gl_rule.proofs.HeldLists.{all_map, both_map, all_mapped, in_mapped}
 use Rattle.gl_rule.proofs.Frames.{reviews, loads_word, fits_saw}
 
@@ -119,13 +119,16 @@ loads_tail key slots id v c s rule long here fits =
         subst (IsWithin row) (sym rule.1.whole.positions.count) (held_within key.setting w b.hold h.drew row h.object (subst (λ z. StandsHeld key.setting w b.hold h.drew h.object z) e st))
 
 -- so does loading a hold
-pub loads_hold : (key : Key) (slots id k : ℕ) (v : View) (c : List (ℕ × Slot)) → k < objects → table.Allows (Rule key) slots id (v, c) (3 * k + 2) (λ n. n) (λ n. Saw (Hold k n) v c)
+pub loads_hold : (key : Key) (slots id k : ℕ) (v : View) (c : List (ℕ × Slot)) → k < objects → table.Allows (Rule key) slots id (v, c) (3 * k + 2) (λ n. n) (SawHold k v c)
 loads_hold key slots id k v c near s rule long here fits =
     let w = rule.0 in
     let H = rule.1 in
     let b = board (capacity key) s.words in
     let u = saw v (Hold k (b.hold k)) in
-    (u, table.keeps, tt, loads_word key s id (3 * k + 2) u (w, reviews key w s id v u here (λ g o. o) H (fits_saw key b w id v (Hold k (b.hold k)) (near, omega arith) (H.views.at id v here))), refl)
+    (u, table.keeps, tt, loads_word key s id (3 * k + 2) u (w, reviews key w s id v u here (λ g o. o) H (fits_saw key b w id v (Hold k (b.hold k)) (near, omega arith) (H.views.at id v here))), (refl, risen))
+  where
+    risen : (m : ℕ) → Contains v.reads (Hold k m) → m ≤ (board (capacity key) s.words).hold k
+    risen m has = (All-contains (ReadFits (board (capacity key) s.words).hold) v.reads (Hold k m) (rule.1.views.at id v here).knowledge.reads has).1
 
 -- and the stop word
 pub loads_stop : (key : Key) (slots id : ℕ) (v : View) (c : List (ℕ × Slot)) → table.Allows (Rule key) slots id (v, c) 3075 (λ n. n) (λ n. Saw (Stop n) v c)

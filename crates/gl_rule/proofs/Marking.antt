@@ -19,6 +19,7 @@ use Rattle.gl_draws.specs.Ties.{Drawn, IsStill, count_by, last_position}
 use Rattle.gl_draws.specs.RowFacts.{RowStands, IsWithin}
 use Rattle.gl_draws.specs.Verdicts.{DrawHolds, DrawsHold, IsRight, IsPlaced, IsBehind, IsCommitWhat, IsNamed, BlockIs}
 use Rattle.gl_draws.proofs.DrawCounts.{draws_bound}
+use Rattle.gl_draws.proofs.DrawPlaces.{draw_below}
 use Rattle.gl_draws.proofs.EventTies.{last_own, events_push}
 use Rattle.gl_draws.proofs.LastOnes.{each_at}
 use Rattle.gl_draws.proofs.MarkLaw.{mark_holds}
@@ -49,7 +50,7 @@ use Rattle.gl_rule.specs.Machine.{ShelfCarries}
 use Rattle.gl_rule.proofs.Refusing.{carries_push}
 use Rattle.gl_rule.specs.Fitting.{MayDraw, MayMark, MayOpen, IsNotOver}
 use Rattle.gl_rule.specs.Rule.{Fits, Rule}
-use Rattle.gl_rule.specs.Told.{Marked, Opened, what_of}
+use Rattle.gl_rule.specs.Told.{Marked, Opened, IsAboveDrawn, what_of}
 use Rattle.gl_rule.proofs.Each.{each_set}
 use Rattle.gl_rule.proofs.Words.{still_long, count_here, count_else, count_turns, count_holds, count_cells, SameTurns, SameHolds, SameCells}
 use Rattle.gl_rule.proofs.HeldLists.{all_map, both_map, all_without, has_after, only_shelf, one_shelf}
@@ -126,7 +127,7 @@ pub record MarkShows (w : World) (id : ℕ) (v : View) (s s' : Shelf) (drawn' : 
 -- drawing a number keeps the rule, whatever it is for, where the shelf afterwards shows what is asked
 pub draws_number : (key : Key) (slots id : ℕ) (v : View) (c : List (ℕ × Slot)) (s : Shelf) (h : Held) (x : ℕ) (taken : Row) (p : ℕ) (what : ℕ → What) (s' : ℕ → Shelf) (drawn' : ℕ → List Drawn) → v.shelves ≡ s ∷ [] → MayDraw s v h x taken p
     → ((w : World) (b : Board) → MarkFacts key w b id v s h x taken → MarkShows w id v s (s' (length (w.draws x))) (drawn' (length (w.draws x))) x (draw s.thread p (what (length (w.draws x)))))
-    → table.Allows (Rule key) slots id (v, c) (3 * h.object) (λ n. (n + 1) % 2 ^ 64) (λ n u. (n + 1 < 2 ^ 64) × (u ≡ (marked v (s' n) (drawn' n) h (draw s.thread p (what n)), c)))
+    → table.Allows (Rule key) slots id (v, c) (3 * h.object) (λ n. (n + 1) % 2 ^ 64) (λ n u. (n + 1 < 2 ^ 64) × (u ≡ (marked v (s' n) (drawn' n) h (draw s.thread p (what n)), c)) × IsAboveDrawn x n v.drawn)
 draws_number key slots id v c s h x taken p what s' drawn' one may shows st rule long here fits =
     let w = rule.0 in
     let H = rule.1 in
@@ -161,6 +162,9 @@ draws_number key slots id v c s h x taken p what s' drawn' one may shows st rule
     let count : n ≡ length ds = ap b.count may.object ∙ H.whole.numbers.counts x var in
     let bound : length ds ≤ 16 * (2 ^ 51 + 2) = draws_bound 16 (2 ^ 51 + 2) ds (H.whole.numbers.threads x) (H.whole.numbers.few x) in
     let small : n + 1 < 2 ^ 64 = omega arith in
+    let above : IsAboveDrawn x n v.drawn = λ k look waits.
+    let at = shelf_draws.numbers.in_flight (record { var = x; nth = k; look = look }) waits in
+    subst (λ z. k < z) (sym count) (draw_below ds k at.0 at.1) in
     let m = (n + 1) % 2 ^ 64 in
     let next : m ≡ n + 1 = mod-eq_of_lt small in
     let b' = board cap (set st.words (3 * k) m) in
@@ -286,7 +290,7 @@ draws_number key slots id v c s h x taken p what s' drawn' one may shows st rule
               own;
         },
       ),
-      (small, ap tells (sym count)),
+      (small, ap tells (sym count), above),
     )
 
 -- where a draw of the thread stands

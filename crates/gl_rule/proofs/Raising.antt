@@ -280,7 +280,7 @@ loads_floor key slots id v c h has nz st rule long here fits =
       owed = mine.owed;
       refusals = record { held = cons (DrawsBelow w.draws) (commits_same w.draws h g' refl refl refl (All-contains (DrawsBelow w.draws) v.held h mine.refusals.held has)) mine.refusals.held; shelves = mine.refusals.shelves };
     } in
-    (u, table.keeps, tt, loads_word key st id (3 * k + 2) u (w, reviews key w st id v u here (λ g o. has_after g v h g' refl o) H own), refl)
+    (u, table.keeps, tt, loads_word key st id (3 * k + 2) u (w, reviews key w st id v u here (λ g o. has_after g v h g' refl o) H own), (refl, λ m e. ((All-contains (FloorFits b.hold) v.held h mine.ring.floors has).exact m e).0))
   where
     some_is : (a n : ℕ) → Some a ≡ Some n → a ≡ n
     some_is a n e = cc

@@ -26,3 +26,4 @@ pub mod Agreeing
 pub mod Told
 pub mod Taken
 pub mod Lives
+pub mod Levels

@@ -27,7 +27,7 @@ use Rattle.gl_rule.specs.Fitting.{MayLeave, SaysQuiet, MayWalk, MayPublish, MayS
 use Rattle.gl_rule.specs.Objects.{Key, capacity, objects, stop_word, cell_at}
 use Rattle.gl_rule.specs.Opened.{first_words, first_slots, sixteen}
 use Rattle.gl_rule.specs.Rule.{Rule}
-use Rattle.gl_rule.specs.Told.{Took, Left, SawTail, Saw, SawFloor, SawCell, SawEvent, PutWord, Published, PublishedAct, Raised, Lowered, Marked, Opened}
+use Rattle.gl_rule.specs.Told.{Took, Left, SawTail, Saw, SawHold, SawFloor, SawCell, SawEvent, PutWord, Published, PublishedAct, Raised, Lowered, Marked, Opened}
 use Rattle.gl_rule.specs.View.{View, Shelf, shelf, Held, Hold, Stop, blank, both}
 
 -- the turn of an object that is free is taken
@@ -57,7 +57,7 @@ LoadsTail = (key : Key) (slots id : ℕ) (v : View) (c : List (ℕ × Slot)) →
 
 -- a hold is loaded; that of object 0 is the first segment that is kept
 abbrev pub LoadsHold : Type 0
-LoadsHold = (key : Key) (slots id k : ℕ) (v : View) (c : List (ℕ × Slot)) → k < objects → table.Allows (Rule key) slots id (v, c) (3 * k + 2) (λ n. n) (λ n. Saw (Hold k n) v c)
+LoadsHold = (key : Key) (slots id k : ℕ) (v : View) (c : List (ℕ × Slot)) → k < objects → table.Allows (Rule key) slots id (v, c) (3 * k + 2) (λ n. n) (SawHold k v c)
 
 -- the hold of a row that is held is loaded
 abbrev pub LoadsFloor : Type 0

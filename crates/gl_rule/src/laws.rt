@@ -3,6 +3,7 @@
 
 ghost use Rattle.gl_rule.specs.Agreeing.{KnownEventsAgree, KnownSetsAgree, KnownTestsAgree, OwnPlainStands, OwnCommitStands};
 ghost use Rattle.gl_rule.specs.Laws.{ClosedIsLawful, ClosedIsTrimmed, TrimsBySegments};
+ghost use Rattle.gl_rule.specs.Levels.{LevelsTell, MonitorsTell, QuestionsTell};
 ghost use Rattle.gl_rule.specs.Safe.{TablesAreSafe, OverwritesUnnamed};
 ghost use Rattle.gl_rule.specs.Steps.{TakesTurn, LeavesTurn, WritesBack, LoadsTail, LoadsHold, LoadsFloor, LoadsStop, LoadsCell, LoadsEvent, StoresWord, SetsStop, RaisesHold, RaisesLow, PublishesAct, PublishesCommit, MarksPlain, MarksOpen, RecordsAdded, Begins, EntersSeat, SplitsSeat, JoinsSeats};
 
@@ -62,6 +63,14 @@ pub fn fitting_lists_agree()
     ensures tests { KnownTestsAgree }
     ensures plain { OwnPlainStands }
     ensures commit { OwnCommitStands }
+{}
+
+/// A thread's own entries tell how often it owns each monitor behind each list of events that has them, and so which are the
+/// least that it owns; and a question with these, where it runs by its entries, is of a next access.
+pub fn own_entries_tell_the_monitors()
+    ensures levels { LevelsTell }
+    ensures monitors { MonitorsTell }
+    ensures questions { QuestionsTell }
 {}
 
 /// No cell is given again while somebody may still walk from its event: the table is safe, and the event whose cell the

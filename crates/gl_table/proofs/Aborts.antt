@@ -46,9 +46,9 @@ module _ (me : table.Me Slot View) (t : ℕ) (mine : List Entry) (seen : ℕ) (o
   may_add tx (Changed var read found) m u added = (shelf t mine, refl, (m.0, m.1, added ∙ ap (λ k. dropped now t mine (Abort tx (Changed var read found)) (var ∷ []) (draw t k (Looked found))) (ap or_zero m.1.drop.block)))
   may_add tx (Raised var) m u added = (shelf t mine, refl, (m.0, m.1, m.2, m.3, added ∙ ap (λ k. dropped now t mine (Abort tx (Raised var)) (variables_of tx) (draw t k (Entered (Abort tx (Raised var))))) (ap or_zero (m.3 trace_setting).drop.block)))
 
-  in_range : (tx : Tx) (why : Why) → MayAbortAs (shelf t mine) now tx why → IsWhyKept why
-  in_range tx (Changed var read found) m = let r = m.1.drop.rows var (here_in var) in held_near me.1 order now.held p.out r.one var r.held r.object
-  in_range tx (Raised var) m = let f = m.3 trace_setting in let r = f.drop.rows var f.touches in held_near me.1 order now.held p.out r.one var r.held r.object
+  pub abort_kept : (tx : Tx) (why : Why) → MayAbortAs (shelf t mine) now tx why → IsWhyKept why
+  abort_kept tx (Changed var read found) m = let r = m.1.drop.rows var (here_in var) in held_near me.1 order now.held p.out r.one var r.held r.object
+  abort_kept tx (Raised var) m = let f = m.3 trace_setting in let r = f.drop.rows var f.touches in held_near me.1 order now.held p.out r.one var r.held r.object
 
   same_seen : (tx : Tx) (why : Why) → (adds_one now t mine (Abort tx why)).seen ≡ now.seen
   same_seen tx (Changed var read found) = refl
@@ -67,4 +67,4 @@ module _ (me : table.Me Slot View) (t : ℕ) (mine : List Entry) (seen : ℕ) (o
   gone tx (Raised var) = out.out_mapped me.1 order now.held p.out (with_drew (variables_of tx) (draw t (block_of mine) (Entered (Abort tx (Raised var))))) (λ h. refl)
 
   pub pass_aborts : (tx : Tx) (why : Why) (mine' : List Entry) → MayAbortAs (shelf t mine) now tx why → IsTxKept tx → mine' ≡ mine ++ Abort tx why ∷ [] → IsPass me t mine' seen order quiet × (caught_up me.0 t mine' ≡ adds_one now t mine (Abort tx why))
-  pass_aborts tx why mine' m kept more = pass_adds me t mine seen order quiet p (Abort tx why) mine' (may_add tx why m) (same_seen tx why) (same_quiet tx why) (same_stored tx why) (gone tx why) refl (kept, in_range tx why m) more
+  pass_aborts tx why mine' m kept more = pass_adds me t mine seen order quiet p (Abort tx why) mine' (may_add tx why m) (same_seen tx why) (same_quiet tx why) (same_stored tx why) (gone tx why) refl (kept, abort_kept tx why m) more

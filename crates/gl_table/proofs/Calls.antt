@@ -20,7 +20,7 @@ use Rattle.gl_rule.specs.Fitting.{MayPublish, MayMark, MayOpen, MayWalk, MayStor
 use Rattle.gl_table.specs.Putting.{MayPutBack}
 use Rattle.gl_rule.specs.Rule.{Rule}
 use Rattle.gl_table.specs.Says.{EventSaid, MarkSaid}
-use Rattle.gl_rule.specs.Told.{Took, Left, SawTail, Saw, PutWord, PublishedAct, Marked, Opened, SawCell, SawEvent, SawFloor, Raised, Lowered}
+use Rattle.gl_rule.specs.Told.{Took, Left, SawTail, Saw, SawHold, PutWord, PublishedAct, Marked, Opened, SawCell, SawEvent, SawFloor, Raised, Lowered}
 use Rattle.gl_table.specs.Told.{Kept, PaidLeft, PublishedTx}
 use Rattle.gl_table.specs.Committing.{commit_stamp}
 use Rattle.gl_model.specs.declared.tx.Tx.{Tx}
@@ -58,8 +58,8 @@ module _ (key : Key) (slots id : ℕ) (me : table.Me Slot View) (t : ℕ) (es : 
   pub may_tail : table.Allows (Rule key) slots id me 0 (λ n. n) (SawTail u me.1)
   may_tail = as_told 0 (λ n. n) (λ z. SawTail z me.1) (loads_tail key slots id (caught_up me.0 t es) me.1)
 
-  pub may_hold : (k y : ℕ) → y ≡ k → k < objects → table.Allows (Rule key) slots id me (3 * k + 2) (λ n. n) (λ n. Saw (Hold y n) u me.1)
-  may_hold k y is near = subst (λ z. table.Allows (Rule key) slots id me (3 * k + 2) (λ n. n) (λ n. Saw (Hold z n) u me.1)) (sym is) (as_told (3 * k + 2) (λ n. n) (λ z n. Saw (Hold k n) z me.1) (loads_hold key slots id k (caught_up me.0 t es) me.1 near))
+  pub may_hold : (k y : ℕ) → y ≡ k → k < objects → table.Allows (Rule key) slots id me (3 * k + 2) (λ n. n) (SawHold y u me.1)
+  may_hold k y is near = subst (λ z. table.Allows (Rule key) slots id me (3 * k + 2) (λ n. n) (SawHold z u me.1)) (sym is) (as_told (3 * k + 2) (λ n. n) (λ z. SawHold k z me.1) (loads_hold key slots id k (caught_up me.0 t es) me.1 near))
 
   pub may_set : table.Allows (Rule key) slots id me 3075 (λ _. 1) (λ _. Kept u me.1)
   may_set = as_told 3075 (λ _. 1) (λ z _. Kept z me.1) (sets_stop key slots id 1 (caught_up me.0 t es) me.1)

@@ -14,4 +14,4 @@ pub mod Aborts
 pub mod Commitments
 pub mod Unpacking
 pub mod FiveWords
-pub mod Starts
+pub mod LeastEntered

@@ -70,7 +70,7 @@ published_object n y drew h = by_bool (h.object == 0)
     by_bool true = refl
     by_bool false = refl
 
-below_later : (n m t : ℕ) (es : List Entry) → n ≤ m → AreBelow n (shelf t es) → AreBelow m (shelf t es)
+pub below_later : (n m t : ℕ) (es : List Entry) → n ≤ m → AreBelow n (shelf t es) → AreBelow m (shelf t es)
 below_later n m t es le below i p e at is = let a = below i p e at is in omega arith
 
 -- an entry more whose position, if it has one, is below n

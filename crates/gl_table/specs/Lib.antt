@@ -21,3 +21,6 @@ pub mod Committing
 pub mod Unpacking
 pub mod Walking
 pub mod Saying
+pub mod LevelsInside
+pub mod Stored
+pub mod StoredInside

@@ -16,7 +16,7 @@ use Rattle.gl_table.specs.PassView.{PassView, pass_of}
 use Rattle.gl_rule.specs.View.{View, Held, shelf}
 
 abbrev pub pass_view : Inside → PassView
-pass_view p = pass_of p.seat.table_id p.id (map seen p.mine.items) (caught_up p.seat.me.0 p.id (map seen p.mine.items)) (vec_capacity p.mine - vec_len p.mine)
+pass_view p = pass_of p.seat.table_id p.id p.mine.entries (caught_up p.seat.me.0 p.id p.mine.entries) p.mine.spare
 
 -- the slots of held objects, whose values are out of them
 abbrev pub empties : List ℕ → List (ℕ × Slot)
@@ -55,6 +55,6 @@ pub record IsPass (me : table.Me Slot View) (id : ℕ) (mine : List Entry) (seen
   pub kept : All IsEntryKept mine
 
 pub record IsPassInside (p : Inside) : Type 0 where
-  pub pass : IsPass p.seat.me p.id (map seen p.mine.items) p.seen p.order.items p.quiet
+  pub pass : IsPass p.seat.me p.id p.mine.entries p.seen p.order.items p.quiet
   -- there is room for each object
   pub room : objects ≤ vec_capacity p.order

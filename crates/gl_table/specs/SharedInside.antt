@@ -1,5 +1,6 @@
 -- A table's fields, and what is true of them.
 use Rattle.std.specs.Prelude.{◌≡◌, ◌<◌}
+use Rattle.std.specs.List.{All}
 use Rattle.gl_model.specs.declared.limits.TheConstants.{FUNCTIONS}
 use Rattle.gl_segments.specs.Rings.{IsRing}
 use Rattle.gl_table.specs.declared.shared.Shared.TheInside.{Inside}
@@ -15,3 +16,4 @@ pub record IsShared (s : Inside) : Type 0 where
   pub key : s.table.shared.key ≡ s.layout
   pub ring : IsRing s.layout.ring
   pub main : s.layout.main < FUNCTIONS
+  pub starts : All (λ f. f < FUNCTIONS) s.layout.starts.items

@@ -42,7 +42,7 @@ fn join_pass(board: &Board, root: &mut Seat, pass: Pass) -> Vec<Entry>
     } = pass;
     load_tail::<Brand>(board, &mut seat, id, &mine);
     board.join_seat::<Glue>(root, seat);
-    mine
+    mine.into_entries()
 }
 
 // Joins a pass to the root, and moves its list into the room if it has an entry.

@@ -4,8 +4,11 @@
 mod close;
 mod hold;
 mod layout;
+mod levels;
+mod monitors;
 mod moves;
 mod new;
+mod own_list;
 mod pack;
 mod pass;
 mod rule;

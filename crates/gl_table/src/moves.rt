@@ -3,7 +3,7 @@ ghost use Rattle.std.specs.Prelude.{◌≡◌, pos, ℕ, ℤ, ◌<◌, ◌≤◌
 ghost use Rattle.gl_model.specs.declared.event.Event.TheVariants.{Act as Does};
 ghost use Rattle.gl_model.specs.declared.row.Row.{Row as ARow};
 ghost use Rattle.gl_model.specs.declared.row.Question.{Question};
-ghost use Rattle.gl_model.specs.Entries.{Commit, Sync, seen};
+ghost use Rattle.gl_model.specs.Entries.{Commit, Sync};
 ghost use Rattle.gl_table.specs.CaughtUp.{caught_up, block_of};
 ghost use Rattle.gl_rule.specs.Fitting.{MayPublish, MayMark, MayOpen, MayWalk, MayStoreWord, MayRaise, MayTrim};
 ghost use Rattle.gl_table.specs.Committing.{commit_stamp};
@@ -16,17 +16,18 @@ ghost use Rattle.gl_rule.specs.Objects.{capacity, objects};
 ghost use Rattle.gl_table.specs.OfTable.{OfTable};
 ghost use Rattle.gl_table.specs.PassInside.{IsReady};
 ghost use Rattle.gl_table.specs.Putting.{MayPutBack, held_at};
-ghost use Rattle.gl_rule.specs.Told.{Took, Left, SawTail, Saw, PutWord, PublishedAct, Marked, Opened, SawCell, SawEvent, SawFloor, Raised, Lowered};
+ghost use Rattle.gl_rule.specs.Told.{Took, Left, SawTail, Saw, SawHold, PutWord, PublishedAct, Marked, Opened, SawCell, SawEvent, SawFloor, Raised, Lowered};
 ghost use Rattle.gl_rule.specs.View.{Shelf, shelf, Held, Hold, Stop};
 ghost use Rattle.gl_rule.specs.declared.slot.Slot.{Slot as ASlot};
 ghost use Rattle.gl_rule.specs.declared.slot.Slot.TheVariants as slot;
 
 use crate::layout::Layout;
+use crate::own_list::OwnList;
 use crate::rule::{
     Closes, Commits, Leaves, Lowers, Marks, Opens, Order, Pays, Publishes, Puts, Raises, SeesCell,
     SeesEvent, SeesFloor, SeesHold, SeesStop, SeesTail, Stops, Takes, Told,
 };
-use gl_model::{Act, Entry, Row, Tx};
+use gl_model::{Act, Row, Tx};
 use gl_rule::{Know, Slot};
 use gl_state::ListState;
 
@@ -39,15 +40,15 @@ pub fn take_turn<B: Told>(
     board: &Board,
     seat: &mut Seat,
     id: u8,
-    mine: &Vec<Entry>,
+    mine: &OwnList,
     object: u16,
 ) -> u64
     requires table { OfTable seat.old.table_id board.now.table_id (key_of board.now.key) }
-    requires ready { IsReady seat.old.me.0 id (map seen mine.now.items) }
-    requires told { (B.view ≡ caught_up seat.old.me.0 id (map seen mine.now.items)) × (B.object ≡ object) × (B.setting ≡ (key_of board.now.key).setting) }
+    requires ready { IsReady seat.old.me.0 id mine.now.entries }
+    requires told { (B.view ≡ caught_up seat.old.me.0 id mine.now.entries) × (B.object ≡ object) × (B.setting ≡ (key_of board.now.key).setting) }
     requires near { object < objects }
     ensures seat { (seat.new.table_id ≡ seat.old.table_id) × (seat.new.id ≡ seat.old.id) }
-    ensures took { Took (key_of board.now.key).setting object (caught_up seat.old.me.0 id (map seen mine.now.items)) seat.old.me.1 result seat.new.me }
+    ensures took { Took (key_of board.now.key).setting object (caught_up seat.old.me.0 id mine.now.entries) seat.old.me.1 result seat.new.me }
 {
     board.compare_exchange::<Takes<B>>(seat, 3 * object as usize + 1, 0, id as u64 + 1)
 }
@@ -57,28 +58,28 @@ pub fn leave_turn<B: Told>(
     board: &Board,
     seat: &mut Seat,
     id: u8,
-    mine: &Vec<Entry>,
+    mine: &OwnList,
     object: u16,
     quiet: bool,
 )
     requires table { OfTable seat.old.table_id board.now.table_id (key_of board.now.key) }
-    requires ready { IsReady seat.old.me.0 id (map seen mine.now.items) }
-    requires told { (B.view ≡ caught_up seat.old.me.0 id (map seen mine.now.items)) × (B.object ≡ object) × (B.quiet ≡ quiet) }
+    requires ready { IsReady seat.old.me.0 id mine.now.entries }
+    requires told { (B.view ≡ caught_up seat.old.me.0 id mine.now.entries) × (B.object ≡ object) × (B.quiet ≡ quiet) }
     requires near { object < objects }
-    requires back { (y : ASlot) × (c : List (ℕ × ASlot)) × (seat.old.me.1 ≡ (object, y) ∷ c) × MayPutBack (key_of board.now.key).setting (shelf id (map seen mine.now.items)) (caught_up seat.old.me.0 id (map seen mine.now.items)) object y quiet }
+    requires back { (y : ASlot) × (c : List (ℕ × ASlot)) × (seat.old.me.1 ≡ (object, y) ∷ c) × MayPutBack (key_of board.now.key).setting (shelf id mine.now.entries) (caught_up seat.old.me.0 id mine.now.entries) object y quiet }
     ensures seat { (seat.new.table_id ≡ seat.old.table_id) × (seat.new.id ≡ seat.old.id) }
-    ensures left { Left object quiet (caught_up seat.old.me.0 id (map seen mine.now.items)) seat.old.me.1 seat.new.me }
+    ensures left { Left object quiet (caught_up seat.old.me.0 id mine.now.entries) seat.old.me.1 seat.new.me }
 {
     board.store::<Leaves<B>>(seat, 3 * object as usize + 1, 0);
 }
 
 // Loads the tail.
-pub fn load_tail<B: Told>(board: &Board, seat: &mut Seat, id: u8, mine: &Vec<Entry>) -> u64
+pub fn load_tail<B: Told>(board: &Board, seat: &mut Seat, id: u8, mine: &OwnList) -> u64
     requires table { OfTable seat.old.table_id board.now.table_id (key_of board.now.key) }
-    requires ready { IsReady seat.old.me.0 id (map seen mine.now.items) }
-    requires told { B.view ≡ caught_up seat.old.me.0 id (map seen mine.now.items) }
+    requires ready { IsReady seat.old.me.0 id mine.now.entries }
+    requires told { B.view ≡ caught_up seat.old.me.0 id mine.now.entries }
     ensures seat { (seat.new.table_id ≡ seat.old.table_id) × (seat.new.id ≡ seat.old.id) }
-    ensures saw { SawTail (caught_up seat.old.me.0 id (map seen mine.now.items)) seat.old.me.1 result seat.new.me }
+    ensures saw { SawTail (caught_up seat.old.me.0 id mine.now.entries) seat.old.me.1 result seat.new.me }
 {
     board.load::<SeesTail<B>>(seat, 0)
 }
@@ -88,15 +89,15 @@ pub fn load_hold<B: Told>(
     board: &Board,
     seat: &mut Seat,
     id: u8,
-    mine: &Vec<Entry>,
+    mine: &OwnList,
     object: u16,
 ) -> u64
     requires table { OfTable seat.old.table_id board.now.table_id (key_of board.now.key) }
-    requires ready { IsReady seat.old.me.0 id (map seen mine.now.items) }
-    requires told { (B.view ≡ caught_up seat.old.me.0 id (map seen mine.now.items)) × (B.object ≡ object) }
+    requires ready { IsReady seat.old.me.0 id mine.now.entries }
+    requires told { (B.view ≡ caught_up seat.old.me.0 id mine.now.entries) × (B.object ≡ object) }
     requires near { object < objects }
     ensures seat { (seat.new.table_id ≡ seat.old.table_id) × (seat.new.id ≡ seat.old.id) }
-    ensures saw { Saw (Hold object result) (caught_up seat.old.me.0 id (map seen mine.now.items)) seat.old.me.1 seat.new.me }
+    ensures saw { SawHold object (caught_up seat.old.me.0 id mine.now.entries) seat.old.me.1 result seat.new.me }
 {
     board.load::<SeesHold<B>>(seat, 3 * object as usize + 2)
 }
@@ -106,19 +107,19 @@ pub fn put_word<B: Told>(
     board: &Board,
     seat: &mut Seat,
     id: u8,
-    mine: &Vec<Entry>,
+    mine: &OwnList,
     cell: usize,
     index: usize,
     word: u64,
 )
     requires table { OfTable seat.old.table_id board.now.table_id (key_of board.now.key) }
-    requires ready { IsReady seat.old.me.0 id (map seen mine.now.items) }
-    requires told { B.view ≡ caught_up seat.old.me.0 id (map seen mine.now.items) }
-    requires may { (h : Held) × (tail : ℕ) × MayStoreWord (key_of board.now.key) (caught_up seat.old.me.0 id (map seen mine.now.items)) h tail × (cell ≡ tail % capacity (key_of board.now.key)) }
+    requires ready { IsReady seat.old.me.0 id mine.now.entries }
+    requires told { B.view ≡ caught_up seat.old.me.0 id mine.now.entries }
+    requires may { (h : Held) × (tail : ℕ) × MayStoreWord (key_of board.now.key) (caught_up seat.old.me.0 id mine.now.entries) h tail × (cell ≡ tail % capacity (key_of board.now.key)) }
     requires near { (cell < capacity (key_of board.now.key)) × (cell < 2 ^ 32) × (index < 5) }
-    requires next { index ≡ length (caught_up seat.old.me.0 id (map seen mine.now.items)).stored }
+    requires next { index ≡ length (caught_up seat.old.me.0 id mine.now.entries).stored }
     ensures seat { (seat.new.table_id ≡ seat.old.table_id) × (seat.new.id ≡ seat.old.id) }
-    ensures put { PutWord word (caught_up seat.old.me.0 id (map seen mine.now.items)) seat.old.me.1 seat.new.me }
+    ensures put { PutWord word (caught_up seat.old.me.0 id mine.now.entries) seat.old.me.1 seat.new.me }
 {
     board.store::<Puts<B>>(seat, 3076 + 5 * cell + index, word);
 }
@@ -128,18 +129,18 @@ pub fn publish_act<B: Told>(
     board: &Board,
     seat: &mut Seat,
     id: u8,
-    mine: &Vec<Entry>,
+    mine: &OwnList,
     act: &Act,
     value: i64,
     state: &ListState,
 ) -> u64
     requires table { OfTable seat.old.table_id board.now.table_id (key_of board.now.key) }
-    requires ready { IsReady seat.old.me.0 id (map seen mine.now.items) }
-    requires told { (B.view ≡ caught_up seat.old.me.0 id (map seen mine.now.items)) × (B.event ≡ record { shelf = shelf id (map seen mine.now.items); act = act.now; value = value; state = slot.List state.now }) }
-    requires idle { (caught_up seat.old.me.0 id (map seen mine.now.items)).drawn ≡ [] }
-    requires may { (h : Held) × (l : ListView) × MayPublish (key_of board.now.key) (shelf id (map seen mine.now.items)) (caught_up seat.old.me.0 id (map seen mine.now.items)) h l state.now (λ n. Sync n act.now value) (record { thread = id; event = Does act.now }) value }
+    requires ready { IsReady seat.old.me.0 id mine.now.entries }
+    requires told { (B.view ≡ caught_up seat.old.me.0 id mine.now.entries) × (B.event ≡ record { shelf = shelf id mine.now.entries; act = act.now; value = value; state = slot.List state.now }) }
+    requires idle { (caught_up seat.old.me.0 id mine.now.entries).drawn ≡ [] }
+    requires may { (h : Held) × (l : ListView) × MayPublish (key_of board.now.key) (shelf id mine.now.entries) (caught_up seat.old.me.0 id mine.now.entries) h l state.now (λ n. Sync n act.now value) (record { thread = id; event = Does act.now }) value }
     ensures seat { (seat.new.table_id ≡ seat.old.table_id) × (seat.new.id ≡ seat.old.id) }
-    ensures published { PublishedAct (shelf id (map seen mine.now.items)) act.now value (slot.List state.now) (caught_up seat.old.me.0 id (map seen mine.now.items)) seat.old.me.1 result seat.new.me }
+    ensures published { PublishedAct (shelf id mine.now.entries) act.now value (slot.List state.now) (caught_up seat.old.me.0 id mine.now.entries) seat.old.me.1 result seat.new.me }
 {
     board.fetch_add::<Publishes<B>>(seat, 0, 1)
 }
@@ -149,38 +150,32 @@ pub fn draw_number<B: Told>(
     board: &Board,
     seat: &mut Seat,
     id: u8,
-    mine: &Vec<Entry>,
+    mine: &OwnList,
     var: u16,
     write: bool,
     value: i64,
     raised: bool,
 ) -> u64
     requires table { OfTable seat.old.table_id board.now.table_id (key_of board.now.key) }
-    requires ready { IsReady seat.old.me.0 id (map seen mine.now.items) }
+    requires ready { IsReady seat.old.me.0 id mine.now.entries }
     requires near { var < 1024 }
-    requires told { (B.view ≡ caught_up seat.old.me.0 id (map seen mine.now.items)) × (B.mark ≡ record { shelf = shelf id (map seen mine.now.items); block = block_of (map seen mine.now.items); write = write; value = value; raised = raised }) × (B.object ≡ var) × (B.held ≡ held_at (var + 1) (caught_up seat.old.me.0 id (map seen mine.now.items)).held) }
-    requires may { (taken : ARow) × (q : Question) × MayMark (key_of board.now.key).setting (shelf id (map seen mine.now.items)) (caught_up seat.old.me.0 id (map seen mine.now.items)) (held_at (var + 1) (caught_up seat.old.me.0 id (map seen mine.now.items)).held) var taken (block_of (map seen mine.now.items)) q write value raised }
+    requires told { (B.view ≡ caught_up seat.old.me.0 id mine.now.entries) × (B.mark ≡ record { shelf = shelf id mine.now.entries; block = block_of mine.now.entries; write = write; value = value; raised = raised }) × (B.object ≡ var) × (B.held ≡ held_at (var + 1) (caught_up seat.old.me.0 id mine.now.entries).held) }
+    requires may { (taken : ARow) × (q : Question) × MayMark (key_of board.now.key).setting (shelf id mine.now.entries) (caught_up seat.old.me.0 id mine.now.entries) (held_at (var + 1) (caught_up seat.old.me.0 id mine.now.entries).held) var taken (block_of mine.now.entries) q write value raised }
     ensures seat { (seat.new.table_id ≡ seat.old.table_id) × (seat.new.id ≡ seat.old.id) }
-    ensures drew { Marked (shelf id (map seen mine.now.items)) (held_at (var + 1) (caught_up seat.old.me.0 id (map seen mine.now.items)).held) var (block_of (map seen mine.now.items)) write value raised (caught_up seat.old.me.0 id (map seen mine.now.items)) seat.old.me.1 result seat.new.me }
+    ensures drew { Marked (shelf id mine.now.entries) (held_at (var + 1) (caught_up seat.old.me.0 id mine.now.entries).held) var (block_of mine.now.entries) write value raised (caught_up seat.old.me.0 id mine.now.entries) seat.old.me.1 result seat.new.me }
 {
     board.fetch_add::<Marks<B>>(seat, 3 * (var as usize + 1), 1)
 }
 
 // Loads the hold of a row that is held.
-pub fn load_floor<B: Told>(
-    board: &Board,
-    seat: &mut Seat,
-    id: u8,
-    mine: &Vec<Entry>,
-    var: u16,
-) -> u64
+pub fn load_floor<B: Told>(board: &Board, seat: &mut Seat, id: u8, mine: &OwnList, var: u16) -> u64
     requires table { OfTable seat.old.table_id board.now.table_id (key_of board.now.key) }
-    requires ready { IsReady seat.old.me.0 id (map seen mine.now.items) }
+    requires ready { IsReady seat.old.me.0 id mine.now.entries }
     requires near { var < 1024 }
-    requires told { (B.view ≡ caught_up seat.old.me.0 id (map seen mine.now.items)) × (B.held ≡ held_at (var + 1) (caught_up seat.old.me.0 id (map seen mine.now.items)).held) }
-    requires held { Contains (caught_up seat.old.me.0 id (map seen mine.now.items)).held (held_at (var + 1) (caught_up seat.old.me.0 id (map seen mine.now.items)).held) × ((held_at (var + 1) (caught_up seat.old.me.0 id (map seen mine.now.items)).held).object ≡ suc var) }
+    requires told { (B.view ≡ caught_up seat.old.me.0 id mine.now.entries) × (B.held ≡ held_at (var + 1) (caught_up seat.old.me.0 id mine.now.entries).held) }
+    requires held { Contains (caught_up seat.old.me.0 id mine.now.entries).held (held_at (var + 1) (caught_up seat.old.me.0 id mine.now.entries).held) × ((held_at (var + 1) (caught_up seat.old.me.0 id mine.now.entries).held).object ≡ suc var) }
     ensures seat { (seat.new.table_id ≡ seat.old.table_id) × (seat.new.id ≡ seat.old.id) }
-    ensures saw { SawFloor (held_at (var + 1) (caught_up seat.old.me.0 id (map seen mine.now.items)).held) (caught_up seat.old.me.0 id (map seen mine.now.items)) seat.old.me.1 result seat.new.me }
+    ensures saw { SawFloor (held_at (var + 1) (caught_up seat.old.me.0 id mine.now.entries).held) (caught_up seat.old.me.0 id mine.now.entries) seat.old.me.1 result seat.new.me }
 {
     board.load::<SeesFloor<B>>(seat, 3 * (var as usize + 1) + 2)
 }
@@ -190,58 +185,52 @@ pub fn raise_floor<B: Told>(
     board: &Board,
     seat: &mut Seat,
     id: u8,
-    mine: &Vec<Entry>,
+    mine: &OwnList,
     var: u16,
     row: &Row,
     to: u64,
 )
     requires table { OfTable seat.old.table_id board.now.table_id (key_of board.now.key) }
-    requires ready { IsReady seat.old.me.0 id (map seen mine.now.items) }
+    requires ready { IsReady seat.old.me.0 id mine.now.entries }
     requires near { var < 1024 }
-    requires told { (B.view ≡ caught_up seat.old.me.0 id (map seen mine.now.items)) × (B.held ≡ held_at (var + 1) (caught_up seat.old.me.0 id (map seen mine.now.items)).held) × (B.event.state ≡ slot.Row row.now) }
-    requires may { (taken : ARow) × MayRaise (key_of board.now.key).setting (shelf id (map seen mine.now.items)) (caught_up seat.old.me.0 id (map seen mine.now.items)) (held_at (var + 1) (caught_up seat.old.me.0 id (map seen mine.now.items)).held) var taken row.now to }
+    requires told { (B.view ≡ caught_up seat.old.me.0 id mine.now.entries) × (B.held ≡ held_at (var + 1) (caught_up seat.old.me.0 id mine.now.entries).held) × (B.event.state ≡ slot.Row row.now) }
+    requires may { (taken : ARow) × MayRaise (key_of board.now.key).setting (shelf id mine.now.entries) (caught_up seat.old.me.0 id mine.now.entries) (held_at (var + 1) (caught_up seat.old.me.0 id mine.now.entries).held) var taken row.now to }
     ensures seat { (seat.new.table_id ≡ seat.old.table_id) × (seat.new.id ≡ seat.old.id) }
-    ensures raised { Raised (held_at (var + 1) (caught_up seat.old.me.0 id (map seen mine.now.items)).held) (slot.Row row.now) to (caught_up seat.old.me.0 id (map seen mine.now.items)) seat.old.me.1 seat.new.me }
+    ensures raised { Raised (held_at (var + 1) (caught_up seat.old.me.0 id mine.now.entries).held) (slot.Row row.now) to (caught_up seat.old.me.0 id mine.now.entries) seat.old.me.1 seat.new.me }
 {
     board.store::<Raises<B>>(seat, 3 * (var as usize + 1) + 2, to);
 }
 
 // Raises the first segment; answers what it was.
-pub fn raise_first<B: Told>(
-    board: &Board,
-    seat: &mut Seat,
-    id: u8,
-    mine: &Vec<Entry>,
-    to: u64,
-) -> u64
+pub fn raise_first<B: Told>(board: &Board, seat: &mut Seat, id: u8, mine: &OwnList, to: u64) -> u64
     requires table { OfTable seat.old.table_id board.now.table_id (key_of board.now.key) }
-    requires ready { IsReady seat.old.me.0 id (map seen mine.now.items) }
-    requires told { (B.view ≡ caught_up seat.old.me.0 id (map seen mine.now.items)) × (B.event.shelf ≡ shelf id (map seen mine.now.items)) × (B.object ≡ to) }
-    requires may { MayTrim (key_of board.now.key) (shelf id (map seen mine.now.items)) (caught_up seat.old.me.0 id (map seen mine.now.items)) to }
+    requires ready { IsReady seat.old.me.0 id mine.now.entries }
+    requires told { (B.view ≡ caught_up seat.old.me.0 id mine.now.entries) × (B.event.shelf ≡ shelf id mine.now.entries) × (B.object ≡ to) }
+    requires may { MayTrim (key_of board.now.key) (shelf id mine.now.entries) (caught_up seat.old.me.0 id mine.now.entries) to }
     ensures seat { (seat.new.table_id ≡ seat.old.table_id) × (seat.new.id ≡ seat.old.id) }
-    ensures lowered { Lowered (shelf id (map seen mine.now.items)) to (caught_up seat.old.me.0 id (map seen mine.now.items)) seat.old.me.1 result seat.new.me }
+    ensures lowered { Lowered (shelf id mine.now.entries) to (caught_up seat.old.me.0 id mine.now.entries) seat.old.me.1 result seat.new.me }
 {
     board.fetch_max::<Lowers<B>>(seat, 2, to)
 }
 
 // Sets the stop word.
-pub fn set_word<B: Told>(board: &Board, seat: &mut Seat, id: u8, mine: &Vec<Entry>)
+pub fn set_word<B: Told>(board: &Board, seat: &mut Seat, id: u8, mine: &OwnList)
     requires table { OfTable seat.old.table_id board.now.table_id (key_of board.now.key) }
-    requires ready { IsReady seat.old.me.0 id (map seen mine.now.items) }
-    requires told { B.view ≡ caught_up seat.old.me.0 id (map seen mine.now.items) }
+    requires ready { IsReady seat.old.me.0 id mine.now.entries }
+    requires told { B.view ≡ caught_up seat.old.me.0 id mine.now.entries }
     ensures seat { (seat.new.table_id ≡ seat.old.table_id) × (seat.new.id ≡ seat.old.id) }
-    ensures kept { Kept (caught_up seat.old.me.0 id (map seen mine.now.items)) seat.old.me.1 seat.new.me }
+    ensures kept { Kept (caught_up seat.old.me.0 id mine.now.entries) seat.old.me.1 seat.new.me }
 {
     board.store::<Stops<B>>(seat, 3075, 1);
 }
 
 // Loads the stop word.
-pub fn load_stop<B: Told>(board: &Board, seat: &mut Seat, id: u8, mine: &Vec<Entry>) -> u64
+pub fn load_stop<B: Told>(board: &Board, seat: &mut Seat, id: u8, mine: &OwnList) -> u64
     requires table { OfTable seat.old.table_id board.now.table_id (key_of board.now.key) }
-    requires ready { IsReady seat.old.me.0 id (map seen mine.now.items) }
-    requires told { B.view ≡ caught_up seat.old.me.0 id (map seen mine.now.items) }
+    requires ready { IsReady seat.old.me.0 id mine.now.entries }
+    requires told { B.view ≡ caught_up seat.old.me.0 id mine.now.entries }
     ensures seat { (seat.new.table_id ≡ seat.old.table_id) × (seat.new.id ≡ seat.old.id) }
-    ensures saw { Saw (Stop result) (caught_up seat.old.me.0 id (map seen mine.now.items)) seat.old.me.1 seat.new.me }
+    ensures saw { Saw (Stop result) (caught_up seat.old.me.0 id mine.now.entries) seat.old.me.1 seat.new.me }
 {
     board.load::<SeesStop<B>>(seat, 3075)
 }
@@ -251,30 +240,30 @@ pub fn open_number<B: Told>(
     board: &Board,
     seat: &mut Seat,
     id: u8,
-    mine: &Vec<Entry>,
+    mine: &OwnList,
     var: u16,
     look: Option<i64>,
 ) -> u64
     requires table { OfTable seat.old.table_id board.now.table_id (key_of board.now.key) }
-    requires ready { IsReady seat.old.me.0 id (map seen mine.now.items) }
-    requires told { (B.view ≡ caught_up seat.old.me.0 id (map seen mine.now.items)) × (B.mark.shelf ≡ shelf id (map seen mine.now.items)) × (B.mark.block ≡ block_of (map seen mine.now.items)) × (B.object ≡ var) × (B.look ≡ look) }
+    requires ready { IsReady seat.old.me.0 id mine.now.entries }
+    requires told { (B.view ≡ caught_up seat.old.me.0 id mine.now.entries) × (B.mark.shelf ≡ shelf id mine.now.entries) × (B.mark.block ≡ block_of mine.now.entries) × (B.object ≡ var) × (B.look ≡ look) }
     requires near { var < 1024 }
-    requires may { (taken : ARow) × MayOpen (shelf id (map seen mine.now.items)) (caught_up seat.old.me.0 id (map seen mine.now.items)) B.held var taken (block_of (map seen mine.now.items)) look }
+    requires may { (taken : ARow) × MayOpen (shelf id mine.now.entries) (caught_up seat.old.me.0 id mine.now.entries) B.held var taken (block_of mine.now.entries) look }
     ensures seat { (seat.new.table_id ≡ seat.old.table_id) × (seat.new.id ≡ seat.old.id) }
-    ensures drew { Opened (shelf id (map seen mine.now.items)) B.held var (block_of (map seen mine.now.items)) look (caught_up seat.old.me.0 id (map seen mine.now.items)) seat.old.me.1 result seat.new.me }
+    ensures drew { Opened (shelf id mine.now.entries) B.held var (block_of mine.now.entries) look (caught_up seat.old.me.0 id mine.now.entries) seat.old.me.1 result seat.new.me }
 {
     board.fetch_add::<Opens<B>>(seat, 3 * (var as usize + 1), 1)
 }
 
 // Leaves the turn of a row, which has a value that was owed.
-pub fn leave_paid<B: Told>(board: &Board, seat: &mut Seat, id: u8, mine: &Vec<Entry>, var: u16)
+pub fn leave_paid<B: Told>(board: &Board, seat: &mut Seat, id: u8, mine: &OwnList, var: u16)
     requires table { OfTable seat.old.table_id board.now.table_id (key_of board.now.key) }
-    requires ready { IsReady seat.old.me.0 id (map seen mine.now.items) }
-    requires told { (B.view ≡ caught_up seat.old.me.0 id (map seen mine.now.items)) × (B.object ≡ var) × (B.event.state ≡ head_slot seat.old.me.1) }
+    requires ready { IsReady seat.old.me.0 id mine.now.entries }
+    requires told { (B.view ≡ caught_up seat.old.me.0 id mine.now.entries) × (B.object ≡ var) × (B.event.state ≡ head_slot seat.old.me.1) }
     requires near { var < 1024 }
-    requires back { (row : ARow) × (c : List (ℕ × ASlot)) × (seat.old.me.1 ≡ (var + 1, slot.Row row) ∷ c) × ((taken : ARow) × (value : ℤ) × MayPay (caught_up seat.old.me.0 id (map seen mine.now.items)) B.held var taken value × (row ≡ record taken { value = value })) }
+    requires back { (row : ARow) × (c : List (ℕ × ASlot)) × (seat.old.me.1 ≡ (var + 1, slot.Row row) ∷ c) × ((taken : ARow) × (value : ℤ) × MayPay (caught_up seat.old.me.0 id mine.now.entries) B.held var taken value × (row ≡ record taken { value = value })) }
     ensures seat { (seat.new.table_id ≡ seat.old.table_id) × (seat.new.id ≡ seat.old.id) }
-    ensures left { PaidLeft var B.held (head_slot seat.old.me.1) (caught_up seat.old.me.0 id (map seen mine.now.items)) seat.old.me.1 seat.new.me }
+    ensures left { PaidLeft var B.held (head_slot seat.old.me.1) (caught_up seat.old.me.0 id mine.now.entries) seat.old.me.1 seat.new.me }
 {
     board.store::<Pays<B>>(seat, 3 * (var as usize + 1) + 1, 0);
 }
@@ -284,17 +273,17 @@ pub fn publish_tx<B: Told>(
     board: &Board,
     seat: &mut Seat,
     id: u8,
-    mine: &Vec<Entry>,
+    mine: &OwnList,
     tx: &Tx,
     state: &ListState,
 ) -> u64
     requires table { OfTable seat.old.table_id board.now.table_id (key_of board.now.key) }
-    requires ready { IsReady seat.old.me.0 id (map seen mine.now.items) }
-    requires told { (B.view ≡ caught_up seat.old.me.0 id (map seen mine.now.items)) × (B.event.shelf ≡ shelf id (map seen mine.now.items)) × (B.event.state ≡ slot.List state.now) × (B.tx ≡ tx.now) }
-    requires may { (h : Held) × (l : ListView) × MayPublish (key_of board.now.key) (shelf id (map seen mine.now.items)) (caught_up seat.old.me.0 id (map seen mine.now.items)) h l state.now (λ n. Commit n tx.now) (commit_stamp id tx.now) (pos 0) }
-    requires commits { (p : ℕ) × (m : ℕ) × (question : ℕ → Question) × MayCommit (key_of board.now.key).setting (shelf id (map seen mine.now.items)) (caught_up seat.old.me.0 id (map seen mine.now.items)) tx.now p m question }
+    requires ready { IsReady seat.old.me.0 id mine.now.entries }
+    requires told { (B.view ≡ caught_up seat.old.me.0 id mine.now.entries) × (B.event.shelf ≡ shelf id mine.now.entries) × (B.event.state ≡ slot.List state.now) × (B.tx ≡ tx.now) }
+    requires may { (h : Held) × (l : ListView) × MayPublish (key_of board.now.key) (shelf id mine.now.entries) (caught_up seat.old.me.0 id mine.now.entries) h l state.now (λ n. Commit n tx.now) (commit_stamp id tx.now) (pos 0) }
+    requires commits { (p : ℕ) × (m : ℕ) × (question : ℕ → Question) × MayCommit (key_of board.now.key).setting (shelf id mine.now.entries) (caught_up seat.old.me.0 id mine.now.entries) tx.now p m question }
     ensures seat { (seat.new.table_id ≡ seat.old.table_id) × (seat.new.id ≡ seat.old.id) }
-    ensures published { PublishedTx (shelf id (map seen mine.now.items)) tx.now (slot.List state.now) (caught_up seat.old.me.0 id (map seen mine.now.items)) seat.old.me.1 result seat.new.me }
+    ensures published { PublishedTx (shelf id mine.now.entries) tx.now (slot.List state.now) (caught_up seat.old.me.0 id mine.now.entries) seat.old.me.1 result seat.new.me }
 {
     board.fetch_add::<Commits<B>>(seat, 0, 1)
 }
@@ -304,18 +293,18 @@ pub fn load_cell<B: Told>(
     board: &Board,
     seat: &mut Seat,
     id: u8,
-    mine: &Vec<Entry>,
+    mine: &OwnList,
     pos: u64,
     cell: usize,
     index: usize,
 ) -> u64
     requires table { OfTable seat.old.table_id board.now.table_id (key_of board.now.key) }
-    requires ready { IsReady seat.old.me.0 id (map seen mine.now.items) }
-    requires told { (B.view ≡ caught_up seat.old.me.0 id (map seen mine.now.items)) × (B.key ≡ key_of board.now.key) × (B.object ≡ pos) × (B.index ≡ index) }
+    requires ready { IsReady seat.old.me.0 id mine.now.entries }
+    requires told { (B.view ≡ caught_up seat.old.me.0 id mine.now.entries) × (B.key ≡ key_of board.now.key) × (B.object ≡ pos) × (B.index ≡ index) }
     requires near { (cell ≡ pos % capacity (key_of board.now.key)) × (cell < capacity (key_of board.now.key)) × (cell < 2 ^ 32) × (index < 5) }
-    requires may { (pos < (caught_up seat.old.me.0 id (map seen mine.now.items)).seen) × MayWalk (caught_up seat.old.me.0 id (map seen mine.now.items)) pos }
+    requires may { (pos < (caught_up seat.old.me.0 id mine.now.entries).seen) × MayWalk (caught_up seat.old.me.0 id mine.now.entries) pos }
     ensures seat { (seat.new.table_id ≡ seat.old.table_id) × (seat.new.id ≡ seat.old.id) }
-    ensures saw { SawCell (capacity (key_of board.now.key)) pos index (caught_up seat.old.me.0 id (map seen mine.now.items)) seat.old.me.1 result seat.new.me }
+    ensures saw { SawCell (capacity (key_of board.now.key)) pos index (caught_up seat.old.me.0 id mine.now.entries) seat.old.me.1 result seat.new.me }
 {
     board.load::<SeesCell<B>>(seat, 3076 + 5 * cell + index)
 }
@@ -325,17 +314,17 @@ pub fn load_event<B: Told>(
     board: &Board,
     seat: &mut Seat,
     id: u8,
-    mine: &Vec<Entry>,
+    mine: &OwnList,
     pos: u64,
     cell: usize,
 ) -> u64
     requires table { OfTable seat.old.table_id board.now.table_id (key_of board.now.key) }
-    requires ready { IsReady seat.old.me.0 id (map seen mine.now.items) }
-    requires told { (B.view ≡ caught_up seat.old.me.0 id (map seen mine.now.items)) × (B.key ≡ key_of board.now.key) × (B.object ≡ pos) }
+    requires ready { IsReady seat.old.me.0 id mine.now.entries }
+    requires told { (B.view ≡ caught_up seat.old.me.0 id mine.now.entries) × (B.key ≡ key_of board.now.key) × (B.object ≡ pos) }
     requires near { (cell ≡ pos % capacity (key_of board.now.key)) × (cell < capacity (key_of board.now.key)) × (cell < 2 ^ 32) }
-    requires may { (pos < (caught_up seat.old.me.0 id (map seen mine.now.items)).seen) × MayWalk (caught_up seat.old.me.0 id (map seen mine.now.items)) pos }
+    requires may { (pos < (caught_up seat.old.me.0 id mine.now.entries).seen) × MayWalk (caught_up seat.old.me.0 id mine.now.entries) pos }
     ensures seat { (seat.new.table_id ≡ seat.old.table_id) × (seat.new.id ≡ seat.old.id) }
-    ensures saw { SawEvent (capacity (key_of board.now.key)) pos (caught_up seat.old.me.0 id (map seen mine.now.items)) seat.old.me.1 result seat.new.me }
+    ensures saw { SawEvent (capacity (key_of board.now.key)) pos (caught_up seat.old.me.0 id mine.now.entries) seat.old.me.1 result seat.new.me }
 {
     board.load::<SeesEvent<B>>(seat, 3076 + 5 * cell + 4)
 }

@@ -1,5 +1,6 @@
 // The beginning of a table.
 ghost use Rattle.std.specs.Prelude.{◌≡◌, ℕ, ◌+◌, ◌-◌, ◌*◌, ◌≤◌, ◌<◌, ◌∷◌, [], IfOk, IfErr};
+ghost use Rattle.std.specs.List.{All};
 ghost use Rattle.gl_model.specs.declared.limits.TheConstants.{THREADS, FUNCTIONS};
 ghost use Rattle.gl_rule.specs.Objects.{capacity, word_count};
 ghost use Rattle.gl_rule.specs.Opened.{first_slots, shelves_from, sixteen};
@@ -13,6 +14,7 @@ ghost use Rattle.gl_table.specs.Words.{no_words};
 
 use crate::layout::Layout;
 use crate::moves::{Board, Seat};
+use crate::own_list::OwnList;
 use crate::pass::Pass;
 use crate::rule::{Cut, Order};
 use crate::shared::Shared;
@@ -78,10 +80,11 @@ fn cut_pass(board: &Board, seat: &mut Seat, id: u8, alloc: Global) -> Result<Pas
     ensures pass { IfOk result (λ p. p ≡ fresh board.now.table_id id) }
 {
     let order = Vec::with_capacity(alloc, OBJECTS)?;
+    let mine = OwnList::empty(alloc)?;
     Ok(Pass {
         seat: board.split_seat::<Cut>(seat),
         id,
-        mine: Vec::new(alloc),
+        mine,
         seen: 0,
         quiet: false,
         order,
@@ -107,6 +110,7 @@ impl Shared {
     pub fn new(alloc: Global, layout: Layout) -> Result<(Shared, Vec<Pass>), (Layout, AllocError)>
         requires ring { IsRing layout.ring }
         requires main { layout.main < FUNCTIONS }
+        requires starts { All (λ f. f < FUNCTIONS) layout.starts.items }
         ensures key { IfOk result (λ r. r.0.key ≡ key_of layout) }
         ensures passes { IfOk result (λ r. r.1.items ≡ fresh_from r.0.id 0 16) }
         ensures err { IfErr result (λ e. e.0 ≡ layout) }

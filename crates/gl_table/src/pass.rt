@@ -1,5 +1,5 @@
 // What one thread brings to the table and takes from it.
-ghost use Rattle.std.specs.Prelude.{◌≡◌, map, ◌||◌, ℕ, ◌<◌, ◌≤◌, ◌+◌, true, false, suc, Contains, OnOk, OnErr, IfOk, IfErr};
+ghost use Rattle.std.specs.Prelude.{◌≡◌, map, ◌||◌, ℕ, ◌<◌, ◌≤◌, ◌+◌, true, false, suc, Contains, OnOk, OnErr, IfOk, IfErr, Some};
 ghost use Rattle.gl_model.specs.declared.limits.TheConstants.{THREADS};
 ghost use Rattle.gl_model.specs.Entries.{Abort, Over, Plain};
 ghost use Rattle.gl_rule.specs.Adding.{MayCache};
@@ -20,6 +20,7 @@ ghost use Rattle.gl_table.specs.PassView.{view_of, shelf_of, after, after_adding
 ghost use Rattle.gl_table.specs.Putting.{MayAbort, MayPutBack, held_at};
 ghost use Rattle.gl_rule.specs.Taken.{TakenTold};
 ghost use Rattle.gl_draws.specs.RowFacts.{IsWithin};
+ghost use Rattle.gl_rule.specs.Knowledge.{AreBelow};
 ghost use Rattle.gl_rule.specs.View.{Held, Hold, Stop, took, refused, left, saw_tail, saw, saw_floor, raised};
 
 use crate::hold::bring;
@@ -27,6 +28,7 @@ use crate::moves::{
     Board, Seat, leave_turn, load_floor, load_hold, load_stop, load_tail, raise_first, raise_floor,
     set_word, take_turn,
 };
+use crate::own_list::OwnList;
 use gl_model::{Ending, Entry, Row, Tx, Why};
 use gl_rule::Slot;
 use std::alloc::AllocError;
@@ -37,7 +39,7 @@ use std::marker::{Brand, Model};
 pub struct Pass {
     pub(crate) seat: Seat,
     pub(crate) id: u8,
-    pub(crate) mine: Vec<Entry>,
+    pub(crate) mine: OwnList,
     pub(crate) seen: u64,
     // Whether it has put back a state of the list in which no thread is live.
     pub(crate) quiet: bool,
@@ -70,8 +72,8 @@ fn is_over(entry: &Entry) -> bool
     }
 }
 
-fn ends(mine: &Vec<Entry>, quiet: bool) -> bool
-    ensures { result ≡ is_done (map seen mine.now.items) quiet }
+fn ends(mine: &[Entry], quiet: bool) -> bool
+    ensures { result ≡ is_done (map seen mine.now) quiet }
 {
     if mine.is_empty() {
         return quiet;
@@ -109,8 +111,8 @@ fn right_told(entry: &Entry, of: u16) -> RightChange
 }
 
 // The right on a variable, from the end of the list.
-fn right_in(mine: &Vec<Entry>, var: u16) -> Option<(u64, bool)>
-    ensures { result ≡ right_of (map seen mine.now.items) var }
+fn right_in(mine: &[Entry], var: u16) -> Option<(u64, bool)>
+    ensures { result ≡ right_of (map seen mine.now) var }
 {
     let mut i = mine.len();
     while i > 0 {
@@ -145,14 +147,14 @@ impl Pass {
         ensures is { result ≡ is_done self.now.own.mine self.now.quiet }
         ensures done { result ≡ true → IsDone self.now.own.mine self.now.quiet }
     {
-        ends(&self.mine, self.quiet)
+        ends(self.mine.entries(), self.quiet)
     }
 
     /// Number and kind of the last numbered performed access of the variable since the last event or dropped attempt: the right to repeat it.
     pub fn right(&self, var: u16) -> Option<(u64, bool)>
         ensures { result ≡ right_of self.now.own.mine var }
     {
-        right_in(&self.mine, var)
+        right_in(self.mine.entries(), var)
     }
 
     /// Makes room for so many entries more.
@@ -170,7 +172,7 @@ impl Pass {
         requires spare { 0 < self.old.spare }
         ensures { self.new ≡ after_adding self.old (Over ending) }
     {
-        self.mine.push_reserved(Entry::Over(ending));
+        self.mine.push(Entry::Over(ending));
     }
 
     /// Ends an attempt that is dropped, with its entry.
@@ -180,7 +182,7 @@ impl Pass {
         ensures { self.new ≡ after_adding self.old (Abort tx.value why) }
     {
         tx.keeps();
-        self.mine.push_reserved(Entry::Abort { tx, why });
+        self.mine.push(Entry::Abort { tx, why });
     }
 
     /// Repeats its last access of the variable, whose number is `nth`.
@@ -189,7 +191,7 @@ impl Pass {
         requires spare { 0 < self.old.spare }
         ensures { self.new ≡ after_adding self.old (Plain var nth true write value false) }
     {
-        self.mine.push_reserved(Entry::Plain {
+        self.mine.push(Entry::Plain {
             var,
             nth,
             cached: true,
@@ -224,6 +226,7 @@ pub(crate) fn see_tail(board: &Board, pass: &mut Pass) -> u64
     ensures pass { pass.new ≡ after pass.old (saw_tail (view_of pass.old) result) }
     ensures later { pass.old.seen ≤ result }
     ensures within { (h : Held) (row : ARow) → Contains pass.old.own.held h → h.taken ≡ slot.Row row → IsWithin row result }
+    ensures below { AreBelow result (shelf_of pass.old) }
 {
     let tail = load_tail::<Brand>(board, &mut pass.seat, pass.id, &pass.mine);
     pass.seen = tail;
@@ -235,6 +238,7 @@ pub(crate) fn see_hold(board: &Board, pass: &mut Pass, k: u16) -> u64
     requires table { OfTable pass.old.own.table board.now.table_id (key_of board.now.key) }
     requires near { k < objects }
     ensures pass { pass.new ≡ after pass.old (saw (view_of pass.old) (Hold k result)) }
+    ensures risen { (m : ℕ) → Contains pass.old.reads (Hold k m) → m ≤ result }
 {
     load_hold::<Brand>(board, &mut pass.seat, pass.id, &pass.mine, k)
 }
@@ -254,7 +258,7 @@ pub(crate) fn lower(board: &Board, pass: &mut Pass, to: u64) -> u64
 {
     let before = raise_first::<Brand>(board, &mut pass.seat, pass.id, &pass.mine, to);
     if before < to {
-        pass.mine.push_reserved(Entry::Trim { low: to });
+        pass.mine.push(Entry::Trim { low: to });
     }
     before
 }
@@ -297,6 +301,7 @@ pub(crate) fn see_floor(board: &Board, pass: &mut Pass, var: u16) -> u64
     requires near { var < 1024 }
     requires held { Contains pass.old.own.held (held_at (var + 1) pass.old.own.held) × ((held_at (var + 1) pass.old.own.held).object ≡ suc var) }
     ensures pass { pass.new ≡ after pass.old (saw_floor (view_of pass.old) (held_at (var + 1) pass.old.own.held) result) }
+    ensures same { (m : ℕ) → (held_at (var + 1) pass.old.own.held).floor ≡ Some m → result ≡ m }
 {
     load_floor::<Brand>(board, &mut pass.seat, pass.id, &pass.mine, var)
 }

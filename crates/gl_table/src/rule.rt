@@ -108,10 +108,9 @@ impl<B: Told> Play<Slot, Know> for SeesTail<B> {
 pub struct SeesHold<B>(PhantomData<B>);
 
 impl<B: Told> Play<Slot, Know> for SeesHold<B> {
-    ghost use Rattle.gl_rule.specs.Told.{Saw};
-    ghost use Rattle.gl_rule.specs.View.{Hold};
+    ghost use Rattle.gl_rule.specs.Told.{SawHold};
 
-    ghost then = { λ s v n w. Saw (Hold B.object n) B.view v.1 w };
+    ghost then = { λ s v n w. SawHold B.object B.view v.1 n w };
 }
 
 pub struct Puts<B>(PhantomData<B>);

@@ -1,5 +1,5 @@
 // The table that threads share.
-ghost use Rattle.std.specs.Prelude.{◌≡◌, ◌≢◌, max, Contains, ℕ, ◌+◌, ◌*◌, ◌<◌, ◌≤◌, IsTrue, ◌↔◌, IfOk, OnOk, IfErr, [], pos, suc, false, List};
+ghost use Rattle.std.specs.Prelude.{◌≡◌, ◌≢◌, max, Contains, ℕ, ◌+◌, ◌*◌, ◌<◌, ◌≤◌, IsTrue, ◌↔◌, IfOk, OnOk, IfErr, [], pos, suc, false, List, Some};
 ghost use Rattle.gl_model.specs.declared.limits.TheConstants.{MONITORS, VARIABLES};
 ghost use Rattle.gl_segments.specs.Rings.{IsRing};
 ghost use Rattle.gl_rule.specs.Objects.{capacity, objects};
@@ -14,6 +14,8 @@ ghost use Rattle.gl_table.specs.PassView.{view_of, shelf_of, after};
 ghost use Rattle.gl_table.specs.Putting.{MayPutBack, MayPublishAct, MayMarkPlain, MayOpenOn, MayPayOn, held_at, marked_plain, opened, paid_back, published_act};
 ghost use Rattle.gl_rule.specs.Taken.{StateTold};
 ghost use Rattle.gl_draws.specs.RowFacts.{IsWithin};
+ghost use Rattle.gl_rule.specs.Knowledge.{AreBelow};
+ghost use Rattle.gl_rule.specs.Told.{IsAboveDrawn};
 ghost use Rattle.gl_rule.specs.View.{Held, Hold, Stop, took, refused, left, saw_tail, saw, saw_floor, raised};
 ghost use Rattle.gl_rule.specs.declared.slot.Slot.TheVariants as slot;
 
@@ -81,12 +83,13 @@ impl Shared {
         put_object(&self.table.shared, pass, 0, Slot::List(state), quiet);
     }
 
-    /// Loads the tail. The Infos of each row that the pass holds lie within it.
+    /// Loads the tail. The Infos of each row that the pass holds lie within it, and the pass's own events below it.
     pub fn tail(&self, pass: &mut Pass) -> u64
         requires table { pass.old.own.table ≡ self.now.id }
         ensures pass { pass.new ≡ after pass.old (saw_tail (view_of pass.old) result) }
         ensures later { pass.old.seen ≤ result }
         ensures within { (h : Held) (row : ARow) → Contains pass.old.own.held h → h.taken ≡ slot.Row row → IsWithin row result }
+        ensures below { AreBelow result (shelf_of pass.old) }
     {
         see_tail(&self.table.shared, pass)
     }
@@ -200,21 +203,24 @@ impl Shared {
         mark_plain(&self.table.shared, pass, var, write, value, raised)
     }
 
-    /// Loads the hold of a row: no position below it is walked from for the variable.
+    /// Loads the hold of a row: no position below it is walked from for the variable. It is no less than this pass has loaded it before.
     pub fn hold_of(&self, pass: &mut Pass, var: u16) -> u64
         requires table { pass.old.own.table ≡ self.now.id }
         requires near { var < VARIABLES }
         ensures pass { pass.new ≡ after pass.old (saw (view_of pass.old) (Hold (var + 1) result)) }
+        ensures risen { (m : ℕ) → Contains pass.old.reads (Hold (var + 1) m) → m ≤ result }
     {
         see_hold(&self.table.shared, pass, var + 1)
     }
 
-    /// Loads the hold of a row that the pass holds, which stays as it is until the row is put back, or until the pass raises it.
+    /// Loads the hold of a row that the pass holds, which stays as it is until the row is put back, or until the pass raises it: where it
+    /// was loaded or raised since the row was taken, it is that.
     pub fn floor_of(&self, pass: &mut Pass, var: u16) -> u64
         requires table { pass.old.own.table ≡ self.now.id }
         requires near { var < VARIABLES }
         requires held { Contains pass.old.own.held (held_at (var + 1) pass.old.own.held) × ((held_at (var + 1) pass.old.own.held).object ≡ suc var) }
         ensures pass { pass.new ≡ after pass.old (saw_floor (view_of pass.old) (held_at (var + 1) pass.old.own.held) result) }
+        ensures same { (m : ℕ) → (held_at (var + 1) pass.old.own.held).floor ≡ Some m → result ≡ m }
     {
         see_floor(&self.table.shared, pass, var)
     }
@@ -257,12 +263,13 @@ impl Shared {
     }
 
     /// Draws a number on a row that the pass holds, for a look with the row's word, or, with None, for the end of an attempt. It waits
-    /// for the attempt's entry.
+    /// for the attempt's entry, and is above those of the variable that wait already.
     pub fn mark_open(&self, pass: &mut Pass, var: u16, look: Option<i64>) -> u64
         requires table { pass.old.own.table ≡ self.now.id }
         requires near { var < VARIABLES }
         requires may { MayOpenOn pass.old var look }
-        ensures { pass.new ≡ opened pass.old var result look }
+        ensures opened { pass.new ≡ opened pass.old var result look }
+        ensures above { IsAboveDrawn var result pass.old.own.drawn }
     {
         open(&self.table.shared, pass, var, look)
     }

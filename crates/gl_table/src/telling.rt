@@ -1,7 +1,7 @@
 // Publishing an event whose words stand in its cell.
 ghost use Rattle.std.specs.Prelude.{◌≡◌, ℕ, ◌≤◌, ◌<◌, ◌^◌, [], map, length};
 ghost use Rattle.gl_model.specs.declared.event.Event.TheVariants.{Act as Does};
-ghost use Rattle.gl_model.specs.Entries.{Sync, seen};
+ghost use Rattle.gl_model.specs.Entries.{Sync};
 ghost use Rattle.gl_model.specs.Records.{variables_of};
 ghost use Rattle.gl_table.specs.CaughtUp.{caught_up};
 ghost use Rattle.gl_table.specs.Committing.{MayPublishTx, published_tx};
@@ -11,6 +11,7 @@ ghost use Rattle.gl_table.specs.OfTable.{OfTable};
 ghost use Rattle.gl_table.specs.PassInside.{IsReady};
 ghost use Rattle.gl_table.specs.PassView.{view_of, after_storing};
 ghost use Rattle.gl_table.specs.Putting.{MayPutWords, MayPublishAct, MayMarkPlain, MayOpenOn, MayPayOn, marked_plain, opened, paid_back, published_act};
+ghost use Rattle.gl_rule.specs.Told.{IsAboveDrawn};
 ghost use Rattle.gl_rule.specs.View.{published};
 ghost use Rattle.gl_rule.specs.declared.slot.Slot.TheVariants as slot;
 
@@ -18,6 +19,7 @@ use crate::hold::bring;
 use crate::moves::{
     Board, Seat, draw_number, leave_paid, open_number, publish_act, publish_tx, put_word,
 };
+use crate::own_list::OwnList;
 use crate::pack::{pack, pack_commit};
 use crate::pass::Pass;
 use gl_model::{Act, Entry, Tx, VarSet};
@@ -26,15 +28,15 @@ use gl_state::{KeptRow, ListState};
 use std::marker::Brand;
 
 // Stores the words in the cell of the tail.
-fn put_words(board: &Board, seat: &mut Seat, id: u8, mine: &Vec<Entry>, cell: usize, words: &[u64])
+fn put_words(board: &Board, seat: &mut Seat, id: u8, mine: &OwnList, cell: usize, words: &[u64])
     requires table { OfTable seat.old.table_id board.now.table_id (key_of board.now.key) }
-    requires ready { IsReady seat.old.me.0 id (map seen mine.now.items) }
+    requires ready { IsReady seat.old.me.0 id mine.now.entries }
     requires near { (cell < capacity (key_of board.now.key)) × (cell < 2 ^ 32) }
-    requires may { MayPutWords (key_of board.now.key) (caught_up seat.old.me.0 id (map seen mine.now.items)) cell }
+    requires may { MayPutWords (key_of board.now.key) (caught_up seat.old.me.0 id mine.now.entries) cell }
     requires five { length words.now ≡ 5 }
     ensures seat { (seat.new.table_id ≡ seat.old.table_id) × (seat.new.id ≡ seat.old.id) × (seat.new.me.1 ≡ seat.old.me.1) }
-    ensures ready { IsReady seat.new.me.0 id (map seen mine.now.items) }
-    ensures stored { caught_up seat.new.me.0 id (map seen mine.now.items) ≡ record (caught_up seat.old.me.0 id (map seen mine.now.items)) { stored = words.now } }
+    ensures ready { IsReady seat.new.me.0 id mine.now.entries }
+    ensures stored { caught_up seat.new.me.0 id mine.now.entries ≡ record (caught_up seat.old.me.0 id mine.now.entries) { stored = words.now } }
 {
     for (i, word) in words.iter().enumerate() {
         put_word::<Brand>(board, seat, id, mine, cell, i, *word);
@@ -76,7 +78,7 @@ pub(crate) fn publish(
         value,
         state,
     );
-    pass.mine.push_reserved(Entry::Sync {
+    pass.mine.push(Entry::Sync {
         at,
         act: *act,
         value,
@@ -113,7 +115,7 @@ pub(crate) fn commit(
     );
     let at = publish_tx::<Brand>(board, &mut pass.seat, pass.id, &pass.mine, &tx, state);
     tx.keeps();
-    pass.mine.push_reserved(Entry::Commit { at, tx });
+    pass.mine.push(Entry::Commit { at, tx });
     pass.seen = at + 1;
     at
 }
@@ -143,7 +145,7 @@ pub(crate) fn mark_plain(
         value,
         raised,
     );
-    pass.mine.push_reserved(Entry::Plain {
+    pass.mine.push(Entry::Plain {
         var,
         nth,
         cached: false,
@@ -160,6 +162,7 @@ pub(crate) fn open(board: &Board, pass: &mut Pass, var: u16, look: Option<i64>) 
     requires near { var < 1024 }
     requires may { MayOpenOn pass.old var look }
     ensures opened { pass.new ≡ opened pass.old var result look }
+    ensures above { IsAboveDrawn var result pass.old.own.drawn }
 {
     open_number::<Brand>(board, &mut pass.seat, pass.id, &pass.mine, var, look)
 }

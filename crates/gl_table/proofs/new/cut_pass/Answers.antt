@@ -7,6 +7,7 @@ use Rattle.gl_model.specs.Kept.{IsEntryKept}
 use Rattle.gl_rule.specs.declared.slot.Slot.{Slot}
 use Rattle.gl_rule.specs.View.{View, shelf, blank}
 use Rattle.gl_table.specs.PassInside.{IsPass}
+use Rattle.gl_table.specs.Stored.{Stored}
 use Rattle.gl_table.proofs.Closings.{cuts, cut_views}
 use Rattle.gl_table.proofs.Passes.{is_pass}
 use Rattle.gl_table.proofs.Out.{none_out}
@@ -31,7 +32,7 @@ invariant_of-result c =
     let is : c.split_seat.result.me ≡ (blank (shelf c.args.id [] ∷ []), []) = e.4 ∙ ap (λ (z : View). let r : table.Me Slot View = (z, []) in r) v in
     let fresh : IsPass (blank (shelf c.args.id [] ∷ []), []) c.args.id [] 0 [] false = is_pass (blank (shelf c.args.id [] ∷ [])) [] c.args.id [] 0 [] false refl c.requires.named refl refl refl none_out (none_below c.args.id) (All-nil IsEntryKept) in
     record {
-      pass = subst (λ (o : List ℕ). IsPass c.split_seat.result.me c.args.id (map seen c.new.result.items) 0 o false) (sym c.in_ok-order.ensures.items)
-          (subst (λ (l : List Entry). IsPass c.split_seat.result.me c.args.id l 0 [] false) (sym (ap (map seen) c.new.ensures.items)) (subst (λ (m : table.Me Slot View). IsPass m c.args.id [] 0 [] false) (sym is) fresh));
+      pass = subst (λ (o : List ℕ). IsPass c.split_seat.result.me c.args.id c.in_ok-mine.mine.entries 0 o false) (sym c.in_ok-order.ensures.items)
+          (subst (λ (l : List Entry). IsPass c.split_seat.result.me c.args.id l 0 [] false) (sym (ap (λ (s : Stored). s.entries) c.in_ok-mine.ensures)) (subst (λ (m : table.Me Slot View). IsPass m c.args.id [] 0 [] false) (sym is) fresh));
       room = c.in_ok-order.ensures.capacity;
     }

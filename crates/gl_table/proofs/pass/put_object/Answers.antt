@@ -26,7 +26,7 @@ bring-requires-clause-there c =
 pub leave_turn-requires-clause-back : goal.leave_turn-requires-clause-back
 leave_turn-requires-clause-back c =
     let m = subst (λ (p : PassView). Asked p c.args.board.now.key c.args.k c.args.slot c.args.quiet) (sym c.pass.view_is) c.requires.may in
-    let mine = map seen c.pass.inside.mine.items in
+    let mine = c.pass.inside.mine.entries in
     let e = c.exchange.ensures.3 in
     let same = sym (ap (λ (m : table.Me Slot View). m.0) e ∙ c.bring.ensures.place.2) in
     (c.args.slot, table.rest c.bring.new.seat.me.1, ap (λ (m : table.Me Slot View). m.1) e, subst (λ (v : View). MayPutBack (key_of c.args.board.now.key).setting (shelf c.pass.inside.id mine) (caught_up v c.pass.inside.id mine) c.args.k c.args.slot c.args.quiet) same m)
@@ -37,7 +37,7 @@ whole o m n e = ap (λ k. take k (o ++ m)) e ∙ take-append_seam o m
 pub invariant_of-pass : goal.invariant_of-pass
 invariant_of-pass c =
     let o = c.bring.new.order in
-    let mine = map seen c.pass.inside.mine.items in
+    let mine = c.pass.inside.mine.entries in
     let kept = c.bring.auto.order in
     let len = c.as_mut_slice.ensures.len in
     let n : c.pass.inside.order.len ≡ length o = omega arith in

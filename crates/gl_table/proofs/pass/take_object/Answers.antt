@@ -23,7 +23,7 @@ invariant_of-pass-2 c =
     let cap = c.in-Ok.ensures.capacity in
     let old = c.pass.invariant.room in
     let is = c.exchange.ensures.3 ∙ ap (λ (m : table.Me Slot View). let r : table.Me Slot View = (m.0, (c.args.k, slot.Empty) ∷ table.rest m.1) in r) s.1 in
-    record { pass = subst (λ l. IsPass c.exchange.new.seat.me c.pass.inside.id (map seen c.pass.inside.mine.items) c.pass.inside.seen l c.pass.inside.quiet) (sym order) (pass_takes _ _ _ _ _ _ c.pass.invariant.pass c.args.k s.0 _ s.3 c.requires.near is); room = omega arith }
+    record { pass = subst (λ l. IsPass c.exchange.new.seat.me c.pass.inside.id c.pass.inside.mine.entries c.pass.inside.seen l c.pass.inside.quiet) (sym order) (pass_takes _ _ _ _ _ _ c.pass.invariant.pass c.args.k s.0 _ s.3 c.requires.near is); room = omega arith }
 
 pub unreachable-requires : goal.unreachable-requires
 unreachable-requires c =

@@ -24,7 +24,7 @@ use Rattle.gl_table.proofs.telling.commit.Goals as goal
 pub publish_tx-at-requires-clause-may : goal.publish_tx-at-requires-clause-may
 publish_tx-at-requires-clause-may c =
     let m = subst (λ (p : PassView). MayPublishTx (key_of c.args.board.now.key) p c.args.tx.value c.args.state.now) (sym c.pass.view_is) c.requires.may in
-    let mine = map seen c.pass.inside.mine.items in
+    let mine = c.pass.inside.mine.entries in
     let id = c.pass.inside.id in
     let now = caught_up c.pass.inside.seat.me.0 id mine in
     let key = key_of c.args.board.now.key in
@@ -39,7 +39,7 @@ publish_tx-at-requires-clause-may c =
 pub publish_tx-at-requires-clause-commits : goal.publish_tx-at-requires-clause-commits
 publish_tx-at-requires-clause-commits c =
     let m = subst (λ (p : PassView). MayPublishTx (key_of c.args.board.now.key) p c.args.tx.value c.args.state.now) (sym c.pass.view_is) c.requires.may in
-    let mine = map seen c.pass.inside.mine.items in
+    let mine = c.pass.inside.mine.entries in
     let id = c.pass.inside.id in
     let setting = (key_of c.args.board.now.key).setting in (
       m.block,
@@ -52,37 +52,38 @@ publish_tx-at-requires-clause-commits c =
 told_as : (P : Tx → Type 0) (a b : Tx) → a ≡ b → P a → P b
 told_as P a b e p = subst P e p
 
+pub push-requires-clause-kept : goal.push-requires-clause-kept
+push-requires-clause-kept c = told_as IsTxKept _ c.args.tx.value c.deref-2.ensures c.keeps.ensures
+
 pub invariant_of-pass : goal.invariant_of-pass
 invariant_of-pass c =
-    let mine = map seen c.pass.inside.mine.items in
+    let mine = c.pass.inside.mine.entries in
     let id = c.pass.inside.id in
     let tx = c.args.tx.value in
     let n = c.publish_tx-at.result in
-    let items = ap (map seen) c.push_reserved.ensures.items ∙ map-append seen c.pass.inside.mine.items _ in
+    let items = c.push.ensures.entries in
     let told = told_as (λ z. PublishedTx (shelf id mine) z (slot.List c.args.state.now) (caught_up c.put_words.new.seat.me.0 id mine) c.put_words.new.seat.me.1 n c.publish_tx-at.new.seat.me) _ tx c.deref.ensures c.publish_tx-at.ensures.published in
     let kept : IsTxKept tx = told_as IsTxKept _ tx c.deref-2.ensures c.keeps.ensures in
     record { pass = (pass_tells _ _ _ _ _ _ c.pass.invariant.pass _ (Commit n tx) (commit_stamp id tx) (drew_commit (variables_of tx) (draw id n (Entered (Commit n tx)))) (slot.List c.args.state.now) _ _ n _ _ c.put_words.ensures.stored c.put_words.ensures.seat.2 items told.1 told.2 refl kept).0; room = c.pass.invariant.room }
 
 pub returns : goal.returns
 returns c =
-    let mine = map seen c.pass.inside.mine.items in
+    let mine = c.pass.inside.mine.entries in
     let id = c.pass.inside.id in
     let tx = c.args.tx.value in
     let n = c.publish_tx-at.result in
     let z = c.pass.inside.seat.table_id in
-    let more = ap (map seen) c.push_reserved.ensures.items ∙ map-append seen c.pass.inside.mine.items _ in
+    let more = c.push.ensures.entries in
     let told = told_as (λ z. PublishedTx (shelf id mine) z (slot.List c.args.state.now) (caught_up c.put_words.new.seat.me.0 id mine) c.put_words.new.seat.me.1 n c.publish_tx-at.new.seat.me) _ tx c.deref.ensures c.publish_tx-at.ensures.published in
     let kept : IsTxKept tx = told_as IsTxKept _ tx c.deref-2.ensures c.keeps.ensures in
     let r = pass_tells _ _ _ _ _ _ c.pass.invariant.pass _ (Commit n tx) (commit_stamp id tx) (drew_commit (variables_of tx) (draw id n (Entered (Commit n tx)))) (slot.List c.args.state.now) _ _ n _ _ c.put_words.ensures.stored c.put_words.ensures.seat.2 more told.1 told.2 refl kept in
     let is = r.1 in
     let same = c.publish_tx-at.ensures.seat.0 ∙ c.put_words.ensures.seat.0 in
-    let cap = c.push_reserved.ensures.capacity in
-    let len = c.push_reserved.ensures.len in
-    let old = vec_capacity c.pass.inside.mine - vec_len c.pass.inside.mine - 1 in
-    let left : vec_capacity c.push_reserved.new.self - vec_len c.push_reserved.new.self ≡ old = omega arith in
-    let mine' = map seen c.push_reserved.new.self.items in
+    let old = c.pass.inside.mine.spare - 1 in
+    let left = c.push.ensures.spare in
+    let mine' = c.push.new.self.entries in
     record {
-      published = ap (λ y. pass_of y id mine' (caught_up c.publish_tx-at.new.seat.me.0 id mine') (vec_capacity c.push_reserved.new.self - vec_len c.push_reserved.new.self)) same
+      published = ap (λ y. pass_of y id mine' (caught_up c.publish_tx-at.new.seat.me.0 id mine') c.push.new.self.spare) same
           ∙ ap (λ s. pass_of z id mine' (caught_up c.publish_tx-at.new.seat.me.0 id mine') s) left
           ∙ ap (λ v. pass_of z id mine' v old) is
           ∙ ap (λ l. pass_of z id l (published (caught_up c.pass.inside.seat.me.0 id mine) id mine (Commit n tx) n (commit_stamp id tx) (slot.List c.args.state.now) (drew_commit (variables_of tx) (draw id n (Entered (Commit n tx))))) old) more

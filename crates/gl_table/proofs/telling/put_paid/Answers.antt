@@ -17,13 +17,13 @@ use Rattle.gl_table.proofs.telling.put_paid.Goals as goal
 pub bring-requires-clause-there : goal.bring-requires-clause-there
 bring-requires-clause-there c =
     let m = subst (λ (p : PassView). MayPayOn p c.args.var c.args.row) (sym c.pass.view_is) c.requires.may in
-    let object : (held_at (c.args.var + 1) (caught_up c.pass.inside.seat.me.0 c.pass.inside.id (map seen c.pass.inside.mine.items)).held).object ≡ c.args.var + 1 = (let e = m.may.object in omega arith) in
+    let object : (held_at (c.args.var + 1) (caught_up c.pass.inside.seat.me.0 c.pass.inside.id c.pass.inside.mine.entries).held).object ≡ c.args.var + 1 = (let e = m.may.object in omega arith) in
     subst (λ l. Contains l (c.args.var + 1)) (sym c.as_mut_slice.ensures.value) (subst (λ k. Contains c.pass.inside.order.items k) object (is_out _ _ _ _ _ _ c.pass.invariant.pass _ m.may.held))
 
 pub leave_paid-requires-clause-back : goal.leave_paid-requires-clause-back
 leave_paid-requires-clause-back c =
     let m = subst (λ (p : PassView). MayPayOn p c.args.var c.args.row) (sym c.pass.view_is) c.requires.may in
-    let mine = map seen c.pass.inside.mine.items in
+    let mine = c.pass.inside.mine.entries in
     let e = c.exchange.ensures.3 in
     let same = sym (ap (λ (m : table.Me Slot View). m.0) e ∙ c.bring.ensures.place.2) in (
       c.args.row,
@@ -38,7 +38,7 @@ whole o m n e = ap (λ k. take k (o ++ m)) e ∙ take-append_seam o m
 pub invariant_of-pass : goal.invariant_of-pass
 invariant_of-pass c =
     let o = c.bring.new.order in
-    let mine = map seen c.pass.inside.mine.items in
+    let mine = c.pass.inside.mine.entries in
     let id = c.pass.inside.id in
     let x = c.args.var in
     let m = subst (λ (p : PassView). MayPayOn p c.args.var c.args.row) (sym c.pass.view_is) c.requires.may in

@@ -27,5 +27,5 @@ put_word-requires-clause-near c = let five = c.requires.five in let test = c.loo
 pub loop-i-preserved : goal.loop-i-preserved
 loop-i-preserved c =
     let i = c.loop-i.invariant in
-    let w = words_next c.loop-i.seat.me.0 (caught_up c.args.seat.now.me.0 c.args.id (map seen c.args.mine.now.items)) c.loop-i.seat.me.1 c.args.id (map seen c.args.mine.now.items) c.loop-i.i _ c.args.words.now _ c.requires.ready.named refl i.4 c.put_word.ensures.put (sym (take_more c.args.words.now c.loop-i.i 0 c.loop-i-test.true)) in
+    let w = words_next c.loop-i.seat.me.0 (caught_up c.args.seat.now.me.0 c.args.id c.args.mine.now.entries) c.loop-i.seat.me.1 c.args.id c.args.mine.now.entries c.loop-i.i _ c.args.words.now _ c.requires.ready.named refl i.4 c.put_word.ensures.put (sym (take_more c.args.words.now c.loop-i.i 0 c.loop-i-test.true)) in
     (c.put_word.ensures.seat.0 ∙ i.0, c.put_word.ensures.seat.1 ∙ i.1, w.0 ∙ i.2, w.1, w.2)

@@ -9,8 +9,8 @@ use Rattle.gl_table.proofs.telling.put_words.Given as goal
 abbrev pub invariant-loop-i : goal.invariant-loop-i
 invariant-loop-i l =
     (l.seat.table_id ≡ l.initial.seat.table_id) × (l.seat.id ≡ l.initial.seat.id) × (l.seat.me.1 ≡ l.initial.seat.me.1)
-    × IsReady l.seat.me.0 l.id (map seen l.mine.items)
-    × (caught_up l.seat.me.0 l.id (map seen l.mine.items) ≡ record (caught_up l.initial.seat.me.0 l.id (map seen l.mine.items)) { stored = take l.i l.words })
+    × IsReady l.seat.me.0 l.id l.mine.entries
+    × (caught_up l.seat.me.0 l.id l.mine.entries ≡ record (caught_up l.initial.seat.me.0 l.id l.mine.entries) { stored = take l.i l.words })
 
 abbrev pub ghosts-put_word : goal.ghosts-put_word
-ghosts-put_word a = record { view = caught_up a.seat.now.me.0 a.id (map seen a.mine.now.items); setting = trace_setting; key = no_key; object = 0; quiet = false; held = no_held; event = no_event; mark = no_mark; look = None; tx = no_tx; index = 0 }
+ghosts-put_word a = record { view = caught_up a.seat.now.me.0 a.id a.mine.now.entries; setting = trace_setting; key = no_key; object = 0; quiet = false; held = no_held; event = no_event; mark = no_mark; look = None; tx = no_tx; index = 0 }

@@ -1,6 +1,5 @@
-use Rattle.std.proofs.Common.{◌≡◌, ◌-◌, map, refl, ap, arith, ◌∙◌, vec_capacity, vec_len}
-use Rattle.std.proofs.lemmas.List.{map-append}
-use Rattle.gl_model.specs.Entries.{Entry, Over, seen}
+use Rattle.std.proofs.Common.{◌-◌, refl, ap, ◌∙◌}
+use Rattle.gl_model.specs.Entries.{Entry, Over}
 use Rattle.gl_table.specs.CaughtUp.{caught_up, adds_one}
 use Rattle.gl_rule.specs.Lives.{life_of}
 use Rattle.gl_table.specs.PassView.{PassView, pass_of, after_adding}
@@ -11,28 +10,23 @@ use Rattle.gl_table.proofs.pass.Pass.over.Goals as goal
 
 pub invariant_of-self : goal.invariant_of-self
 invariant_of-self c =
-    let mine = map seen c.self.inside.mine.items in
-    let items = c.push_reserved.ensures.items in
+    let mine = c.self.inside.mine.entries in
     let m = may_end c.self.inside.id mine (ap (λ (p : PassView). life_of p.own.mine) c.self.view_is ∙ c.requires.ends) in
-    record { pass = (pass_adds _ _ _ _ _ _ c.self.invariant.pass (Over c.args.ending) _ (λ u e. (shelf c.self.inside.id mine, refl, m, e)) refl refl refl c.self.invariant.pass.out refl tt (ap (map seen) items ∙ map-append seen c.self.inside.mine.items _)).0; room = c.self.invariant.room }
+    record { pass = (pass_adds _ _ _ _ _ _ c.self.invariant.pass (Over c.args.ending) _ (λ u e. (shelf c.self.inside.id mine, refl, m, e)) refl refl refl c.self.invariant.pass.out refl tt c.push.ensures.entries).0; room = c.self.invariant.room }
 
 pub returns : goal.returns
 returns c =
-    let mine = map seen c.self.inside.mine.items in
-    let items = c.push_reserved.ensures.items in
+    let mine = c.self.inside.mine.entries in
     let m = may_end c.self.inside.id mine (ap (λ (p : PassView). life_of p.own.mine) c.self.view_is ∙ c.requires.ends) in
-    let more = ap (map seen) items ∙ map-append seen c.self.inside.mine.items _ in
     let e : Entry = Over c.args.ending in
+    let more = c.push.ensures.entries in
     let is = (pass_adds _ _ _ _ _ _ c.self.invariant.pass e _ (λ u e. (shelf c.self.inside.id mine, refl, m, e)) refl refl refl c.self.invariant.pass.out refl tt more).1 in
     let id = c.self.inside.id in
     let z = c.self.inside.seat.table_id in
     let now = caught_up c.self.inside.seat.me.0 id mine in
-    let old = vec_capacity c.self.inside.mine - vec_len c.self.inside.mine - 1 in
-    let cap = c.push_reserved.ensures.capacity in
-    let len = c.push_reserved.ensures.len in
-    let left : vec_capacity c.push_reserved.new.self - vec_len c.push_reserved.new.self ≡ old = omega arith in
-    let mine' = map seen c.push_reserved.new.self.items in
-    ap (λ s. pass_of z id mine' (caught_up c.self.inside.seat.me.0 id mine') s) left
+    let old = c.self.inside.mine.spare - 1 in
+    let mine' = c.push.new.self.entries in
+    ap (λ s. pass_of z id mine' (caught_up c.self.inside.seat.me.0 id mine') s) c.push.ensures.spare
     ∙ ap (λ v. pass_of z id mine' v old) is
     ∙ ap (λ l. pass_of z id l (adds_one now id mine e) old) more
     ∙ ap (λ (p : PassView). after_adding p e) c.self.view_is
