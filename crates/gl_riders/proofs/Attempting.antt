@@ -23,9 +23,9 @@ use Rattle.gl_bytecode.specs.Machine.{Attempt, Config}
 use Rattle.gl_bytecode.specs.Programs.{Bytecode}
 use Rattle.gl_bytecode.specs.Runs.{Made, Quiet, Progress, word_of, with_word, same_words, touched, knows, known_word, is_word, is_its_end, is_quiet, looks_after, writes_after, reply_of, without_trims}
 use Rattle.gl_draws.specs.Ties.{Drawn}
-use Rattle.gl_access.specs.declared.Seen.{Seen}
-use Rattle.gl_access.specs.declared.Seen.TheVariants.{Value, Raised}
-use Rattle.gl_access.specs.Accessing.{HasEntry, is_raised, value_told}
+use Rattle.gl_rows.specs.declared.accessing.Seen.{Seen}
+use Rattle.gl_rows.specs.declared.accessing.Seen.TheVariants.{Value, Raised}
+use Rattle.gl_rows.specs.Accessing.{HasEntry, is_raised, value_told}
 use Rattle.gl_rule.specs.Lives.{Life, Running, life_after, life_of}
 use Rattle.gl_table.specs.PassView.{Own}
 use Rattle.gl_table.specs.RightOf.{right_of}
@@ -37,7 +37,7 @@ use Rattle.gl_txn.specs.Reading.{IsRead, ReadBy}
 use Rattle.gl_txn.specs.Trying.{Draws}
 use Rattle.gl_vm.specs.Asking.{levels_told}
 use Rattle.gl_riders.specs.Exchanges.{IsAnswered, IsRightly, LeavesRightly, life_told, suits}
-use Rattle.gl_access.specs.Levels.{levels_entry, levels_of}
+use Rattle.gl_rule.specs.Levels.{levels_entry, levels_of}
 use Rattle.gl_riders.specs.Owing.{PlainBy, repeat_number, repeated}
 use Rattle.gl_riders.specs.Riding.{DrawsFor, looks_of, writes_of, progress_of}
 use Rattle.gl_riders.specs.Sparing.{allows}

@@ -25,7 +25,7 @@ use Rattle.gl_table.specs.PassView.{Own}
 use Rattle.gl_table.specs.RightOf.{right_of}
 use Rattle.gl_txn.specs.Attempts.{Attempting}
 use Rattle.gl_riders.specs.Exchanges.{IsAnswered, LeavesRightly, RepeatsRightly, life_told, suits}
-use Rattle.gl_access.specs.Levels.{levels_of}
+use Rattle.gl_rule.specs.Levels.{levels_of}
 use Rattle.gl_riders.specs.Riding.{DrawsFor, Rides, life_of_state, progress_of}
 use Rattle.gl_riders.specs.Sparing.{Spares, allows}
 use Rattle.gl_riders.specs.Sweeping.{AreTrims, IsSwept}

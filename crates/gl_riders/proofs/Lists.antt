@@ -6,7 +6,7 @@ use Rattle.gl_bytecode.specs.Runs.{without_trims}
 use Rattle.gl_draws.specs.Ties.{counted}
 use Rattle.gl_rule.specs.Lives.{Life, Unbegun, Running, Ended, Closed, life_after, life_from, life_of}
 use Rattle.gl_table.specs.RightOf.{right_after, right_from, right_of}
-use Rattle.gl_access.specs.Levels.{levels_entry, levels_from, levels_of}
+use Rattle.gl_rule.specs.Levels.{levels_entry, levels_from, levels_of}
 use Rattle.gl_riders.specs.Sweeping.{AreTrims}
 
 life_from-append : (life : Life) (xs ys : List Entry) → life_from life (xs ++ ys) ≡ life_from (life_from life xs) ys

@@ -17,9 +17,9 @@ use Rattle.gl_rule.proofs.Lasting.{has_block, no_end}
 use Rattle.gl_table.specs.PassView.{Own, PassView, shelf_of, view_of}
 use Rattle.gl_table.specs.RightOf.{right_of}
 use Rattle.gl_table.proofs.RightOf.{right_stands}
-use Rattle.gl_access.specs.Accessing.{HasEntry, is_raised, value_told}
-use Rattle.gl_access.specs.declared.Seen.{Seen}
-use Rattle.gl_access.specs.declared.Seen.TheVariants.{Value, Raised}
+use Rattle.gl_rows.specs.Accessing.{HasEntry, is_raised, value_told}
+use Rattle.gl_rows.specs.declared.accessing.Seen.{Seen}
+use Rattle.gl_rows.specs.declared.accessing.Seen.TheVariants.{Value, Raised}
 use Rattle.gl_riders.specs.Owing.{HasWord, IsLast, MayWrite, Owns, repeat_number, repeated}
 use Rattle.gl_riders.specs.Sweeping.{IsSwept}
 use Rattle.gl_riders.proofs.Lists.{right_push, right_swept}
@@ -51,13 +51,13 @@ paid ws own new x a owns near changed new_is = rw new_is (record {
     long = length-set ws x (clean_word (word_at ws x)) ∙ owns.long;
     owed = λ y b. elim (ℕ_discrete y x) [
       | yes same ↦ (
-          (λ there. absurd (not_other x y b (filter_says (others x) own.owed (y, b) there) same)),
-          (λ is. absurd (never_changed (word_at ws x) b (sym (word_same ws x (clean_word (word_at ws x)) near owns.long) ∙ (rw same at is)))),
-        )
+        (λ there. absurd (not_other x y b (filter_says (others x) own.owed (y, b) there) same)),
+        (λ is. absurd (never_changed (word_at ws x) b (sym (word_same ws x (clean_word (word_at ws x)) near owns.long) ∙ (rw same at is)))),
+      )
       | no apart ↦ (
-          (λ there. word_other ws x y (clean_word (word_at ws x)) apart ∙ (owns.owed y b).0 (filter_has (others x) own.owed (y, b) there)),
-          (λ is. filter_keeps (others x) own.owed (y, b) ((owns.owed y b).1 (sym (word_other ws x y (clean_word (word_at ws x)) apart) ∙ is)) (is_other x y b apart)),
-        )
+        (λ there. word_other ws x y (clean_word (word_at ws x)) apart ∙ (owns.owed y b).0 (filter_has (others x) own.owed (y, b) there)),
+        (λ is. filter_keeps (others x) own.owed (y, b) ((owns.owed y b).1 (sym (word_other ws x y (clean_word (word_at ws x)) apart) ∙ is)) (is_other x y b apart)),
+      )
     ];
     kept = λ y r right. elim (ℕ_discrete y x) [ yes same ↦ at_its y (owns.kept y r right) same | no apart ↦ elsewhere y (owns.kept y r right) apart ];
     writes = λ y b there. owns.writes y b (filter_has (others x) own.owed (y, b) there);
@@ -162,28 +162,28 @@ owns_write ws own new x nth a owns near may new_is = rw new_is (record {
   long = length-set ws x (Some w) ∙ owns.long;
   owed = λ y b. elim (ℕ_discrete y x) [
     | yes here ↦ (
-        (λ there. elim (cons_cases (x, a) (y, b) (filter (others x) own.owed) there) [
-          | inl same ↦
-              (let v : a ≡ b = ap (λ (q : ℕ × ℤ). q.1) same in
-              let at : ℤ → Type 0 = λ d. IsChanged (with_word x w ws) y d in
-              subst at v (let at' : ℕ → Type 0 = λ z. IsChanged (with_word x w ws) z a in subst at' (sym here) put))
-          | inr more ↦ absurd (not_other x y b (filter_says (others x) own.owed (y, b) more) here)
-        ]),
-        (λ is.
-            (let e : Some w ≡ Some (record { value = b; dirty = true }) = sym put ∙ (rw here at is) in
-            let v : a ≡ b = (let u : w ≡ record { value = b; dirty = true } = cc in ap (λ (q : Word). q.value) u) in
-            (0, omega arith, (λ i. (sym here i, v i))))),
-      )
+      (λ there. elim (cons_cases (x, a) (y, b) (filter (others x) own.owed) there) [
+        | inl same ↦
+            (let v : a ≡ b = ap (λ (q : ℕ × ℤ). q.1) same in
+            let at : ℤ → Type 0 = λ d. IsChanged (with_word x w ws) y d in
+            subst at v (let at' : ℕ → Type 0 = λ z. IsChanged (with_word x w ws) z a in subst at' (sym here) put))
+        | inr more ↦ absurd (not_other x y b (filter_says (others x) own.owed (y, b) more) here)
+      ]),
+      (λ is.
+          (let e : Some w ≡ Some (record { value = b; dirty = true }) = sym put ∙ (rw here at is) in
+          let v : a ≡ b = (let u : w ≡ record { value = b; dirty = true } = cc in ap (λ (q : Word). q.value) u) in
+          (0, omega arith, (λ i. (sym here i, v i))))),
+    )
     | no apart ↦ (
-        (λ there. elim (cons_cases (x, a) (y, b) (filter (others x) own.owed) there) [
-          | inl same ↦ absurd (apart (sym (ap (λ (q : ℕ × ℤ). q.0) same)))
-          | inr more ↦ word_other ws x y (Some w) apart ∙ (owns.owed y b).0 (filter_has (others x) own.owed (y, b) more)
-        ]),
-        (λ is.
-            (let old = (owns.owed y b).1 (sym (word_other ws x y (Some w) apart) ∙ is) in
-            let more = filter_keeps (others x) own.owed (y, b) old (is_other x y b apart) in
-            tail_has more)),
-      )
+      (λ there. elim (cons_cases (x, a) (y, b) (filter (others x) own.owed) there) [
+        | inl same ↦ absurd (apart (sym (ap (λ (q : ℕ × ℤ). q.0) same)))
+        | inr more ↦ word_other ws x y (Some w) apart ∙ (owns.owed y b).0 (filter_has (others x) own.owed (y, b) more)
+      ]),
+      (λ is.
+          (let old = (owns.owed y b).1 (sym (word_other ws x y (Some w) apart) ∙ is) in
+          let more = filter_keeps (others x) own.owed (y, b) old (is_other x y b apart) in
+          tail_has more)),
+    )
   ];
   kept = λ y r right. elim (ℕ_discrete y x) [
     | yes here ↦
@@ -240,17 +240,17 @@ owns_access ws own new x write v owns near may entry = rw entry.own (record {
   long = length-set ws x (Some w) ∙ owns.long;
   owed = λ y b. elim (ℕ_discrete y x) [
     | yes here ↦ (
-        (λ there. absurd (unowed ws own x write owns may (y, b) there here)),
-        (λ is.
-            (let t : Some w ≡ Some (record { value = b; dirty = true }) = sym put ∙ (rw here at is) in
-            let u : w ≡ record { value = b; dirty = true } = cc in
-            let d : false ≡ true = ap (λ (q : Word). q.dirty) u in
-            cc)),
-      )
+      (λ there. absurd (unowed ws own x write owns may (y, b) there here)),
+      (λ is.
+          (let t : Some w ≡ Some (record { value = b; dirty = true }) = sym put ∙ (rw here at is) in
+          let u : w ≡ record { value = b; dirty = true } = cc in
+          let d : false ≡ true = ap (λ (q : Word). q.dirty) u in
+          cc)),
+    )
     | no apart ↦ (
-        (λ there. word_other ws x y (Some w) apart ∙ (owns.owed y b).0 there),
-        (λ is. (owns.owed y b).1 (sym (word_other ws x y (Some w) apart) ∙ is)),
-      )
+      (λ there. word_other ws x y (Some w) apart ∙ (owns.owed y b).0 there),
+      (λ is. (owns.owed y b).1 (sym (word_other ws x y (Some w) apart) ∙ is)),
+    )
   ];
   kept = λ y r right. elim (ℕ_discrete y x) [
     | yes here ↦

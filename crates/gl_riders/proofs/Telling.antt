@@ -24,7 +24,7 @@ use Rattle.gl_table.specs.Doing.{told}
 use Rattle.gl_table.specs.PassView.{Own}
 use Rattle.gl_riders.specs.Events.{IsDoneFor, IsEvent, answer_or, event_entry, event_reply, go_or}
 use Rattle.gl_riders.specs.Exchanges.{IsAnswered, LeavesRightly, life_told, suits}
-use Rattle.gl_access.specs.Levels.{levels_act, levels_of}
+use Rattle.gl_rule.specs.Levels.{levels_act, levels_of}
 use Rattle.gl_riders.specs.Riding.{IsSetFor, progress_of}
 use Rattle.gl_riders.proofs.Lists.{levels_push, life_push}
 use Rattle.gl_riders.proofs.Starting.{may_begin}

@@ -18,7 +18,7 @@ use Rattle.gl_bytecode.specs.Machine.{Attempt, Config, ask_of}
 use Rattle.gl_bytecode.specs.Programs.{Bytecode}
 use Rattle.gl_cache.specs.Words.{Words, no_words}
 use Rattle.gl_events.specs.declared.done.Done.{Done}
-use Rattle.gl_access.specs.declared.Seen.{Seen}
+use Rattle.gl_rows.specs.declared.accessing.Seen.{Seen}
 use Rattle.gl_rule.specs.Lives.{Life, Running, life_of}
 use Rattle.gl_table.specs.Doing.{told}
 use Rattle.gl_table.specs.PassView.{Own, PassView}
@@ -32,7 +32,7 @@ use Rattle.gl_txn.specs.Reading.{IsRead, ReadBy}
 use Rattle.gl_txn.specs.Trying.{MayTry}
 use Rattle.gl_riders.specs.Events.{IsAsk, IsDoneFor, IsEvent, MayAsk, event_entry, event_reply}
 use Rattle.gl_riders.specs.Exchanges.{IsAnswered}
-use Rattle.gl_access.specs.Levels.{levels_of}
+use Rattle.gl_rule.specs.Levels.{levels_of}
 use Rattle.gl_riders.specs.Owing.{AreKept, MayMark, Owns, PlainBy, repeat_number}
 use Rattle.gl_riders.specs.Riding.{DrawsFor, IsSetFor, Rides}
 use Rattle.gl_riders.specs.Tries.{access_ask, access_reply, end_reply}

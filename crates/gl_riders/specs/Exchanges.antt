@@ -14,7 +14,7 @@ use Rattle.gl_model.specs.Entries.{Entry, Sync, Commit, Plain, Abort, Trim, Over
 use Rattle.gl_table.specs.PassView.{Own}
 use Rattle.gl_table.specs.RightOf.{right_of}
 use Rattle.gl_txn.specs.Attempts.{Attempting}
-use Rattle.gl_access.specs.Levels.{levels_of}
+use Rattle.gl_rule.specs.Levels.{levels_of}
 use Rattle.gl_riders.specs.Riding.{DrawsFor, looks_of, writes_of, progress_of}
 use Rattle.gl_riders.specs.Sparing.{allows}
 

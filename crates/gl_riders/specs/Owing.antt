@@ -9,8 +9,8 @@ use Rattle.gl_table.specs.PassView.{Own, PassView}
 use Rattle.gl_table.specs.TableView.{TableView}
 use Rattle.gl_draws.specs.Ties.{counted}
 use Rattle.gl_rule.specs.Lives.{Running, life_of}
-use Rattle.gl_access.specs.declared.Seen.{Seen}
-use Rattle.gl_access.specs.Accessing.{HasEntry, is_raised, value_told}
+use Rattle.gl_rows.specs.declared.accessing.Seen.{Seen}
+use Rattle.gl_rows.specs.Accessing.{HasEntry, is_raised, value_told}
 use Rattle.gl_table.specs.RightOf.{right_of}
 use Rattle.gl_txn.specs.Attempts.{Attempting}
 

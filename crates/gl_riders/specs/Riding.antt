@@ -14,7 +14,7 @@ use Rattle.gl_rule.specs.Lives.{Life, Unbegun, Running, Ended, life_of}
 use Rattle.gl_table.specs.PassView.{Own}
 use Rattle.gl_txn.specs.Attempts.{Attempting}
 use Rattle.gl_txn.specs.Trying.{Draws}
-use Rattle.gl_access.specs.Levels.{levels_of}
+use Rattle.gl_rule.specs.Levels.{levels_of}
 use Rattle.gl_riders.specs.Sparing.{Spares}
 
 -- the words of an attempt as the definition of runs has them

@@ -5,8 +5,8 @@ use Rattle.gl_bytecode.specs.declared.ask.Ask.TheVariants.{Read, Write}
 use Rattle.gl_bytecode.specs.declared.ask.Reply.{Reply}
 use Rattle.gl_bytecode.specs.declared.ask.Reply.TheVariants.{Go as Gone, Value as Answer, Raise, Retry}
 use Rattle.gl_bytecode.specs.declared.limits.TheConstants.{RACE}
-use Rattle.gl_access.specs.declared.Seen.{Seen}
-use Rattle.gl_access.specs.declared.Seen.TheVariants.{Value, Raised}
+use Rattle.gl_rows.specs.declared.accessing.Seen.{Seen}
+use Rattle.gl_rows.specs.declared.accessing.Seen.TheVariants.{Value, Raised}
 use Rattle.gl_txn.specs.declared.stops.TxEnd.{TxEnd}
 use Rattle.gl_txn.specs.declared.stops.TxEnd.TheVariants.{Done, Raised as WasRaised, Changed}
 use Rattle.gl_riders.specs.declared.tried.Tried.{Tried}

@@ -2,7 +2,7 @@
 ghost use Rattle.std.specs.Prelude.{◌≡◌, IfOk, OnErr};
 ghost use Rattle.gl_vm.specs.Asking.{AsksInRange};
 ghost use Rattle.gl_table.specs.Doing.{told};
-ghost use Rattle.gl_access.specs.Levels.{levels_of};
+ghost use Rattle.gl_rule.specs.Levels.{levels_of};
 ghost use Rattle.gl_riders.specs.Events.{IsDoneFor, IsEvent, MayAsk, answer_or, event_entry, event_reply, go_or};
 ghost use Rattle.gl_riders.specs.Riding.{IsSetFor};
 
@@ -35,7 +35,7 @@ pub(crate) fn event(
         Ask::VRead { field } => gl_events::vread(shared, pass, field),
         Ask::VWrite { field, value } => gl_events::vwrite(shared, pass, field, value),
         Ask::Enter { monitor } => gl_events::enter(shared, pass, monitor),
-        Ask::Exit { monitor } => gl_access::exit(shared, pass, monitor),
+        Ask::Exit { monitor } => gl_events::exit(shared, pass, monitor),
         Ask::Fork { func, value } => gl_events::fork(shared, pass, func, value),
         Ask::Join { thread } => gl_events::join(shared, pass, thread),
         Ask::Alloc { class } => gl_events::alloc_object(shared, pass, class),

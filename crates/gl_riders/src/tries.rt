@@ -12,11 +12,10 @@ ghost use Rattle.gl_riders.specs.Tries.{IfAgain, IfAnswered, IfFull, access_ask,
 use crate::events::{event, reply_of};
 use crate::tried::Tried;
 use crate::words::plain;
-use gl_access::Seen;
 use gl_bytecode::{Program, RACE, TX_TOO_LARGE};
 use gl_cache::WordCache;
 use gl_events::Stop;
-use gl_rows::Window;
+use gl_rows::{Seen, Window};
 use gl_shortcut::Cuts;
 use gl_table::{Pass, Shared};
 use gl_txn::{TxEnd, TxStop, TxWait, Txn};

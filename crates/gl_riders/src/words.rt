@@ -1,7 +1,7 @@
 // Private words: plain accesses that need no table move, and what is owed for them.
 ghost use Rattle.std.specs.Prelude.{◌≡◌, ◌<◌, ◌≤◌, true, false, [], Some, None, IfOk, OnErr};
 ghost use Rattle.gl_model.specs.declared.limits.TheConstants.{VARIABLES};
-ghost use Rattle.gl_access.specs.Accessing.{HasEntry};
+ghost use Rattle.gl_rows.specs.Accessing.{HasEntry};
 ghost use Rattle.gl_rule.specs.Lives.{Running, life_of};
 ghost use Rattle.gl_rule.specs.Objects.{capacity};
 ghost use Rattle.gl_table.specs.RightOf.{right_of};
@@ -9,9 +9,8 @@ ghost use Rattle.gl_riders.specs.Owing.{MayMark, Owns, PlainBy, repeat_number, r
 ghost use Rattle.gl_rule.specs.Adding.{MayCache};
 ghost use Rattle.gl_table.specs.PassView.{shelf_of, view_of};
 
-use gl_access::{Seen, access};
 use gl_cache::WordCache;
-use gl_rows::{Window, write_back};
+use gl_rows::{Seen, Window, access, write_back};
 use gl_shortcut::Cuts;
 use gl_table::{Busy, Pass, Shared};
 
@@ -94,13 +93,7 @@ fn write_again(pass: &mut Pass, words: &mut WordCache, var: u16, nth: u64, value
 }
 
 // Repeats an access without a table move.
-fn repeat(
-    pass: &mut Pass,
-    words: &mut WordCache,
-    var: u16,
-    nth: u64,
-    write: Option<i64>,
-) -> Seen
+fn repeat(pass: &mut Pass, words: &mut WordCache, var: u16, nth: u64, write: Option<i64>) -> Seen
     requires right { repeat_number (right_of pass.old.own.mine var) write ≡ Some nth }
     requires held { pass.old.own.held ≡ [] }
     requires runs { life_of pass.old.own.mine ≡ Running }

@@ -15,7 +15,7 @@ use Rattle.gl_threads.specs.Aboard.{AreAboard, AreFinished, IsAboard, IsFinished
 use Rattle.gl_table.specs.Beginning.{fresh as new_pass, fresh_from}
 use Rattle.gl_table.specs.TableView.{TableView}
 use Rattle.gl_rule.specs.Objects.{capacity}
-use Rattle.gl_access.specs.Levels.{levels_of}
+use Rattle.gl_rule.specs.Levels.{levels_of}
 use Rattle.gl_threads.specs.Crews.{IsReady}
 use Rattle.gl_threads.specs.Dealing.{AreBack, AreDealt, AreDone, AreNew, AreReady, IsEmptyCrew, dealt, its, new_own}
 use Rattle.std.specs.List.{All}

@@ -19,11 +19,11 @@ use Rattle.gl_bytecode.specs.Runs.{Quiet, Progress, Runs, is_quiet}
 use Rattle.gl_bytecode.proofs.Growth.{along_over}
 use Rattle.gl_cache.specs.Words.{Words}
 use Rattle.gl_draws.proofs.Pushes.{at_new}
-use Rattle.gl_events.specs.Settling.{trims}
+use Rattle.gl_rows.specs.Sweeping.{IsSwept as HasSwept}
 use Rattle.gl_vm.specs.Asking.{AsksInRange}
 use Rattle.gl_vm.specs.Orderly.{StageIsOrderly}
 use Rattle.gl_vm.proofs.Work.{Falls, step_falls}
-use Rattle.gl_access.specs.Accessing.{MaySweep}
+use Rattle.gl_events.specs.Settling.{MaySettle}
 use Rattle.gl_rule.specs.Closed.{IsDone}
 use Rattle.gl_rule.specs.Lives.{Life, Unbegun, Running, Ended, Closed, life_after, life_from, life_of}
 use Rattle.gl_table.specs.PassView.{Own, PassView}
@@ -140,11 +140,11 @@ rides_swept_on P z c old new txn rides goes s = record {
 }
 
 -- a sweep adds a Trim, or none
-pub swept_by : (old new : Own) (before to : ℕ) → new ≡ record old { mine = old.mine ++ trims before to } → IsSwept old new
-swept_by old new before to is = record { trims = trims before to; are_trims = by_test (nat_lt before to); own = is } where
-  by_test : (b : Bool) → AreTrims (if b then Trim to ∷ [] else [])
-  by_test true = tt
-  by_test false = tt
+pub swept_by : (t : TableView) (p q : PassView) (low : ℕ) → HasSwept t p q low → IsSwept p.own q.own
+swept_by t p q low s = record { trims = s.trims; are_trims = by_one s.trims s.one; own = s.own } where
+  by_one : (ts : List Entry) → (ts ≡ []) ⊎ (ts ≡ Trim low ∷ []) → AreTrims ts
+  by_one ts (inl none) = rw none tt
+  by_one ts (inr one) = rw one tt
 
 -- a thread that asks has not ended
 asks_open : (ask : Ask) (l : Life) → IsAsk ask → LifeFor ask l → IsOpen l
@@ -170,7 +170,7 @@ pub ask_open : (P : Bytecode) (z : TableId) (c : Config) (own : Own) (txn : Opti
 ask_open P z c own txn ask asks is rides = asks_open ask (life_of own.mine) is (rw asks (rides_life P z c own txn rides (rw asks at is)))
 
 pub may_sweep :
-    (P : Bytecode) (t : TableView) (c : Config) (v : PassView) (txn : Option Attempting) (ask : Ask) → Rides P t.id c v.own txn → ask ≡ ask_of c.stage → IsAsk ask → 0 < v.spare → MaySweep t v
+    (P : Bytecode) (t : TableView) (c : Config) (v : PassView) (txn : Option Attempting) (ask : Ask) → Rides P t.id c v.own txn → ask ≡ ask_of c.stage → IsAsk ask → 0 < v.spare → MaySettle t v
 may_sweep P t c v txn ask rides asks is room = record { table = rides.table; held = rides.held; spare = room; goes_on = ask_open P t.id c v.own txn ask asks is rides }
 
 -- where Over stands, the list is closed

@@ -9,11 +9,11 @@ ghost use Rattle.gl_riders.specs.Riding.{IsSetFor, Rides};
 ghost use Rattle.gl_riders.specs.Tries.{IfAgain, IfAnswered, IfFull};
 
 use crate::gate::{Gate, kind_of};
-use gl_access::sweep;
+
 use gl_bytecode::Program;
 use gl_cache::WordCache;
 use gl_riders::{Tried, try_one};
-use gl_rows::Window;
+use gl_rows::{Window, sweep};
 use gl_shortcut::Cuts;
 use gl_table::{Pass, Shared};
 use gl_txn::Txn;

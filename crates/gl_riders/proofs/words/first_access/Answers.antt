@@ -1,8 +1,8 @@
 use Rattle.std.proofs.Common.{◌≡◌, ◌∙◌, sym, rules, FitsSigned, w64, false, subst, ℤ, ℕ}
 use Rattle.std.proofs.lemmas.Int.{to_z-of_z}
 use Rattle.gl_cache.specs.Words.{with_word}
-use Rattle.gl_access.specs.Accessing.{HasEntry, value_told}
-use Rattle.gl_access.specs.declared.Seen.TheVariants.{Value, Raised}
+use Rattle.gl_rows.specs.Accessing.{HasEntry, value_told}
+use Rattle.gl_rows.specs.declared.accessing.Seen.TheVariants.{Value, Raised}
 use Rattle.gl_riders.specs.Owing.{Owns}
 use Rattle.gl_riders.proofs.Owings.{owns_access, owns_raised, unowed, value_or}
 use Rattle.gl_riders.proofs.words.first_access.Goals as goal
@@ -34,3 +34,6 @@ returns-in-Ok-Value-clause-owns g c =
     rw put
     (subst at (sym value)
     (owns_access c.args.words.now c.args.pass.now.own c.access.new.pass.own c.args.var c.args.write c.in-Ok-Value.value c.requires.owns c.requires.there c.requires.right is))
+
+pub returns-in-Err-clause-kept : goal.returns-in-Err-clause-kept
+returns-in-Err-clause-kept g c = c.in-Err.ensures.busy.own

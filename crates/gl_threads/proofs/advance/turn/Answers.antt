@@ -57,7 +57,7 @@ returns-in_ok-reserve-in-Full g c =
     let own : c.reserve.new.self.own ≡ c.try_gated.new.pass.own = ap (λ (v : PassView). v.own) c.in_ok-reserve-in-Full.ensures.own in
     let at : Own → Type 0 = λ v. Rides c.args.program.now c.args.shared.now.id c.args.machine.now v c.try_gated.new.txn in
     let rides : Rides c.args.program.now c.args.shared.now.id c.args.machine.now c.reserve.new.self.own c.try_gated.new.txn = subst at (sym own) r.rides in
-    let swept = swept_by c.reserve.new.self.own c.sweep.new.pass.own c.sweep.ensures.own.0 c.sweep.ensures.own.1 c.sweep.ensures.own.2 in
+    let swept = swept_by c.args.shared.now c.reserve.new.self c.sweep.new.pass c.sweep.result c.sweep.ensures.swept in
     let s = rides_swept_on c.args.program.now c.args.shared.now.id c.args.machine.now c.reserve.new.self.own c.sweep.new.pass.own c.try_gated.new.txn rides
     (ask_open c.args.program.now c.args.shared.now.id c.args.machine.now c.reserve.new.self.own c.try_gated.new.txn c.args.ask c.requires.asked c.requires.asks rides) swept in
     let kept : Own → Type 0 = λ v. AreKept c.try_gated.new.txn c.try_gated.new.words v in

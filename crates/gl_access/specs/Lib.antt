@@ -1,2 +1,0 @@
-pub mod Accessing
-pub mod Levels
