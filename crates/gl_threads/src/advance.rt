@@ -9,7 +9,6 @@ ghost use Rattle.gl_riders.specs.Riding.{IsSetFor, Rides};
 ghost use Rattle.gl_riders.specs.Tries.{IfAgain, IfAnswered, IfFull};
 
 use crate::gate::{Gate, kind_of};
-
 use gl_bytecode::Program;
 use gl_cache::WordCache;
 use gl_riders::{Tried, try_one};

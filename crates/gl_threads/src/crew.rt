@@ -39,7 +39,6 @@ fn rest<R: Wait>(rt: &R, idle: u32) {
 // A worker's rounds, until its threads are done or the run stops.
 pub(crate) fn run_crew<G: Gate, R: Wait>(
     rt: &R,
-    alloc: Global,
     crew: &mut Crew,
     shared: &Shared,
     program: &Program,
@@ -51,6 +50,7 @@ pub(crate) fn run_crew<G: Gate, R: Wait>(
     requires ready { IsReady program.now limit shared.now crew.old }
     ensures done { CrewIsDone program.now limit shared.now.id crew.old crew.new }
 {
+    let alloc = *crew.riders.allocator();
     crew.stopped = !run_riders(
         rt,
         alloc,

@@ -53,6 +53,14 @@ pub(crate) enum Pace {
     Stopped,
 }
 
+// Was the run told to stop?
+fn is_stopped(shared: &Shared, pass: &mut Pass) -> bool
+    requires table { pass.old.own.table ≡ shared.now.id }
+    ensures { pass.new.own ≡ pass.old.own }
+{
+    shared.stopped(pass)
+}
+
 // A turn of one thread: where the run is to stop, nothing is done.
 fn ride<G: Gate>(
     alloc: Global,
@@ -97,7 +105,7 @@ fn go_ahead<G: Gate>(
     ensures window { window.new ≡ window.old }
 {
     let _limit = limit;
-    if shared.stopped(&mut rider.pass) {
+    if is_stopped(shared, &mut rider.pass) {
         return Pace::Stopped;
     }
     if rider.left > 0 {

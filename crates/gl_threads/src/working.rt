@@ -26,7 +26,6 @@ use std::thread::Threads;
 // All workers, each in a thread of its own where one can be made.
 fn run_crews<G: Gate, R: Threads + Wait + Sync>(
     rt: &R,
-    alloc: Global,
     crews: &mut Vec<Crew>,
     shared: &Shared,
     program: &Program,
@@ -47,8 +46,8 @@ fn run_crews<G: Gate, R: Threads + Wait + Sync>(
         workers,
         &|_, crew: &mut Crew|
             requires { IsSetFor program.now shared.now.key.setting × IsReady program.now limit shared.now crew.now }
-            ensures { CrewIsDone program.entry.now limit shared.entry.now.name crew.entry.now crew.exit.now }
-        { run_crew(rt, alloc, crew, shared, program, limit, cuts, gate) },
+            ensures { CrewIsDone program.entry.now limit shared.entry.now.id crew.entry.now crew.exit.now }
+        { run_crew(rt, crew, shared, program, limit, cuts, gate) },
     );
 }
 
@@ -82,7 +81,6 @@ pub fn work<G: Gate, R: Threads + Wait + Sync>(
     let mut crews = deal(alloc, program, passes, workers, options.steps, shared)?;
     run_crews(
         rt,
-        alloc,
         &mut crews,
         shared,
         program,

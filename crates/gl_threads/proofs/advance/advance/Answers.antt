@@ -8,7 +8,7 @@ use Rattle.gl_threads.proofs.advance.advance.Goals as goal
 pub go_on-requires : goal.go_on-requires
 go_on-requires g c =
     let at : Own → Type 0 = λ v. Rides c.args.program.now c.args.shared.now.id c.args.machine.now v c.args.txn.now in
-    subst at (sym (ap (λ (v : PassView). v.own) c.in_ok-reserve.ensures.own)) c.requires.rides
+    record { rides = subst at (sym (ap (λ (v : PassView). v.own) c.in_ok-reserve.ensures.own)) c.requires.rides }
 
 pub over-requires-clause-ends : goal.over-requires-clause-ends
 over-requires-clause-ends g c =

@@ -1,4 +1,4 @@
-use Rattle.std.proofs.Common.{◌%◌, ◌≡◌, ◌∙◌, ◌++◌, ◌∷◌, [], sym, ap, refl, arith, length, subst, List, ℕ}
+use Rattle.std.proofs.Common.{◌*◌, ◌%◌, ◌≡◌, ◌∙◌, ◌++◌, ◌∷◌, [], sym, ap, refl, arith, length, subst, List, ℕ}
 use Rattle.std.specs.Prelude.{slice_index_or, slice_set}
 use Rattle.std.proofs.lemmas.Nat.{mod_below}
 use Rattle.gl_table.specs.PassView.{Own}
