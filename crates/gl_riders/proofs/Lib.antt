@@ -1,0 +1,11 @@
+pub mod Lists
+pub mod Sparings
+pub mod OwedLists
+pub mod Owings
+pub mod Growing
+pub mod Starting
+pub mod Few
+pub mod Telling
+pub mod Asking
+pub mod Attempting
+pub mod Trying

@@ -1,0 +1,11 @@
+//! One thread of a program over the shared table: its machine asks, and its pass, its attempt and its private words answer.
+#![tactic(auto)]
+
+mod events;
+mod one;
+mod tried;
+mod tries;
+mod words;
+
+pub use one::try_one;
+pub use tried::Tried;

@@ -1,0 +1,5 @@
+pub mod Stepping
+pub mod Finishing
+pub mod Boarding
+pub mod Closing
+pub mod Layouts

@@ -1,0 +1,6 @@
+use Rattle.std.proofs.Common.{◌≡◌}
+use Rattle.gl_riders.specs.Riding.{Rides}
+use Rattle.gl_threads.proofs.advance.go_on.Given as goal
+
+abbrev pub invariant-loop-k : goal.invariant-loop-k
+invariant-loop-k l = Rides l.program l.shared.id l.machine l.pass.own l.txn × (l.machine.limit ≡ l.initial.machine.limit)

@@ -1,0 +1,4 @@
+pub mod Options
+pub mod Aboard
+pub mod Crews
+pub mod Dealing
