@@ -1,0 +1,6 @@
+pub mod Told
+pub mod Races
+pub mod Owned
+pub mod Explained
+pub mod Marks
+pub mod Texts
