@@ -5,3 +5,4 @@ pub mod Owning
 pub mod Behind
 pub mod Taken
 pub mod Ordered
+pub mod Raised

@@ -1,5 +1,5 @@
 -- Tests that are facts.
-use Rattle.std.proofs.Common.{◌≡◌, eq-eqb, Some, None, ◌<◌, ℕ, Option, Bool, true, false, refl, inl, inr}
+use Rattle.std.proofs.Common.{◌≡◌, eq-eqb, Some, None, ◌<◌, ℕ, Option, Bool, true, false, refl, sym, inl, inr}
 use Rattle.std.specs.Prelude.{◌⊎◌, ◌↔◌, IsTrue, ◌||◌, ◌&&◌, ◌==◌, nat_lt, not}
 use Rattle.std.proofs.lemmas.Bool.{eqb-true, ltb-true, lt-ltb}
 
@@ -24,3 +24,8 @@ both false b P Q p q = (λ t. absurd (cc), λ w. absurd (let n = p.1 w.0 in cc))
 -- what is equivalent to what a test says
 pub same_test : (b : Bool) (P Q : Type 0) → IsTrue b ↔ P → (P → Q) → (Q → P) → IsTrue b ↔ Q
 same_test b P Q p to back = (λ t. to (p.0 t), λ q. p.1 (back q))
+
+pub same_bool : (a b : Bool) → (a ≡ true) ↔ (b ≡ true) → a ≡ b
+same_bool true b e = sym (e.0 refl)
+same_bool false true e = e.1 refl
+same_bool false false e = refl

@@ -1,6 +1,7 @@
 //! Why a line of a trace is a race.
 #![tactic(auto)]
 
+mod explained;
 mod owned;
 mod past;
 mod races;

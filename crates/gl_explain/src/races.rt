@@ -61,7 +61,7 @@ fn conflicts(earlier: &Told, next: &Told, var: u16) -> bool
 }
 
 // What is known of the thread.
-fn tick_of(known: &[u32; ALL], thread: u8) -> u32
+pub fn tick_of(known: &[u32; ALL], thread: u8) -> u32
     ensures { result ≡ at known.now thread }
 {
     match known.get(thread as usize) {

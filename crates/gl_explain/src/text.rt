@@ -3,7 +3,7 @@ ghost use Rattle.std.specs.Prelude.{◌≡◌, ◌++◌, ◌∷◌, OnOk, string
 ghost use Rattle.std.specs.Fmt.{decimal};
 ghost use Rattle.std.specs.List.{flat_map};
 ghost use Rattle.gl_model.specs.Trace.{is_in};
-ghost use Rattle.gl_explain.specs.Texts.{act_text, access_text, item_text, touch_text, head_text, told_text, racing_text, others_text, monitor_text, monitors_text, owned_text, handed_text, learnt_text, explanation_text, ending_text};
+ghost use Rattle.gl_explain.specs.Texts.{act_text, access_text, item_text, touch_text, head_text, told_text, racing_text, others_text, monitor_text, monitors_text, owned_text, two_text, told_line, handed_text, learnt_text, lines_text, facts_text, explanation_text, ending_text};
 
 use crate::told::{Explanation, Told};
 use gl_model::{Act, Item, VarSet};
@@ -142,53 +142,112 @@ fn push_owned(out: &mut String, told: &Told, monitors: &[u16]) -> Result<(), All
     out.push_str("\n")
 }
 
+// Adds two numbers between words.
+fn push_two(
+    out: &mut String,
+    first: &str,
+    a: u32,
+    second: &str,
+    b: u32,
+    third: &str,
+) -> Result<(), AllocError>
+    ensures { OnOk result (string_bytes out.new ≡ string_bytes out.old ++ two_text first.now a second.now b third.now) }
+{
+    push_number(out, first, a)?;
+    push_number(out, second, b)?;
+    out.push_str(third)
+}
+
+fn push_told_line(out: &mut String, told: &Told) -> Result<(), AllocError>
+    ensures { OnOk result (string_bytes out.new ≡ string_bytes out.old ++ told_line told.now) }
+{
+    push_told(out, told)?;
+    out.push_str("\n")
+}
+
+// Adds two numbers between words, and a line behind that.
+fn push_with_line(
+    out: &mut String,
+    first: &str,
+    a: u32,
+    second: &str,
+    b: u32,
+    third: &str,
+    told: &Told,
+) -> Result<(), AllocError>
+    ensures { OnOk result (string_bytes out.new ≡ string_bytes out.old ++ (two_text first.now a second.now b third.now ++ told_line told.now)) }
+{
+    push_two(out, first, a, second, b, third)?;
+    push_told_line(out, told)
+}
+
 fn push_handed(out: &mut String, told: &Told, handed: &Option<Told>) -> Result<(), AllocError>
     ensures { OnOk result (string_bytes out.new ≡ string_bytes out.old ++ handed_text told.now handed.now) }
 {
-    push_number(out, "  what thread ", u32::from(told.thread))?;
-    push_number(out, " did in line ", told.line)?;
+    let first = "  what thread ";
+    let thread = u32::from(told.thread);
+    let second = " did in line ";
     match handed {
-        None => out.push_str(" is handed on in no later line\n"),
+        None => {
+            let third = " is handed on in no later line\n";
+            push_two(out, first, thread, second, told.line, third)
+        }
         Some(found) => {
-            out.push_str(" is first handed on in ")?;
-            push_told(out, found)?;
-            out.push_str("\n")
+            let third = " is first handed on in ";
+            push_with_line(out, first, thread, second, told.line, third, found)
         }
     }
 }
 
-fn push_learnt(out: &mut String, thread: u8, told: &Told, learnt: &Option<Told>) -> Result<(), AllocError>
+fn push_learnt(
+    out: &mut String,
+    thread: u8,
+    told: &Told,
+    learnt: &Option<Told>,
+) -> Result<(), AllocError>
     ensures { OnOk result (string_bytes out.new ≡ string_bytes out.old ++ learnt_text thread told.now learnt.now) }
 {
+    let thread = u32::from(thread);
     match learnt {
         None => {
-            push_number(out, "  no line of thread ", u32::from(thread))?;
-            push_number(out, " leads to line ", told.line)?;
-            out.push_str("\n")
+            let first = "  no line of thread ";
+            push_two(out, first, thread, " leads to line ", told.line, "\n")
         }
         Some(found) => {
-            push_number(out, "  the last line of thread ", u32::from(thread))?;
-            push_number(out, " that leads to line ", told.line)?;
-            out.push_str(" is ")?;
-            push_told(out, found)?;
-            out.push_str("\n")
+            let first = "  the last line of thread ";
+            let second = " that leads to line ";
+            push_with_line(out, first, thread, second, told.line, " is ", found)
         }
     }
+}
+
+// The two lines that race.
+fn push_lines(out: &mut String, e: &Explanation) -> Result<(), AllocError>
+    ensures { OnOk result (string_bytes out.new ≡ string_bytes out.old ++ lines_text e.now) }
+{
+    push_racing(out, e.var, &e.at)?;
+    out.push_str("\n  races with ")?;
+    push_racing(out, e.var, &e.other)?;
+    out.push_str("\n")
+}
+
+// What is said of them.
+fn push_facts(out: &mut String, e: &Explanation) -> Result<(), AllocError>
+    ensures { OnOk result (string_bytes out.new ≡ string_bytes out.old ++ facts_text e.now) }
+{
+    push_others(out, e.others)?;
+    push_owned(out, &e.at, &e.owned)?;
+    push_owned(out, &e.other, &e.other_owned)?;
+    push_handed(out, &e.other, &e.handed)?;
+    push_learnt(out, e.other.thread, &e.at, &e.learnt)
 }
 
 /// Adds an explanation.
 pub fn push_explanation(out: &mut String, e: &Explanation) -> Result<(), AllocError>
     ensures { OnOk result (string_bytes out.new ≡ string_bytes out.old ++ explanation_text e.now) }
 {
-    push_racing(out, e.var, &e.at)?;
-    out.push_str("\n  races with ")?;
-    push_racing(out, e.var, &e.other)?;
-    out.push_str("\n")?;
-    push_others(out, e.others)?;
-    push_owned(out, &e.at, &e.owned)?;
-    push_owned(out, &e.other, &e.other_owned)?;
-    push_handed(out, &e.other, &e.handed)?;
-    push_learnt(out, e.other.thread, &e.at, &e.learnt)
+    push_lines(out, e)?;
+    push_facts(out, e)
 }
 
 /// Adds the end of the text.
