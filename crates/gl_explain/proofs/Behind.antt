@@ -1,7 +1,8 @@
 -- Lines that were taken, by place, and the first behind a place.
-use Rattle.std.proofs.Common.{◌≡◌, ◌∙◌, ℕ, ◌+◌, ◌<◌, ◌≤◌, List, length, map, refl, sym, ap, subst, arith, inl, inr, Some, None, Bool, true, false}
+use Rattle.std.proofs.Common.{◌≡◌, ◌∙◌, ℕ, zero, suc, ◌+◌, ◌<◌, ◌≤◌, List, [], ◌∷◌, take, length, map, refl, sym, ap, subst, arith, inl, inr, Some, None, Bool, true, false}
 use Rattle.std.specs.Prelude.{◌⊎◌, ◌↔◌, IsTrue, Option, option_map, slice_get}
 use Rattle.std.proofs.lemmas.Bool.{cases_lt}
+use Rattle.std.proofs.lemmas.List.{take-map}
 use Rattle.std.proofs.lemmas.Option.{slice_get-map, slice_get_within}
 use Rattle.gl_explain.specs.declared.told.Told.{Told}
 use Rattle.gl_explain.specs.declared.told.Kept.{Kept}
@@ -65,3 +66,13 @@ steps_near kept all i s at =
     let n = map_at told kept i m.0 m.1 in
     let is : n.0.told.item ≡ s.1 = ap (λ (t : Told). t.item) n.2 ∙ ap (λ (r : Step). r.1) m.2 in
     subst IsLineItem is (all i n.0 n.1)
+
+-- the lines before a place
+pub get_taken : {A : Type 0} (n : ℕ) (xs : List A) (i : ℕ) (x : A) → slice_get (take n xs) i ≡ Some x → slice_get xs i ≡ Some x
+get_taken zero xs i x at = absurd (cc)
+get_taken (suc n) [] i x at = absurd (cc)
+get_taken (suc n) (y ∷ xs) zero x at = at
+get_taken (suc n) (y ∷ xs) (suc i) x at = get_taken n xs i x at
+
+pub told_taken : (n : ℕ) (kept : List Kept) → told_of (take n kept) ≡ take n (told_of kept)
+told_taken n kept = sym (take-map told n kept)

@@ -1,11 +1,12 @@
 -- Counting and finding the last, one number after another.
 use Rattle.std.proofs.Common.{◌≡◌, ◌∙◌, ap, ℕ, ◌+◌, ◌<◌, ◌≤◌, List, length, get_or, Bool, true, false, refl, sym, subst, arith, inl, inr, Some, None}
-use Rattle.std.specs.Prelude.{◌⊎◌, ◌↔◌, Option, slice_get, IsTrue}
+use Rattle.std.specs.Prelude.{◌⊎◌, ◌↔◌, Option, slice_get, IsTrue, IsSome}
 use Rattle.std.proofs.lemmas.Bool.{cases_lt}
 use Rattle.std.proofs.lemmas.Option.{slice_get-get_or, slice_get_within}
 use Rattle.gl_core.specs.Cells.{at}
 use Rattle.gl_explain.specs.declared.told.Told.{Told}
 use Rattle.gl_explain.specs.declared.told.Kept.{Kept}
+use Rattle.gl_explain.specs.Explained.{IsLastTold}
 use Rattle.gl_explain.specs.Races.{Conflicts, IsUnknown, IsLastOf, Counts, none_yet, one_more, not_one}
 
 -- of the numbers below n the last that is such
@@ -53,3 +54,15 @@ module _ (kept : List Kept) (next : Told) (x : ℕ) (known : List ℕ) (i : ℕ)
 
   pub unknown_near : IsUnknown kept next x known i → i < length kept
   unknown_near (q, here, is) = slice_get_within kept i q here
+
+-- where one is such, there is a last one, and it is among those that were counted
+pub last_there : (P : ℕ → Type 0) (o : Option ℕ) → (i : ℕ) × P i → IsLastOf P o → IsSome o
+last_there P None some last = absurd (last some.0 some.1)
+last_there P (Some j) some last = refl
+
+pub count_there : (P : ℕ → Type 0) (n c : ℕ) (o : Option ℕ) → ((i : ℕ) → P i → i < n) → (i : ℕ) × P i → Counts P n c → 0 < c
+count_there P n c o near some counts = counts_some P n c counts some.0 (near some.0 some.1) some.1
+
+pub last_told_same : (P Q : ℕ → Type 0) (before : List Told) (o : Option Told) → ((i : ℕ) → P i ↔ Q i) → IsLastTold P before o → IsLastTold Q before o
+last_told_same P Q before None same last = last_same P Q None same last
+last_told_same P Q before (Some k) same last = (last.0, last.1, last_same P Q (Some last.0) same last.2)

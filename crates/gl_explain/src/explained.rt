@@ -10,7 +10,7 @@ ghost use Rattle.gl_explain.specs.declared.told.Kept.{Kept as AKept};
 
 use crate::owned::owned;
 use crate::past::{first_handed, last_passed};
-use crate::races::{find, tick_of};
+use crate::races::{Culprit, last_culprit, tick_of};
 use crate::told::{Explanation, Kept, Told};
 use gl_model::THREADS;
 use std::alloc::{AllocError, Global};
@@ -44,8 +44,7 @@ pub fn explained(
     ensures of { IfOk result (λ e. e.at ≡ at.now) }
     ensures right { IfOk result (IsExplained (told_of kept.now)) }
 {
-    let found = find(kept, at, var, known);
-    let place = found.place.unwrap();
+    let Culprit { place, others } = last_culprit(kept, at, var, known);
     let other = kept[place].told;
     let owned_here = owned(alloc, kept, at.thread)?;
     let other_owned = owned(alloc, &kept[..place], other.thread)?;
@@ -53,7 +52,7 @@ pub fn explained(
         at: *at,
         var,
         other,
-        others: found.count - 1,
+        others,
         owned: owned_here,
         other_owned,
         handed: first_handed(kept, place, other.thread),

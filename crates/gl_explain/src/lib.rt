@@ -2,11 +2,11 @@
 #![tactic(auto)]
 
 mod explained;
+mod explainer;
 mod owned;
 mod past;
 mod races;
 mod text;
 mod told;
 
-pub use races::{Found, find};
 pub use told::{Explanation, Kept, Told};

@@ -1,5 +1,5 @@
 // The lines that a raised access races with.
-ghost use Rattle.std.specs.Prelude.{◌≡◌, ◌↔◌, ◌⊎◌, ◌<◌, IsTrue, None, false, length};
+ghost use Rattle.std.specs.Prelude.{◌≡◌, ◌↔◌, ◌⊎◌, ◌<◌, ◌+◌, ℕ, IsTrue, None, Some, false, length};
 ghost use Rattle.gl_core.specs.Cells.{at};
 ghost use Rattle.gl_lines.specs.TraceLaws.{Accesses, WritesTo, commit_of};
 ghost use Rattle.gl_explain.specs.Races.{Conflicts, Counts, IsLastOf, IsUnknown};
@@ -79,14 +79,14 @@ fn is_unknown(kept: &Kept, next: &Told, var: u16, known: &[u32; ALL]) -> bool
     conflicts & unknown
 }
 
-/// The last of the lines that conflict with the next one and are unknown, and how many there are.
+// The last of the lines that conflict with the next one and are unknown, and how many there are.
 #[derive(Clone, Copy)]
-pub struct Found {
-    pub place: Option<usize>,
-    pub count: usize,
+struct Found {
+    place: Option<usize>,
+    count: usize,
 }
 
-pub fn find(kept: &[Kept], next: &Told, var: u16, known: &[u32; ALL]) -> Found
+fn find(kept: &[Kept], next: &Told, var: u16, known: &[u32; ALL]) -> Found
     ensures last { IsLastOf (IsUnknown kept.now next.now var known.now) result.place }
     ensures count { Counts (IsUnknown kept.now next.now var known.now) (length kept.now) result.count }
 {
@@ -99,4 +99,25 @@ pub fn find(kept: &[Kept], next: &Told, var: u16, known: &[u32; ALL]) -> Found
         }
     }
     Found { place, count }
+}
+
+/// The last line that the next one races with, and how many others there are.
+#[derive(Clone, Copy)]
+pub struct Culprit {
+    pub place: usize,
+    pub others: usize,
+}
+
+pub fn last_culprit(kept: &[Kept], next: &Told, var: u16, known: &[u32; ALL]) -> Culprit
+    requires { (i : ℕ) × IsUnknown kept.now next.now var known.now i }
+    ensures near { result.place < length kept.now }
+    ensures last { IsLastOf (IsUnknown kept.now next.now var known.now) (Some result.place) }
+    ensures count { Counts (IsUnknown kept.now next.now var known.now) (length kept.now) (result.others + 1) }
+{
+    let found = find(kept, next, var, known);
+    let place = found.place.unwrap();
+    Culprit {
+        place,
+        others: found.count - 1,
+    }
 }
