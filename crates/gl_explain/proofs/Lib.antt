@@ -6,3 +6,6 @@ pub mod Behind
 pub mod Taken
 pub mod Ordered
 pub mod Raised
+pub mod Marking
+pub mod Steps
+pub mod OneMore

@@ -1,25 +1,15 @@
 -- What the explainer keeps, against the lines so far.
-use Rattle.std.specs.Prelude.{◌≡◌, ℕ, List, [], ◌∷◌, ◌++◌, length, string_bytes}
-use Rattle.std.specs.List.{flat_map}
+use Rattle.std.specs.Prelude.{◌≡◌, ℕ, List, [], ◌∷◌, ◌++◌, string_bytes}
 use Rattle.gl_core.specs.Follows.{Follows, IsReady}
 use Rattle.gl_model.specs.declared.row.Judged.{Judged}
 use Rattle.gl_model.specs.Trace.{AreVerdicts}
 use Rattle.gl_trace.specs.Trace.{AreLines}
 use Rattle.gl_trace.specs.TraceLine.{TraceLine}
 use Rattle.gl_explain.specs.declared.told.Told.{Told}
-use Rattle.gl_explain.specs.declared.told.Explanation.{Explanation}
 use Rattle.gl_explain.specs.declared.explainer.Explainer.{Explainer}
-use Rattle.gl_explain.specs.Explained.{AreExplained}
 use Rattle.gl_explain.specs.Marks.{AreKept}
-use Rattle.gl_explain.specs.Texts.{explanation_text}
+use Rattle.gl_explain.specs.Written.{IsWritten}
 use Rattle.gl_explain.specs.Told.{lines_of, trace_of, told_of}
-
--- these explanations are of the races among the lines, and this is their text and their count
-pub record IsWritten (done : List Told) (bytes : List ℕ) (races : ℕ) : Type 0 where
-  pub explained : List Explanation
-  pub are : AreExplained done explained
-  pub text : bytes ≡ flat_map explanation_text explained
-  pub count : races ≡ length explained
 
 -- the explainer was given these lines, and what it said of them is right
 pub record IsTold (done : List Told) (x : Explainer) : Type 0 where
@@ -28,7 +18,7 @@ pub record IsTold (done : List Told) (x : Explainer) : Type 0 where
   pub follows : Follows (lines_of done) x.detector
   pub kept : told_of x.kept.items ≡ done
   pub are_kept : AreKept (lines_of done) x.kept.items
-  pub written : IsWritten done (string_bytes x.text) x.races
+  pub written : IsWritten done (string_bytes x.text)
 
 -- it is so of some lines, behind which this one stands in a trace
 pub record Awaits (line : TraceLine) (x : Explainer) : Type 0 where

@@ -4,9 +4,13 @@
 mod explained;
 mod explainer;
 mod owned;
+mod page;
 mod past;
 mod races;
 mod text;
 mod told;
+mod whole;
 
+pub use page::Page;
 pub use told::{Explanation, Kept, Told};
+pub use whole::explain_text;
