@@ -9,3 +9,4 @@ pub mod Raised
 pub mod Marking
 pub mod Steps
 pub mod OneMore
+pub mod Reading

@@ -4,6 +4,7 @@ use Rattle.std.specs.Prelude.{◌⊎◌, slice_get, Result, Ok, Err, OnOk, cond}
 use Rattle.std.specs.List.{count_by, filter, flat_map}
 use Rattle.std.proofs.lemmas.Grind.{flat_map-append}
 use Rattle.std.proofs.lemmas.List.{map-append}
+use Rattle.std.proofs.lemmas.List.Sums.{sum_by-append}
 use Rattle.std.proofs.lemmas.List.Elements.{filter-append}
 use Rattle.gl_trace.specs.Verdicts.{is_race}
 use Rattle.gl_explain.specs.declared.told.Told.{Told}
@@ -72,4 +73,6 @@ none_written = record { explained = []; are = record { all = refl; each = λ i e
 -- as many races were kept as there are
 pub races_kept : (kept : List Kept) → count_by (λ k. is_race k.told.judged) kept ≡ races_in (told_of kept)
 races_kept [] = refl
-races_kept (k ∷ ks) = ap (λ n. cond (is_race k.told.judged) 1 0 + n) (races_kept ks)
+races_kept (k ∷ ks) =
+    sum_by-append (λ q. cond (is_race q.told.judged) 1 0) (k ∷ []) ks ∙ ap (λ n. count_by (λ q. is_race q.told.judged) (k ∷ []) + n) (races_kept ks) ∙
+    sym (sum_by-append (λ q. cond (is_race q.judged) 1 0) (k.told ∷ []) (told_of ks))

@@ -11,6 +11,6 @@ mod text;
 mod told;
 mod whole;
 
-pub use page::Page;
+pub use page::{Page, refused};
 pub use told::{Explanation, Kept, Told};
 pub use whole::explain_text;

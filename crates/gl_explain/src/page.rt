@@ -11,7 +11,7 @@ pub struct Page {
     pub text: Vec<u8>,
 }
 
-// The page of a refused text.
+/// The page of a refused text.
 pub fn refused(alloc: Global, line: u32, kind: u8) -> Result<Page, AllocError>
     ensures status { IfOk result (λ p. p.status ≡ 4) }
     ensures text { IfOk result (λ p. p.text.items ≡ refusal line kind) }
