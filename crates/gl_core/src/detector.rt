@@ -11,6 +11,9 @@ use gl_model::{Act, Item, Judged, THREADS, VARIABLES, VarSet};
 use gl_shortcut::Cuts;
 use std::alloc::{AllocError, Global};
 
+// The threads as a length.
+const ALL: usize = THREADS as usize;
+
 /// Judges the lines of a trace, one after another, by vector clocks. It keeps no list of events and no set.
 #[derive(Drop)]
 pub struct Detector {
@@ -91,6 +94,11 @@ impl Detector {
     ghost use Rattle.gl_core.specs.Lines.{CommitDone, ClocksDone};
     ghost use Rattle.gl_core.specs.TablesView.{clocks_in};
     ghost use Rattle.gl_core.specs.Follows.{Follows, IsReady, IsStepped, most_ticks};
+    ghost use Rattle.std.specs.Prelude.{List, Some, None};
+    ghost use Rattle.gl_model.specs.Trace.{Line};
+    ghost use Rattle.gl_lines.specs.Traced.{history};
+    ghost use Rattle.gl_core.specs.Cells.{at};
+    ghost use Rattle.gl_core.specs.EpochLaws.{known_next};
 
     /// A detector before the first line: thread 0 has begun.
     pub fn new(alloc: Global) -> Result<Detector, AllocError>
@@ -138,6 +146,24 @@ impl Detector {
         ensures { result ≡ self.now.ticks }
     {
         self.ticks
+    }
+
+    /// How far the thread knows what each thread did, when it makes its next plain access.
+    pub fn known(&self, thread: u8) -> &[u32; ALL]
+        requires { thread < THREADS }
+        ensures { (lines : List Line) → Follows lines self.now → (u : ℕ) → at result.now u ≡ known_next (history lines) thread None u }
+    {
+        self.tables.known(thread)
+    }
+
+    /// The same, when its next access is a commit on these variables.
+    pub fn known_to_commit(&self, thread: u8, variables: &VarSet) -> [u32; ALL]
+        requires ready { IsReady self.now }
+        requires thread { thread < THREADS }
+        ensures { (lines : List Line) → Follows lines self.now → (u : ℕ) → at result u ≡ known_next (history lines) thread (Some variables.now) u }
+    {
+        let mut ticks = 0;
+        self.tables.acquired_all(thread, variables, &mut ticks)
     }
 
     fn act(&mut self, thread: u8, act: Act)

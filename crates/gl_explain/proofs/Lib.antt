@@ -1,0 +1,12 @@
+pub mod Truths
+pub mod Counting
+pub mod Sets
+pub mod Owning
+pub mod Behind
+pub mod Taken
+pub mod Ordered
+pub mod Raised
+pub mod Marking
+pub mod Steps
+pub mod OneMore
+pub mod Reading

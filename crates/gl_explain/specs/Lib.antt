@@ -1,0 +1,9 @@
+pub mod Told
+pub mod Races
+pub mod Owned
+pub mod Explained
+pub mod Marks
+pub mod Written
+pub mod Follows
+pub mod Texts
+pub mod Answers

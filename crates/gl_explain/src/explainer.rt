@@ -1,0 +1,169 @@
+// The lines of a trace, one after another, and the text of why some are races.
+ghost use Rattle.std.specs.Prelude.{◌≡◌, ◌<◌, ◌≤◌, ◌+◌, ◌-◌, ◌^◌, ◌∷◌, ◌++◌, [], ℕ, List, length, false, OnOk, Some, count_by, slice_get, string_bytes};
+ghost use Rattle.gl_clocks.specs.Clocks.{tick};
+ghost use Rattle.gl_core.specs.Cells.{at};
+ghost use Rattle.gl_core.specs.EpochLaws.{known_next};
+ghost use Rattle.gl_core.specs.Follows.{Follows, IsReady};
+ghost use Rattle.gl_lines.specs.TraceLaws.{commit_of};
+ghost use Rattle.gl_lines.specs.TraceRows.{access_at};
+ghost use Rattle.gl_lines.specs.TraceStates.{AreSound};
+ghost use Rattle.gl_lines.specs.Traced.{history};
+ghost use Rattle.gl_model.specs.Trace.{Line};
+ghost use Rattle.gl_model.specs.TraceSteps.{IsLineItem, is_too_wide};
+ghost use Rattle.gl_model.specs.declared.limits.TheConstants.{THREADS};
+ghost use Rattle.gl_model.specs.declared.row.Judged.TheVariants.{Performed, Raised};
+ghost use Rattle.gl_trace.specs.Verdicts.{is_race};
+ghost use Rattle.gl_explain.specs.Marks.{Tells, plain_behind};
+ghost use Rattle.gl_explain.specs.Races.{IsCulprit};
+ghost use Rattle.gl_explain.specs.Written.{IsWritten};
+ghost use Rattle.gl_explain.specs.declared.told.Kept.{Kept as AKept};
+ghost use Rattle.gl_explain.specs.Told.{line_of, told_of};
+
+use crate::explained::explained;
+use crate::races::tick_of;
+use crate::page::Page;
+use crate::text::{push_ending, push_explanation};
+use crate::told::{Kept, Told};
+use gl_core::Detector;
+use gl_model::{Item, Judged, THREADS};
+use gl_shortcut::Cuts;
+use std::alloc::{AllocError, Global};
+
+// The threads as a length.
+const ALL: usize = THREADS as usize;
+
+// How far the thread knows what each thread did, when the item is its next line.
+fn known_at(detector: &Detector, thread: u8, item: &Item) -> [u32; ALL]
+    requires ready { IsReady detector.now }
+    requires thread { thread < THREADS }
+    ensures { (lines : List Line) → Follows lines detector.now → is_too_wide item.now ≡ false → (u : ℕ) → at result u ≡ known_next (history lines) thread (commit_of item.now) u }
+{
+    match item {
+        Item::Act(_) => *detector.known(thread),
+        Item::Access { .. } => *detector.known(thread),
+        Item::Commit { reads, writes } => match (*reads).union(writes) {
+            Some(variables) => detector.known_to_commit(thread, &variables),
+            None => *detector.known(thread),
+        },
+    }
+}
+
+// How far the thread knows itself.
+fn own_at(detector: &Detector, thread: u8) -> u32
+    requires { thread < THREADS }
+    ensures { (lines : List Line) (l : Line) → Follows lines detector.now → AreSound (lines ++ l ∷ []) → l.thread ≡ thread → result ≡ tick (plain_behind lines thread) + 1 }
+{
+    tick_of(detector.known(thread), thread)
+}
+
+// The mark of the line's access, where the detector was given the line and its thread knew itself so far before it.
+fn mark_of(detector: &Detector, told: &Told, own: u32) -> u32
+    requires { told.now.thread < THREADS }
+    ensures { (lines : List Line) → own ≡ tick (plain_behind lines told.now.thread) + 1 → Follows (lines ++ line_of told.now ∷ []) detector.now → told.now.judged ≡ Performed → result ≡ tick (access_at lines (line_of told.now)) + 1 }
+{
+    match told.item {
+        Item::Act(_) | Item::Access { .. } => own,
+        Item::Commit { .. } => tick_of(detector.known(told.thread), told.thread).saturating_sub(1),
+    }
+}
+
+// Adds the explanation of the line, where it is a race.
+fn explain(
+    alloc: Global,
+    text: &mut String,
+    kept: &[Kept],
+    told: &Told,
+    known: &[u32; ALL],
+) -> Result<(), AllocError>
+    requires few { length kept.now ≤ 2 ^ 32 - 2 }
+    requires lines { (i : ℕ) (k : AKept) → slice_get kept.now i ≡ Some k → IsLineItem k.told.item }
+    requires race { (var : ℕ) → told.now.judged ≡ Raised var → (i : ℕ) × IsCulprit (told_of kept.now) told.now var i }
+    requires tells { Tells kept.now told.now known.now }
+    ensures { IsWritten (told_of kept.now) (string_bytes text.old) → OnOk result (IsWritten (told_of kept.now ++ told.now ∷ []) (string_bytes text.new)) }
+{
+    match told.judged {
+        Judged::Raised { var } => {
+            let explanation = explained(alloc, kept, told, var, known)?;
+            push_explanation(text, &explanation)
+        }
+        Judged::NoAccess | Judged::Performed => Ok(()),
+    }
+}
+
+// How many races there are.
+fn races(kept: &[Kept]) -> usize
+    ensures { result ≡ count_by (λ k. is_race k.told.judged) kept.now }
+{
+    kept.iter()
+        .filter(|k| matches!(k.told.judged, Judged::Raised { .. }))
+        .count()
+}
+
+// The detector that judges the lines, the lines with their marks, and the text of the explanations so far.
+#[derive(Drop)]
+pub struct Explainer {
+    detector: Detector,
+    kept: Vec<Kept>,
+    text: String,
+}
+
+impl Explainer {
+    ghost use Rattle.std.specs.Prelude.{◌≡◌, ◌∷◌, ◌++◌, [], List, IfOk, OnOk};
+    ghost use Rattle.gl_model.specs.TraceSteps.{IsStep};
+    ghost use Rattle.gl_trace.specs.Trace.{AreLines};
+    ghost use Rattle.gl_explain.specs.declared.told.Told.{Told as ATold};
+    ghost use Rattle.gl_explain.specs.Follows.{Awaits, IsTold, IsToldOn};
+    ghost use Rattle.gl_explain.specs.Told.{trace_of};
+    ghost use Rattle.gl_explain.specs.Answers.{ExplainsLines};
+
+    // No line was given yet.
+    pub fn new(alloc: Global) -> Result<Explainer, AllocError>
+        ensures { IfOk result (IsTold []) }
+    {
+        Ok(Explainer {
+            detector: Detector::new(alloc)?,
+            kept: Vec::new(alloc),
+            text: String::new(alloc),
+        })
+    }
+
+    // Takes the next line.
+    pub fn take(
+        &mut self,
+        alloc: Global,
+        line: u32,
+        thread: u8,
+        item: &Item,
+        cuts: &Cuts,
+    ) -> Result<(), AllocError>
+        requires step { IsStep (thread, item.now) }
+        requires awaits { Awaits (line, thread, item.now) self.old }
+        ensures told { (done : List ATold) → IsTold done self.old → AreLines (trace_of done ++ (line, thread, item.now) ∷ []) → OnOk result (IsToldOn done (line, thread, item.now) self.new) }
+    {
+        let own = own_at(&self.detector, thread);
+        let known = known_at(&self.detector, thread, item);
+        let judged = self.detector.step(thread, item, cuts)?;
+        let told = Told {
+            line,
+            thread,
+            item: *item,
+            judged,
+        };
+        explain(alloc, &mut self.text, &self.kept, &told, &known)?;
+        let mark = mark_of(&self.detector, &told, own);
+        self.kept.push(Kept { told, own, mark })?;
+        Ok(())
+    }
+
+    // What the lines are answered.
+    pub fn page(mut self) -> Result<Page, AllocError>
+        ensures { (done : List ATold) → IsTold done self → IfOk result (λ p. ExplainsLines done p.status p.text.items) }
+    {
+        let races = races(&self.kept);
+        push_ending(&mut self.text, races)?;
+        Ok(Page {
+            status: if races == 0 { 0 } else { 6 },
+            text: self.text.into_bytes(),
+        })
+    }
+}
