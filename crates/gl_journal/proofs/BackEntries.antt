@@ -26,7 +26,7 @@ use Rattle.gl_journal.specs.Fields.{Word, choice_in}
 use Rattle.gl_journal.specs.Forms.{count_of, form_of, operands_of}
 use Rattle.gl_journal.specs.Rows.{Row, abort_row, entry_row, over_row, tx_words}
 use Rattle.gl_journal.specs.SyncKinds.{act_of, arg_of, kind_in, kind_of, most_of, word_of}
-use Rattle.gl_journal.specs.Written.{IsActIn, IsEntryIn, IsTxIn, IsValue}
+use Rattle.gl_journal.specs.Written.{IsActTyped, IsEntryStamped, IsEntryTyped, IsTxStamped, IsTxTyped, IsValue}
 use Rattle.gl_journal.proofs.BackLists.{tx_are_words, tx_back}
 use Rattle.gl_journal.proofs.WrittenLines.{AreWords, IsWord, IsWordByte}
 use Rattle.gl_journal.proofs.WrittenNumbers.{natural_back, numeral_decimal, numeral_is_word, numeral_signed, value_back_in}
@@ -105,7 +105,7 @@ act_back acts.Print is = refl
 act_back acts.Input is = refl
 act_back (acts.Fail code) is = refl
 
-arg_small : (a : Act) → IsActInRange a → IsActIn a → arg_of a ≤ most_of (kind_of a)
+arg_small : (a : Act) → IsActInRange a → IsActTyped a → arg_of a ≤ most_of (kind_of a)
 arg_small (acts.Begin f) is small = omega arith
 arg_small acts.End is small = omega arith
 arg_small (acts.Acq o) is small = omega arith
@@ -146,7 +146,7 @@ choice_word false first second one two = one
 
 -- ## Entries that are read back
 
-sync_back : (at : ℕ) (a : Act) (value : _) → at ≤ MOST_STAMP → IsActInRange a → IsActIn a → IsValue value
+sync_back : (at : ℕ) (a : Act) (value : _) → at ≤ MOST_STAMP → IsActInRange a → IsActTyped a → IsValue value
     → sync_in (decimal at ∷ word_of (kind_of a) ∷ decimal (arg_of a) ∷ signed_decimal value ∷ []) ≡ Ok (Sync at a value)
 unfolding sync_in
 sync_back at a value low range small is =
@@ -156,9 +156,9 @@ sync_back at a value low range small is =
     (rw (natural_back (most_of (kind_of a)) (arg_of a) arg (omega (arith, most_small (kind_of a))))
     (rw (value_back_in value is) (ap (λ b. Ok (Sync at b value)) (act_back a range)))))
 
-commit_back : (at : ℕ) (tx : Tx) → at ≤ MOST_STAMP → IsTxKept tx → IsTxIn tx → commit_in (decimal at ∷ tx_words tx) ≡ Ok (Commit at tx)
+commit_back : (at : ℕ) (tx : Tx) → at ≤ MOST_STAMP → IsTxKept tx → IsTxTyped tx → IsTxStamped tx → commit_in (decimal at ∷ tx_words tx) ≡ Ok (Commit at tx)
 unfolding commit_in
-commit_back at tx low kept is = rw (natural_back MOST_STAMP at low (omega arith)) (rw (tx_back tx kept is) refl)
+commit_back at tx low kept typed few = rw (natural_back MOST_STAMP at low (omega arith)) (rw (tx_back tx kept typed few) refl)
 
 plain_back : (var nth : ℕ) (cached write : Bool) (value : _) (raised : Bool) → var < VARIABLES → nth ≤ MOST_STAMP → IsValue value
     → plain_in (decimal var ∷ decimal nth ∷ (if write then codes "wr" else codes "rd") ∷ signed_decimal value ∷ (if cached then codes "cached" else codes "own") ∷ (if raised then codes "race" else codes "ok") ∷ [])
@@ -171,16 +171,16 @@ plain_back var nth cached write value raised low few is =
     (rw (value_back_in value is)
     (rw (choice_back cached (codes "own") (codes "cached") refl refl) (rw (choice_back raised (codes "ok") (codes "race") refl refl) refl)))))
 
-changed_back : (tx : Tx) (var : ℕ) (read found : _) → var < VARIABLES → IsValue read → IsValue found → IsTxKept tx → IsTxIn tx
+changed_back : (tx : Tx) (var : ℕ) (read found : _) → var < VARIABLES → IsValue read → IsValue found → IsTxKept tx → IsTxTyped tx → IsTxStamped tx
     → changed_in (decimal var ∷ signed_decimal read ∷ signed_decimal found ∷ tx_words tx) ≡ Ok (Abort tx (Changed var read found))
 unfolding changed_in
-changed_back tx var read found low old new kept is =
+changed_back tx var read found low old new kept typed few =
     rw (natural_back (VARIABLES - 1) var (omega arith) (omega arith))
-    (rw (value_back_in read old) (rw (value_back_in found new) (rw (tx_back tx kept is) refl)))
+    (rw (value_back_in read old) (rw (value_back_in found new) (rw (tx_back tx kept typed few) refl)))
 
-raised_back : (tx : Tx) (var : ℕ) → var < VARIABLES → IsTxKept tx → IsTxIn tx → raised_in (decimal var ∷ tx_words tx) ≡ Ok (Abort tx (Raised var))
+raised_back : (tx : Tx) (var : ℕ) → var < VARIABLES → IsTxKept tx → IsTxTyped tx → IsTxStamped tx → raised_in (decimal var ∷ tx_words tx) ≡ Ok (Abort tx (Raised var))
 unfolding raised_in
-raised_back tx var low kept is = rw (natural_back (VARIABLES - 1) var (omega arith) (omega arith)) (rw (tx_back tx kept is) refl)
+raised_back tx var low kept typed few = rw (natural_back (VARIABLES - 1) var (omega arith) (omega arith)) (rw (tx_back tx kept typed few) refl)
 
 trim_back : (low : ℕ) → low ≤ MOST_STAMP → trim_in (decimal low ∷ []) ≡ Ok (Trim low)
 unfolding trim_in
@@ -236,35 +236,37 @@ some_words (Over Halt) = omega arith
 some_words (Over Spent) = omega arith
 some_words (Over (Uncaught code)) = omega arith
 
-pub entry_back : (e : Entry) → IsEntryKept e → IsEntryIn e → entry_in (form_for e) (operands_of (forms.Entry (form_for e)) (entry_row e)) ≡ Ok e
-entry_back (Sync at act value) kept is = sync_back at act value is.0 kept is.1 is.2
-entry_back (Commit at tx) kept is = commit_back at tx is.0 kept is.1
-entry_back (Plain var nth cached write value raised) kept is = plain_back var nth cached write value raised kept is.0 is.1
-entry_back (Abort tx (Changed var read found)) kept is = changed_back tx var read found kept.1 is.1.0 is.1.1 kept.0 is.0
-entry_back (Abort tx (Raised var)) kept is = raised_back tx var kept.1 kept.0 is.0
-entry_back (Trim low) kept is = trim_back low is
-entry_back (Over Halt) kept is = refl
-entry_back (Over Spent) kept is = refl
-entry_back (Over (Uncaught code)) kept is = uncaught_back code is
+pub entry_back : (e : Entry) → IsEntryKept e → IsEntryTyped e → IsEntryStamped e
+    → entry_in (form_for e) (operands_of (forms.Entry (form_for e)) (entry_row e)) ≡ Ok e
+entry_back (Sync at act value) kept typed few = sync_back at act value few kept typed.0 typed.1
+entry_back (Commit at tx) kept typed few = commit_back at tx few.0 kept typed few.1
+entry_back (Plain var nth cached write value raised) kept typed few = plain_back var nth cached write value raised kept few typed
+entry_back (Abort tx (Changed var read found)) kept typed few = changed_back tx var read found kept.1 typed.1.0 typed.1.1 kept.0 typed.0 few
+entry_back (Abort tx (Raised var)) kept typed few = raised_back tx var kept.1 kept.0 typed.0 few
+entry_back (Trim low) kept typed few = trim_back low few
+entry_back (Over Halt) kept typed few = refl
+entry_back (Over Spent) kept typed few = refl
+entry_back (Over (Uncaught code)) kept typed few = uncaught_back code typed
 
 signed_word : (z : _) → IsValue z → IsWord (signed_decimal z)
 signed_word z is = numeral_is_word (signed_decimal z) (numeral_signed z is)
 
-pub entry_are_words : (e : Entry) → IsEntryKept e → IsEntryIn e → AreWords (entry_row e)
-entry_are_words (Sync at act value) kept is =
-    let arg : arg_of act ≤ most_of (kind_of act) = arg_small act kept is.1 in
-    (keyword (codes "sync") refl, (decimal_word at (omega (arith, is.0)), (kind_word (kind_of act), (decimal_word (arg_of act) (omega (arith, most_small (kind_of act))), (signed_word value is.2, tt)))))
-entry_are_words (Commit at tx) kept is = (keyword (codes "commit") refl, (decimal_word at (omega (arith, is.0)), tx_are_words tx kept is.1))
-entry_are_words (Plain var nth cached write value raised) kept is = (
+pub entry_are_words : (e : Entry) → IsEntryKept e → IsEntryTyped e → IsEntryStamped e → AreWords (entry_row e)
+entry_are_words (Sync at act value) kept typed few =
+    let arg : arg_of act ≤ most_of (kind_of act) = arg_small act kept typed.0 in
+    let most : most_of (kind_of act) ≤ 1023 = most_small (kind_of act) in
+    (keyword (codes "sync") refl, (decimal_word at (omega arith), (kind_word (kind_of act), (decimal_word (arg_of act) (omega arith), (signed_word value typed.1, tt)))))
+entry_are_words (Commit at tx) kept typed few = (keyword (codes "commit") refl, (decimal_word at (omega (arith, few.0)), tx_are_words tx kept typed few.1))
+entry_are_words (Plain var nth cached write value raised) kept typed few = (
   keyword (codes "plain") refl,
   (
     decimal_word var (omega arith),
     (
-      decimal_word nth (omega (arith, is.0)),
+      decimal_word nth (omega arith),
       (
         choice_word write (codes "rd") (codes "wr") (keyword (codes "rd") refl) (keyword (codes "wr") refl),
         (
-          signed_word value is.1,
+          signed_word value typed,
           (
             choice_word cached (codes "own") (codes "cached") (keyword (codes "own") refl) (keyword (codes "cached") refl),
             (choice_word raised (codes "ok") (codes "race") (keyword (codes "ok") refl) (keyword (codes "race") refl), tt),
@@ -274,11 +276,20 @@ entry_are_words (Plain var nth cached write value raised) kept is = (
     ),
   ),
 )
-entry_are_words (Abort tx (Changed var read found)) kept is =
-    (keyword (codes "abort") refl, (keyword (codes "changed") refl, (decimal_word var (omega (arith, kept.1)), (signed_word read is.1.0, (signed_word found is.1.1, tx_are_words tx kept.0 is.0)))))
-entry_are_words (Abort tx (Raised var)) kept is =
-    (keyword (codes "abort") refl, (keyword (codes "raised") refl, (decimal_word var (omega (arith, kept.1)), tx_are_words tx kept.0 is.0)))
-entry_are_words (Trim low) kept is = (keyword (codes "trim") refl, (decimal_word low (omega (arith, is)), tt))
-entry_are_words (Over Halt) kept is = (keyword (codes "over") refl, (keyword (codes "halt") refl, tt))
-entry_are_words (Over Spent) kept is = (keyword (codes "over") refl, (keyword (codes "spent") refl, tt))
-entry_are_words (Over (Uncaught code)) kept is = (keyword (codes "over") refl, (keyword (codes "uncaught") refl, (decimal_word code (omega (arith, is)), tt)))
+entry_are_words (Abort tx (Changed var read found)) kept typed few = (
+  keyword (codes "abort") refl,
+  (
+    keyword (codes "changed") refl,
+    (
+      decimal_word var (omega (arith, kept.1)),
+      (signed_word read typed.1.0, (signed_word found typed.1.1, tx_are_words tx kept.0 typed.0 few)),
+    ),
+  ),
+)
+entry_are_words (Abort tx (Raised var)) kept typed few =
+    (keyword (codes "abort") refl, (keyword (codes "raised") refl, (decimal_word var (omega (arith, kept.1)), tx_are_words tx kept.0 typed.0 few)))
+entry_are_words (Trim low) kept typed few = (keyword (codes "trim") refl, (decimal_word low (omega (arith, few)), tt))
+entry_are_words (Over Halt) kept typed few = (keyword (codes "over") refl, (keyword (codes "halt") refl, tt))
+entry_are_words (Over Spent) kept typed few = (keyword (codes "over") refl, (keyword (codes "spent") refl, tt))
+entry_are_words (Over (Uncaught code)) kept typed few =
+    (keyword (codes "over") refl, (keyword (codes "uncaught") refl, (decimal_word code (omega (arith, typed)), tt)))

@@ -23,7 +23,7 @@ use Rattle.gl_journal.specs.Fields.{Word, ◌>>=◌}
 use Rattle.gl_journal.specs.Parts.{is_byte, is_set, list_in, list_pieces, look_in, look_of, number_in, number_of, pair_in, pair_of, part_in, parts_in, rises}
 use Rattle.gl_journal.specs.Rows.{list_word, look_word, number_word, pair_word, tx_words}
 use Rattle.gl_journal.specs.Transactions.{lists_of, tx_in, tx_of}
-use Rattle.gl_journal.specs.Written.{IsTxIn, IsValue}
+use Rattle.gl_journal.specs.Written.{IsTxStamped, IsTxTyped, IsValue}
 use Rattle.gl_journal.proofs.WrittenLines.{IsWord, IsWordByte, all_append, all_map}
 use Rattle.gl_journal.proofs.WrittenNumbers.{IsNumeral, IsNumeralByte, begins_with_digit, natural_back, numeral_decimal, numeral_is_word, numeral_signed, value_back_in}
 
@@ -234,10 +234,10 @@ set_back part xs are =
 
 -- ## The lists of a transaction
 
-all_looks : (ls : List Look) → AllByRecursion (λ x. x < VARIABLES) (map (λ l. l.var) ls) → AllByRecursion (λ l. IsValue l.value × (l.nth ≤ MOST_STAMP)) ls
-    → AllByRecursion (IsBack forms.Look look_word part_of_look) ls
-all_looks [] vars are = tt
-all_looks (l ∷ ls) vars are = (look_back l vars.0 are.0, all_looks ls vars.1 are.1)
+all_looks : (ls : List Look) → AllByRecursion (λ x. x < VARIABLES) (map (λ l. l.var) ls) → AllByRecursion (λ l. IsValue l.value) ls
+    → AllByRecursion (λ l. l.nth ≤ MOST_STAMP) ls → AllByRecursion (IsBack forms.Look look_word part_of_look) ls
+all_looks [] vars typed few = tt
+all_looks (l ∷ ls) vars typed few = (look_back l vars.0 (typed.0, few.0), all_looks ls vars.1 typed.1 few.1)
 
 all_pairs : (ps : List Pair) → AllByRecursion (λ x. x < VARIABLES) (map (λ w. w.var) ps) → AllByRecursion (λ w. IsValue w.value) ps
     → AllByRecursion (IsBack forms.Pair pair_word part_of_pair) ps
@@ -270,11 +270,11 @@ record IsTxBack (tx : Tx) : Type 0 where
   writes_set : is_set (map part_of_pair tx.writes) ≡ true
   numbers_set : is_set (map part_of_number tx.numbers) ≡ true
 
-is_tx_back : (tx : Tx) → IsTxKept tx → IsTxIn tx → IsTxBack tx
-is_tx_back tx kept is = record {
-  looks = all_looks tx.looks kept.0.2 is.0;
-  writes = all_pairs tx.writes kept.1.2 is.1;
-  numbers = all_numbers tx.numbers kept.2.2 is.2;
+is_tx_back : (tx : Tx) → IsTxKept tx → IsTxTyped tx → IsTxStamped tx → IsTxBack tx
+is_tx_back tx kept typed few = record {
+  looks = all_looks tx.looks kept.0.2 typed.0 few.0;
+  writes = all_pairs tx.writes kept.1.2 typed.1;
+  numbers = all_numbers tx.numbers kept.2.2 few.1;
   looks_set = set_back part_of_look tx.looks kept.0;
   writes_set = set_back part_of_pair tx.writes kept.1;
   numbers_set = set_back part_of_number tx.numbers kept.2;
@@ -289,10 +289,10 @@ parts_are_tx : (tx : Tx) → IsTxBack tx → tx_of (map part_of_look tx.looks) (
 parts_are_tx tx back =
     rw (back.looks_set, back.writes_set, back.numbers_set) (rw (same_looks tx.looks, same_pairs tx.writes, same_numbers tx.numbers) refl)
 
-pub tx_back : (tx : Tx) → IsTxKept tx → IsTxIn tx → tx_in (tx_words tx) ≡ Ok tx
+pub tx_back : (tx : Tx) → IsTxKept tx → IsTxTyped tx → IsTxStamped tx → tx_in (tx_words tx) ≡ Ok tx
 unfolding tx_in
-tx_back tx kept is =
-    let back = is_tx_back tx kept is in
+tx_back tx kept typed few =
+    let back = is_tx_back tx kept typed few in
     rw (lists_back tx)
     (rw (list_back forms.Look look_word part_of_look tx.looks back.looks)
     (rw (list_back forms.Pair pair_word part_of_pair tx.writes back.writes)
@@ -302,9 +302,9 @@ one_letter : (b : ℕ) → 97 ≤ b → b ≤ 122 → IsWord (b ∷ [])
 one_letter b low high = (omega arith, ((omega arith, omega arith, λ e. omega arith), tt))
 
 -- the words of a transaction are words
-pub tx_are_words : (tx : Tx) → IsTxKept tx → IsTxIn tx → AllByRecursion IsWord (tx_words tx)
-tx_are_words tx kept is =
-    let back = is_tx_back tx kept is in (
+pub tx_are_words : (tx : Tx) → IsTxKept tx → IsTxTyped tx → IsTxStamped tx → AllByRecursion IsWord (tx_words tx)
+tx_are_words tx kept typed few =
+    let back = is_tx_back tx kept typed few in (
       one_letter 114 (omega arith) (omega arith),
       (
         word_back forms.Look look_word part_of_look tx.looks back.looks,

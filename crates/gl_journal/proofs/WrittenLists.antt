@@ -1,5 +1,5 @@
 -- The text of a record, list by list and part by part.
-use Rattle.std.proofs.Common.{◌≡◌, ◌⊎◌, ℕ, ◌+◌, ◌-◌, ◌<◌, ◌≤◌, ◌==◌, true, false, zero, suc, List, [], ◌∷◌, ◌++◌, Option, Some, None, codes, length, map, take, slice_get, get_or, refl, ap, sym, ◌∙◌, arith, inl, inr, append_assoc, append-nil, eq-eqb}
+use Rattle.std.proofs.Common.{◌≡◌, ◌⊎◌, ℕ, ◌+◌, ◌-◌, ◌<◌, ◌≤◌, ◌==◌, true, false, zero, suc, List, [], ◌∷◌, ◌++◌, Option, Some, None, codes, length, map, take, slice_get, get_or, refl, ap, sym, ◌∙◌, arith, inl, inr, append_assoc, append-nil, eq-eqb, subst}
 use Rattle.std.specs.Prelude.{nat_lt}
 use Rattle.std.specs.List.{AllByRecursion, filter, flat_map}
 use Rattle.std.proofs.lemmas.Bool.Decides.{nat_tests}
@@ -13,6 +13,7 @@ use Rattle.gl_model.specs.Lists.{list_of}
 use Rattle.gl_model.specs.Rising.{Rises}
 use Rattle.gl_model.specs.declared.limits.TheConstants.{THREADS}
 use Rattle.gl_journal.specs.Fields.{Word}
+use Rattle.gl_journal.specs.Written.{AllEntries, IsEntryTyped}
 use Rattle.gl_journal.specs.Rows.{Row, entry_row, entry_rows, header_row, list_rows, list_word, record_rows, record_text, row_text, thread_row}
 
 -- ## Lists of parts
@@ -77,6 +78,29 @@ no_item (x ∷ xs) le = absurd (omega arith)
 -- there is no part
 pub push_none : {A : Type 0} (f : A → Word) (xs : List A) (start new : List ℕ) → slice_get xs 0 ≡ None → new ≡ start ++ codes "-" → new ≡ start ++ list_word (map f xs)
 push_none f xs start new none is = is ∙ ap (λ l. start ++ list_word (map f l)) (sym (no_item xs (past_of xs 0 none)))
+
+-- ## What holds of each part
+
+all_push : {A : Type 0} (P : A → Type 0) (xs : List A) (x : A) → AllByRecursion P xs → P x → AllByRecursion P (xs ++ x ∷ [])
+all_push P [] x all last = (last, tt)
+all_push P (y ∷ xs) x all last = (all.0, all_push P xs x all.1 last)
+
+pub all_more : {A : Type 0} (P : A → Type 0) (xs : List A) (i : ℕ) (x : A) → slice_get xs i ≡ Some x → P x → AllByRecursion P (take i xs)
+    → AllByRecursion P (take (i + 1) xs)
+all_more P xs i x there last all =
+    let more : take (i + 1) xs ≡ take i xs ++ x ∷ [] =
+    take_more xs i x (slice_get_within xs i x there) ∙ ap (λ z. take i xs ++ z ∷ []) (get_or_from_slice_get xs i x x there) in
+    subst (AllByRecursion P) (sym more) (all_push P (take i xs) x all last)
+
+pub all_first : {A : Type 0} (P : A → Type 0) (xs : List A) (x : A) → slice_get xs 0 ≡ Some x → P x → AllByRecursion P (take 1 xs)
+all_first P [] x there first = cc
+all_first P (y ∷ ys) x there first = let same : x ≡ y = cc in (subst P same first, tt)
+
+pub all_of : {A : Type 0} (P : A → Type 0) (xs : List A) (i : ℕ) → length xs ≤ i → AllByRecursion P (take i xs) → AllByRecursion P xs
+all_of P xs i past all = subst (AllByRecursion P) (take_all i xs past) all
+
+pub all_last : {A : Type 0} (P : A → Type 0) (xs : List A) (i : ℕ) → slice_get xs i ≡ None → AllByRecursion P (take i xs) → AllByRecursion P xs
+all_last P xs i none all = all_of P xs i (past_of xs i none) all
 
 -- ## Lists of entries
 
@@ -190,3 +214,18 @@ thread_with t R es start old new rises some is adds =
     adds ∙ ap (λ s. old ++ (row_text (thread_row t) ++ s)) (stored_text es) ∙ ap (λ s. s ++ one_text l) is
     ∙ append_assoc start (lists_text (below t R)) (one_text l) ∙ ap (λ s. start ++ s) (sym (flat_more one_text (below t R) l))
     ∙ ap (λ ls. start ++ lists_text ls) (sym next)
+
+-- ## What holds of the entries of each thread so far
+
+pub typed_without : (t : ℕ) (R : List (ℕ × List Entry)) → Rises (map (λ l. l.0) R) → list_of R t ≡ None → AllEntries IsEntryTyped (below t R)
+    → AllEntries IsEntryTyped (below (t + 1) R)
+typed_without t R rises none all =
+    let same : below (t + 1) R ≡ below t R = gathers_next t R rises ∙ ap (λ o. below t R ++ one_of t o) none ∙ append-nil (below t R) in
+    subst (AllEntries IsEntryTyped) (sym same) all
+
+pub typed_with : (t : ℕ) (R : List (ℕ × List Entry)) (es : List StoredEntry) → Rises (map (λ l. l.0) R) → list_of R t ≡ Some (map seen es)
+    → AllEntries IsEntryTyped (below t R) → AllByRecursion IsEntryTyped (map seen es) → AllEntries IsEntryTyped (below (t + 1) R)
+typed_with t R es rises some all typed =
+    let l : ℕ × List Entry = (t, map seen es) in
+    let next : below (t + 1) R ≡ below t R ++ l ∷ [] = gathers_next t R rises ∙ ap (λ o. below t R ++ one_of t o) some in
+    subst (AllEntries IsEntryTyped) (sym next) (all_push (λ m. AllByRecursion IsEntryTyped m.1) (below t R) l all typed)

@@ -19,49 +19,69 @@ use Rattle.gl_journal.specs.declared.limits.TheConstants.{LEAST_STEPS, LEAST_VAL
 abbrev pub IsValue : ℤ → Type 0
 IsValue z = (LEAST_VALUE ≤ℤ z) × (z ≤ℤ MOST_VALUE)
 
-abbrev pub IsTxIn : Tx → Type 0
-IsTxIn tx =
-    AllByRecursion (λ l. IsValue l.value × (l.nth ≤ MOST_STAMP)) tx.looks
-    × AllByRecursion (λ w. IsValue w.value) tx.writes
-    × AllByRecursion (λ n. n.nth ≤ MOST_STAMP) tx.numbers
+-- the values of a transaction
+abbrev pub IsTxTyped : Tx → Type 0
+IsTxTyped tx = AllByRecursion (λ l. IsValue l.value) tx.looks × AllByRecursion (λ w. IsValue w.value) tx.writes
 
-abbrev pub IsWhyIn : Why → Type 0
-IsWhyIn (Changed var read found) = IsValue read × IsValue found
-IsWhyIn (Raised var) = Unit {0}
+-- and its numbers
+abbrev pub IsTxStamped : Tx → Type 0
+IsTxStamped tx = AllByRecursion (λ l. l.nth ≤ MOST_STAMP) tx.looks × AllByRecursion (λ n. n.nth ≤ MOST_STAMP) tx.numbers
+
+abbrev pub IsWhyTyped : Why → Type 0
+IsWhyTyped (Changed var read found) = IsValue read × IsValue found
+IsWhyTyped (Raised var) = Unit {0}
 
 -- a code is a byte
-abbrev pub IsActIn : Act → Type 0
-IsActIn (Fail code) = code ≤ 255
-IsActIn (Begin f) = Unit {0}
-IsActIn End = Unit {0}
-IsActIn (Acq o) = Unit {0}
-IsActIn (Rel o) = Unit {0}
-IsActIn (VRead v) = Unit {0}
-IsActIn (VWrite v) = Unit {0}
-IsActIn (Fork u f) = Unit {0}
-IsActIn (Join u) = Unit {0}
-IsActIn (Alloc c) = Unit {0}
-IsActIn Print = Unit {0}
-IsActIn Input = Unit {0}
+abbrev pub IsActTyped : Act → Type 0
+IsActTyped (Fail code) = code ≤ 255
+IsActTyped (Begin f) = Unit {0}
+IsActTyped End = Unit {0}
+IsActTyped (Acq o) = Unit {0}
+IsActTyped (Rel o) = Unit {0}
+IsActTyped (VRead v) = Unit {0}
+IsActTyped (VWrite v) = Unit {0}
+IsActTyped (Fork u f) = Unit {0}
+IsActTyped (Join u) = Unit {0}
+IsActTyped (Alloc c) = Unit {0}
+IsActTyped Print = Unit {0}
+IsActTyped Input = Unit {0}
 
-abbrev pub IsEndingIn : Ending → Type 0
-IsEndingIn Halt = Unit {0}
-IsEndingIn (Uncaught code) = code ≤ 255
-IsEndingIn Spent = Unit {0}
+abbrev pub IsEndingTyped : Ending → Type 0
+IsEndingTyped Halt = Unit {0}
+IsEndingTyped (Uncaught code) = code ≤ 255
+IsEndingTyped Spent = Unit {0}
 
--- the positions, numbers and low marks of an entry are at most the greatest that a line can say; its values and codes are of their types
-abbrev pub IsEntryIn : Entry → Type 0
-IsEntryIn (Sync at act value) = (at ≤ MOST_STAMP) × IsActIn act × IsValue value
-IsEntryIn (Commit at tx) = (at ≤ MOST_STAMP) × IsTxIn tx
-IsEntryIn (Plain var nth cached write value raised) = (nth ≤ MOST_STAMP) × IsValue value
-IsEntryIn (Abort tx why) = IsTxIn tx × IsWhyIn why
-IsEntryIn (Trim low) = low ≤ MOST_STAMP
-IsEntryIn (Over ending) = IsEndingIn ending
+-- the values and codes of an entry are of their types, as those of each entry of the program are
+abbrev pub IsEntryTyped : Entry → Type 0
+IsEntryTyped (Sync at act value) = IsActTyped act × IsValue value
+IsEntryTyped (Commit at tx) = IsTxTyped tx
+IsEntryTyped (Plain var nth cached write value raised) = IsValue value
+IsEntryTyped (Abort tx why) = IsTxTyped tx × IsWhyTyped why
+IsEntryTyped (Trim low) = Unit {0}
+IsEntryTyped (Over ending) = IsEndingTyped ending
 
--- what a text can say. Each `Record` is a record; its positions, numbers and low marks are within the limit where fewer than 2^63 events,
--- numbers and segments were made, as a run and a trace make them
-pub record CanBeSaid (steps : ℕ) (R : List (ℕ × List Entry)) : Type 0 where
+-- the positions, numbers and low marks of an entry are at most the greatest that a line can say
+abbrev pub IsEntryStamped : Entry → Type 0
+IsEntryStamped (Sync at act value) = at ≤ MOST_STAMP
+IsEntryStamped (Commit at tx) = (at ≤ MOST_STAMP) × IsTxStamped tx
+IsEntryStamped (Plain var nth cached write value raised) = nth ≤ MOST_STAMP
+IsEntryStamped (Abort tx why) = IsTxStamped tx
+IsEntryStamped (Trim low) = low ≤ MOST_STAMP
+IsEntryStamped (Over ending) = Unit {0}
+
+-- each entry of a record
+abbrev pub AllEntries : (Entry → Type 0) → List (ℕ × List Entry) → Type 0
+AllEntries P R = AllByRecursion (λ l. AllByRecursion P l.1) R
+
+-- a number of steps that there may be, and a record whose positions, numbers and low marks a line can say: so are those of each run and of each
+-- trace, which make far fewer than 2^63 of each
+pub record IsStamped (steps : ℕ) (R : List (ℕ × List Entry)) : Type 0 where
   pub few : LEAST_STEPS ≤ steps
   pub most : steps ≤ MOST_STEPS
+  pub stamped : AllEntries IsEntryStamped R
+
+-- what a text can say: of each `Record` that is written this holds where it is stamped, as `write_record` ensures
+pub record CanBeSaid (steps : ℕ) (R : List (ℕ × List Entry)) : Type 0 where
+  pub within : IsStamped steps R
   pub kept : IsRecord R
-  pub within : AllByRecursion (λ l. AllByRecursion IsEntryIn l.1) R
+  pub typed : AllEntries IsEntryTyped R

@@ -1,6 +1,7 @@
 // The kinds of synchronization, by the word that tells each.
 ghost use Rattle.std.specs.Prelude.{◌≡◌, ◌≤◌, ◌+◌, ◌*◌, ◌^◌, ◌<◌};
 ghost use Rattle.gl_model.specs.Elements.{IsActInRange};
+ghost use Rattle.gl_journal.specs.Written.{IsActTyped};
 ghost use Rattle.gl_journal.specs.SyncKinds.{kind_in, word_of, most_of, act_of, kind_of, arg_of};
 
 use gl_model::{Act, CLASSES, FUNCTIONS, MONITORS, THREADS, VOLATILES};
@@ -129,7 +130,8 @@ pub fn kind_of(act: Act) -> SyncKind
 
 /// The number of an act, 0 where it has none.
 pub fn number_of(act: Act) -> u32
-    ensures { result ≡ arg_of act }
+    ensures value { result ≡ arg_of act }
+    ensures typed { IsActTyped act }
 {
     match act {
         Act::Begin(func) => u32::from(func),

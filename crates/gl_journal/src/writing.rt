@@ -1,6 +1,8 @@
 // The text of a record.
 ghost use Rattle.std.specs.Prelude.{◌≡◌, ◌++◌, ℕ, OnOk, IfOk, string_bytes, map};
-ghost use Rattle.std.specs.List.{flat_map};
+ghost use Rattle.std.specs.List.{AllByRecursion, flat_map};
+ghost use Rattle.gl_journal.specs.Meaning.{IsRecordText};
+ghost use Rattle.gl_journal.specs.Written.{IsActTyped, IsEndingTyped, IsEntryTyped, IsStamped, IsTxTyped, IsValue, IsWhyTyped};
 ghost use Rattle.gl_model.specs.Entries.{seen, Sync as SyncEntry};
 ghost use Rattle.gl_journal.specs.Rows.{list_word, look_word, pair_word, number_word, tx_words, over_row, abort_row, entry_row, entry_rows, thread_row, header_row, row_text, record_text};
 
@@ -15,7 +17,8 @@ const MOST_PARTS: usize = TX_VARIABLES as usize;
 
 // Adds a look.
 fn push_look(out: &mut String, look: Look) -> Result<(), AllocError>
-    ensures { OnOk result (string_bytes out.new ≡ string_bytes out.old ++ look_word look) }
+    ensures text { OnOk result (string_bytes out.new ≡ string_bytes out.old ++ look_word look) }
+    ensures typed { IsValue look.value }
 {
     let Look { var, value, nth } = look;
     write!(out, "{var}:{value}:{nth}")
@@ -23,7 +26,8 @@ fn push_look(out: &mut String, look: Look) -> Result<(), AllocError>
 
 // Adds a write.
 fn push_pair(out: &mut String, pair: Pair) -> Result<(), AllocError>
-    ensures { OnOk result (string_bytes out.new ≡ string_bytes out.old ++ pair_word pair) }
+    ensures text { OnOk result (string_bytes out.new ≡ string_bytes out.old ++ pair_word pair) }
+    ensures typed { IsValue pair.value }
 {
     let Pair { var, value } = pair;
     write!(out, "{var}:{value}")
@@ -39,7 +43,8 @@ fn push_number(out: &mut String, number: Number) -> Result<(), AllocError>
 
 // Adds the list of the looks.
 fn push_looks(out: &mut String, looks: &Looks) -> Result<(), AllocError>
-    ensures { OnOk result (string_bytes out.new ≡ string_bytes out.old ++ list_word (map look_word looks.now)) }
+    ensures text { OnOk result (string_bytes out.new ≡ string_bytes out.old ++ list_word (map look_word looks.now)) }
+    ensures typed { OnOk result (AllByRecursion (λ l. IsValue l.value) looks.now) }
 {
     looks.keeps();
     let Some(first) = looks.at(0) else {
@@ -58,7 +63,8 @@ fn push_looks(out: &mut String, looks: &Looks) -> Result<(), AllocError>
 
 // Adds the list of the writes.
 fn push_pairs(out: &mut String, pairs: &Pairs) -> Result<(), AllocError>
-    ensures { OnOk result (string_bytes out.new ≡ string_bytes out.old ++ list_word (map pair_word pairs.now)) }
+    ensures text { OnOk result (string_bytes out.new ≡ string_bytes out.old ++ list_word (map pair_word pairs.now)) }
+    ensures typed { OnOk result (AllByRecursion (λ w. IsValue w.value) pairs.now) }
 {
     pairs.keeps();
     let Some(first) = pairs.at(0) else {
@@ -96,7 +102,8 @@ fn push_numbers(out: &mut String, numbers: &Numbers) -> Result<(), AllocError>
 
 // Adds the rest of a line: a transaction.
 fn push_tx(out: &mut String, tx: &Tx) -> Result<(), AllocError>
-    ensures { OnOk result (string_bytes out.new ≡ string_bytes out.old ++ row_text (tx_words tx.now)) }
+    ensures text { OnOk result (string_bytes out.new ≡ string_bytes out.old ++ row_text (tx_words tx.now)) }
+    ensures typed { OnOk result (IsTxTyped tx.now) }
 {
     write!(out, "r ")?;
     push_looks(out, &tx.looks)?;
@@ -109,7 +116,9 @@ fn push_tx(out: &mut String, tx: &Tx) -> Result<(), AllocError>
 
 // Adds the line of a synchronization.
 fn push_sync(out: &mut String, at: u64, act: Act, value: i64) -> Result<(), AllocError>
-    ensures { OnOk result (string_bytes out.new ≡ string_bytes out.old ++ row_text (entry_row (SyncEntry at act value))) }
+    ensures text { OnOk result (string_bytes out.new ≡ string_bytes out.old ++ row_text (entry_row (SyncEntry at act value))) }
+    ensures act { IsActTyped act }
+    ensures value { IsValue value }
 {
     let kind = kind_of(act).word();
     let number = number_of(act);
@@ -118,7 +127,9 @@ fn push_sync(out: &mut String, at: u64, act: Act, value: i64) -> Result<(), Allo
 
 // Adds the line of an attempt that was dropped.
 fn push_abort(out: &mut String, tx: &Tx, why: Why) -> Result<(), AllocError>
-    ensures { OnOk result (string_bytes out.new ≡ string_bytes out.old ++ row_text (abort_row tx.now why)) }
+    ensures text { OnOk result (string_bytes out.new ≡ string_bytes out.old ++ row_text (abort_row tx.now why)) }
+    ensures tx { OnOk result (IsTxTyped tx.now) }
+    ensures why { IsWhyTyped why }
 {
     match why {
         Why::Changed { var, read, found } => write!(out, "abort changed {var} {read} {found} ")?,
@@ -129,7 +140,8 @@ fn push_abort(out: &mut String, tx: &Tx, why: Why) -> Result<(), AllocError>
 
 // Adds the line of the end of a list.
 fn push_over(out: &mut String, ending: Ending) -> Result<(), AllocError>
-    ensures { OnOk result (string_bytes out.new ≡ string_bytes out.old ++ row_text (over_row ending)) }
+    ensures text { OnOk result (string_bytes out.new ≡ string_bytes out.old ++ row_text (over_row ending)) }
+    ensures typed { IsEndingTyped ending }
 {
     match ending {
         Ending::Halt => writeln!(out, "over halt"),
@@ -138,9 +150,17 @@ fn push_over(out: &mut String, ending: Ending) -> Result<(), AllocError>
     }
 }
 
+// Tells a caller's proof that a value is one of 64 bits.
+fn keeps_type(value: i64)
+    ensures { IsValue value }
+{
+    let _ = value;
+}
+
 // Adds the line of an entry.
 fn push_entry(out: &mut String, entry: &Entry) -> Result<(), AllocError>
-    ensures { OnOk result (string_bytes out.new ≡ string_bytes out.old ++ row_text (entry_row (seen entry.now))) }
+    ensures text { OnOk result (string_bytes out.new ≡ string_bytes out.old ++ row_text (entry_row (seen entry.now))) }
+    ensures typed { OnOk result (IsEntryTyped (seen entry.now)) }
 {
     match entry {
         Entry::Sync { at, act, value } => push_sync(out, *at, *act, *value),
@@ -159,6 +179,7 @@ fn push_entry(out: &mut String, entry: &Entry) -> Result<(), AllocError>
             let verb = if *write { "wr" } else { "rd" };
             let owner = if *cached { "cached" } else { "own" };
             let verdict = if *raised { "race" } else { "ok" };
+            keeps_type(*value);
             writeln!(out, "plain {var} {nth} {verb} {value} {owner} {verdict}")
         }
         Entry::Abort { tx, why } => push_abort(out, tx, *why),
@@ -169,7 +190,8 @@ fn push_entry(out: &mut String, entry: &Entry) -> Result<(), AllocError>
 
 // Adds the lines of a thread.
 fn push_list(out: &mut String, thread: u8, entries: &[Entry]) -> Result<(), AllocError>
-    ensures { OnOk result (string_bytes out.new ≡ string_bytes out.old ++ (row_text (thread_row thread) ++ flat_map (λ e. row_text (entry_row (seen e))) entries.now)) }
+    ensures text { OnOk result (string_bytes out.new ≡ string_bytes out.old ++ (row_text (thread_row thread) ++ flat_map (λ e. row_text (entry_row (seen e))) entries.now)) }
+    ensures typed { OnOk result (AllByRecursion IsEntryTyped (map seen entries.now)) }
 {
     writeln!(out, "thread {thread}")?;
     for entry in entries {
@@ -178,9 +200,11 @@ fn push_list(out: &mut String, thread: u8, entries: &[Entry]) -> Result<(), Allo
     Ok(())
 }
 
-/// The text of a record and of the number of steps that its threads were given.
+/// The text of a record and of the number of steps that its threads were given. Where a line can say its positions, numbers and low marks it means
+/// that record, and so is read back.
 pub fn write_record(alloc: Global, steps: u32, record_of: &Record) -> Result<Vec<u8>, AllocError>
-    ensures { IfOk result (λ text. text.items ≡ record_text steps record_of.now) }
+    ensures text { IfOk result (λ text. text.items ≡ record_text steps record_of.now) }
+    ensures read { IsStamped steps record_of.now → IfOk result (λ text. IsRecordText text.items steps record_of.now) }
 {
     let mut out = String::new(alloc);
     writeln!(out, "record 1 {steps}")?;
