@@ -62,11 +62,55 @@ same "a reader that has gone: status" 3 "$(cat "$work/status")"
 ./goldi check <examples/ordered_fork.trace | head -n 1 >"$work/out"
 same "the first line alone" "1 ok" "$(cat "$work/out")"
 for words in "" "chek" "check more" "--help" "run --steps" "run --steps=" "run --steps 1000001" "run --steps 00000001" \
-    "run --steps +1" "run --steps 1 --steps=1" "run --workers 0" $'\xff'; do
+    "run --steps +1" "run --steps 1 --steps=1" "run --workers 0" "run --workers 17" "run --segments=1" "run --cells 65" \
+    "run --workers 2 --cells" $'\xff'; do
     # shellcheck disable=SC2086
     ./goldi $words </dev/null >"$work/out"
     same "words '$words': status" 1 $?
     same "words '$words': output" "usage: goldi check|list|run|load|audit" "$(cat "$work/out")"
+done
+
+# Two threads that add to one field with nothing between them: which access is raised depends on how their steps fall, but one or two are.
+cat >"$work/unguarded" <<'PROGRAM'
+class C 1 0
+func main 0 3
+  new C
+  store 0
+  load 0
+  fork w
+  store 1
+  load 0
+  fork w
+  store 2
+  load 1
+  join
+  load 2
+  join
+  halt
+func w 1 1
+from:
+  load 0
+  load 0
+  get 0
+  push 1
+  add
+  put 0
+to:
+  push 0
+  ret
+raised:
+  print
+  push 0
+  ret
+  catch from to raised
+PROGRAM
+for words in "run --workers 1" "run" "run --workers 16"; do
+    # shellcheck disable=SC2086
+    ./goldi $words <"$work/unguarded" >"$work/out"
+    same "unguarded, $words: status" 6 $?
+    same "unguarded, $words: exceptions are races" "" "$(grep '^out' "$work/out" | grep -v '^out 1$')"
+    same "unguarded, $words: as many as are told" "races $(grep -c '^race [12] 0 ' "$work/out")" "$(tail -n 1 "$work/out")"
+    same "unguarded, $words: ends" 3 "$(grep -c '^end [012] halt$' "$work/out")"
 done
 
 # A text without an end, one that comes in two parts, and each front of a program.

@@ -8,5 +8,4 @@ pub mod NameIndex
 pub mod Names
 pub mod Sayings
 pub mod Texts
-pub mod Unbuilt
 pub mod Words

@@ -1,5 +1,5 @@
 -- The words of the instructions, and what stands behind them.
-use Rattle.std.specs.Prelude.{ℕ, ℤ, List, codes, Bool, true, false, Option, find, bytes_eq}
+use Rattle.std.specs.Prelude.{ℕ, ℤ, List, codes, Option, find, bytes_eq}
 use Rattle.gl_asm.specs.declared.table.Operand.{Operand}
 use Rattle.gl_asm.specs.declared.table.Operand.TheVariants.{Nothing, Value, Index, IndexAndValue, Code, Label, Function, Class}
 use Rattle.gl_asm.specs.declared.table.TheConstants.{INSTRUCTIONS}
@@ -142,48 +142,3 @@ filled Input index value = Input
 -- the instruction of a word, with any operands
 abbrev pub template_of : List ℕ → Option Instr
 template_of word = find (λ i. bytes_eq (word_of i) word) INSTRUCTIONS
-
--- `run` does it; the others speak of another thread or of a transaction, and wait for the workers
-abbrev pub is_built : Instr → Bool
-is_built (Push n) = true
-is_built Pop = true
-is_built Dup = true
-is_built Swap = true
-is_built (Load k) = true
-is_built (Store k) = true
-is_built (Inc k n) = true
-is_built Add = true
-is_built Sub = true
-is_built Mul = true
-is_built Div = true
-is_built Rem = true
-is_built Neg = true
-is_built Eq = true
-is_built Lt = true
-is_built Le = true
-is_built Not = true
-is_built And = true
-is_built Or = true
-is_built Xor = true
-is_built (Jump to) = true
-is_built (Jz to) = true
-is_built (Jnz to) = true
-is_built (Call f) = true
-is_built Ret = true
-is_built Halt = true
-is_built (Throw code) = true
-is_built Nop = true
-is_built (New c) = true
-is_built (Get k) = true
-is_built (Put k) = true
-is_built (Vget k) = true
-is_built (Vput k) = true
-is_built Enter = true
-is_built Exit = true
-is_built (Fork f) = false
-is_built Join = false
-is_built SelfId = true
-is_built Txbegin = false
-is_built Commit = false
-is_built Print = true
-is_built Input = true

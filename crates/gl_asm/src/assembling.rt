@@ -6,7 +6,6 @@ ghost use Rattle.gl_asm.specs.declared.definitions.Scope.TheVariants.{Functions}
 ghost use Rattle.gl_asm.specs.Definitions.{definitions, first_definition};
 ghost use Rattle.gl_asm.specs.Sayings.{HasFunction, refused_at};
 ghost use Rattle.gl_asm.specs.Texts.{IsText, IsTextBy, LineFault, TellsFirst, TellsFirstBy, TellsLine, added, inputs_in, lines_read, start, text_read};
-ghost use Rattle.gl_asm.specs.Unbuilt.{AreBuilt, IsTextToRun, TellsFirstToRun, earlier, read_to_run, unless_unbuilt};
 ghost use Rattle.gl_bytecode.specs.Programs.{Draft};
 ghost use Rattle.gl_text.specs.declared.fault.TextError.TheVariants.{Fault};
 
@@ -17,10 +16,9 @@ use crate::limits::LONGEST;
 use crate::places::fault_line;
 use crate::refusal::Refusal;
 use crate::sayings::said;
-use crate::unbuilt::first_unbuilt;
 use gl_bytecode::{Parts, ProgError, Program, validate};
 use gl_model::Inputs;
-use gl_text::kinds::{NOT_BUILT, PROGRAM_FAULT_BASE, TOO_LONG};
+use gl_text::kinds::{PROGRAM_FAULT_BASE, TOO_LONG};
 use gl_text::{Lines, TextError, TextFault};
 use std::alloc::{AllocError, Global};
 
@@ -168,51 +166,6 @@ fn read_text(alloc: Global, bytes: &[u8]) -> Result<Read, TextError>
     read_short(alloc, bytes)
 }
 
-// The fault of a line, or that of a line that is not built, where no line before it has one.
-fn earlier(unbuilt: Option<u32>, fault: TextFault) -> TextFault
-    ensures { (result.line, result.kind) ≡ earlier unbuilt (fault.line, fault.kind) }
-{
-    match unbuilt {
-        Some(line) if fault.line >= line => TextFault {
-            line,
-            kind: NOT_BUILT,
-        },
-        _ => fault,
-    }
-}
-
-// What was read, where no line is not built, or else the first fault.
-fn unless_unbuilt(unbuilt: Option<u32>, read: Read) -> Result<Read, TextError>
-    ensures ok { IfOk result (λ left. unless_unbuilt unbuilt (Ok (read.parts, read.inputs)) ≡ Ok (left.parts, left.inputs)) }
-    ensures fault { IfErr result (TellsLine (unless_unbuilt unbuilt (Ok (read.parts, read.inputs)))) }
-{
-    match unbuilt {
-        None => Ok(read),
-        Some(line) => Err(TextError::Fault(TextFault {
-            line,
-            kind: NOT_BUILT,
-        })),
-    }
-}
-
-// What a text means for `run`, apart from what is wrong with the program.
-#[tactic(auto, unfolding(crate::specs::Unbuilt::read_to_run))]
-fn read_to_run(alloc: Global, bytes: &[u8]) -> Result<Read, TextError>
-    ensures ok { IfOk result (λ read. read_to_run bytes.now ≡ Ok (read.parts, read.inputs)) }
-    ensures fault { IfErr result (TellsLine (read_to_run bytes.now)) }
-    ensures short { OnOk result (length bytes.now ≤ LONGEST) }
-{
-    if bytes.len() > LONGEST {
-        return Err(too_long());
-    }
-    let unbuilt = first_unbuilt(bytes);
-    match read_short(alloc, bytes) {
-        Ok(read) => unless_unbuilt(unbuilt, read),
-        Err(TextError::Fault(fault)) => Err(TextError::Fault(earlier(unbuilt, fault))),
-        Err(TextError::Memory(error)) => Err(TextError::Memory(error)),
-    }
-}
-
 // The program and the inputs that were read, or the first fault of the program.
 fn program_of(alloc: Global, bytes: &[u8], read: Read) -> Result<Assembled, TextError>
     requires { length bytes.now ≤ LONGEST }
@@ -237,16 +190,5 @@ pub fn assemble(alloc: Global, bytes: &[u8]) -> Result<Assembled, TextError>
     ensures fault { IfErr result (TellsFirst bytes.now) }
 {
     let read = read_text(alloc, bytes)?;
-    program_of(alloc, bytes, read)
-}
-
-/// The same for `run`, which does not do all instructions yet: one that it does not do is a fault of its line, `NOT_BUILT`, told
-/// in the order of the lines as the other faults are. So the program has only instructions that it does.
-pub fn assemble_to_run(alloc: Global, bytes: &[u8]) -> Result<Assembled, TextError>
-    ensures ok { IfOk result (λ a. IsTextToRun bytes.now a.program a.inputs) }
-    ensures fault { IfErr result (TellsFirstToRun bytes.now) }
-    ensures built { IfOk result (λ a. AreBuilt a.program) }
-{
-    let read = read_to_run(alloc, bytes)?;
     program_of(alloc, bytes, read)
 }

@@ -5,23 +5,12 @@ ghost use Rattle.gl_bytecode.specs.Programs.{Bytecode, draft_of};
 ghost use Rattle.gl_asm.specs.Listable.{OperandsAreTyped};
 ghost use Rattle.gl_asm.specs.Listing.{listing};
 ghost use Rattle.gl_asm.specs.Texts.{IsFirstFault, IsText};
-ghost use Rattle.gl_asm.specs.Unbuilt.{AreBuilt, IsFirstFaultToRun, IsTextToRun};
 
 /// A text has one meaning: a program and its inputs, or its first fault.
 pub fn one_meaning()
     ensures apart { (text : List ℕ) (program : Bytecode) (inputs : List ℤ) (line kind : ℕ) → IsText text program inputs → IsFirstFault text line kind → ⊥ }
     ensures faults { (text : List ℕ) (a b j k : ℕ) → IsFirstFault text a j → IsFirstFault text b k → (a ≡ b) × (j ≡ k) }
     ensures texts { (text : List ℕ) (P Q : Bytecode) (xs ys : List ℤ) → IsText text P xs → IsText text Q ys → (draft_of P ≡ draft_of Q) × (xs ≡ ys) }
-{
-    gl_bytecode::one_meaning();
-}
-
-/// What a text means for `run` is one meaning too, and nothing else than what the text means.
-pub fn one_meaning_to_run()
-    ensures apart { (text : List ℕ) (program : Bytecode) (inputs : List ℤ) (line kind : ℕ) → IsTextToRun text program inputs → IsFirstFaultToRun text line kind → ⊥ }
-    ensures faults { (text : List ℕ) (a b j k : ℕ) → IsFirstFaultToRun text a j → IsFirstFaultToRun text b k → (a ≡ b) × (j ≡ k) }
-    ensures same { (text : List ℕ) (program : Bytecode) (inputs : List ℤ) → IsTextToRun text program inputs → IsText text program inputs }
-    ensures built { (text : List ℕ) (program : Bytecode) (inputs : List ℤ) → IsTextToRun text program inputs → AreBuilt program }
 {
     gl_bytecode::one_meaning();
 }

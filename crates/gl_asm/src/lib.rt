@@ -14,10 +14,9 @@ mod refusal;
 mod sayings;
 mod stated;
 mod table;
-mod unbuilt;
 
-pub use assembling::{Assembled, assemble, assemble_to_run};
-pub use laws::{listing_is_text, one_meaning, one_meaning_to_run};
+pub use assembling::{Assembled, assemble};
+pub use laws::{listing_is_text, one_meaning};
 pub use listing::list;
 pub use stated::{bytes_are_stated, limits_are_stated};
 

@@ -1,7 +1,7 @@
 // The words of the instructions, and what stands behind them.
 ghost use Rattle.std.specs.Prelude.{◌≡◌, IfSome};
 ghost use Rattle.gl_bytecode.specs.Faults.{ThrowsInRange};
-ghost use Rattle.gl_asm.specs.Words.{word_of, operand_of, filled, template_of, is_built};
+ghost use Rattle.gl_asm.specs.Words.{word_of, operand_of, filled, template_of};
 
 use crate::names::same;
 use gl_bytecode::{Instr, LEAST_THROWN};
@@ -229,14 +229,4 @@ pub fn template_of(word: &[u8]) -> Option<Instr>
     ensures thrown { IfSome result ThrowsInRange }
 {
     instr_of(word)
-}
-
-/// Whether `run` does the instruction yet.
-pub fn is_built(instr: Instr) -> bool
-    ensures { result ≡ is_built instr }
-{
-    !matches!(
-        instr,
-        Instr::Fork(_) | Instr::Join | Instr::Txbegin | Instr::Commit
-    )
 }

@@ -1,4 +1,4 @@
-use crate::{Assembled, assemble, assemble_to_run, list};
+use crate::{Assembled, assemble, list};
 use gl_text::TextError;
 use std::alloc::{AllocError, Global};
 use std::process::Abort;
@@ -91,17 +91,6 @@ func main 0 0;call main;ret => ok
 func main 0 0;call f;halt;func f 1 1;load 0;ret => 1 45
 func main 0 0;jump;halt => 2 5";
 
-// The same for `run`.
-const TEXTS_TO_RUN: &str = "func main 0 0;push 5;print;halt => ok
-func main 0 0;txbegin;halt => 2 9
-func main 0 0;halt;fork f => 3 9
-fork f => 1 10
-func main 0 0;commit x => 2 9
-func main 0 0;hlt;join => 2 4
-func main 0 0;join;hlt => 2 9
-func f 0 0;join => 2 9
-func main 0 0;halt;input 5;join => 4 10";
-
 // The bytes of a text, with `;` for the end of a line.
 fn with_lines(alloc: Global, text: &str) -> Result<Vec<u8>, AllocError> {
     let mut bytes = Vec::new(alloc);
@@ -136,21 +125,10 @@ fn answers(rt: &impl Abort, alloc: Global, case: &str) -> Result<(), Fail> {
     Ok(())
 }
 
-fn answers_to_run(rt: &impl Abort, alloc: Global, case: &str) -> Result<(), Fail> {
-    let (text, wanted) = case.split_once(" => ").ok_or("a case has no answer")?;
-    let bytes = with_lines(alloc, text)?;
-    let given = told(alloc, assemble_to_run(alloc, &bytes))?;
-    assert_eq!(rt; given.as_str(), wanted, "{text}");
-    Ok(())
-}
-
 #[test]
 fn texts(rt: HostRuntime) -> Result<(), Fail> {
     for case in TEXTS.lines() {
         answers(&rt, rt.alloc(), case)?;
-    }
-    for case in TEXTS_TO_RUN.lines() {
-        answers_to_run(&rt, rt.alloc(), case)?;
     }
     Ok(())
 }

@@ -155,9 +155,9 @@ put_refused c setting p t l s b is r = record { held = new_held 0 (slot.List l);
 
 -- what is true of the answer
 pub done_is : (c : Call) (z : TableView) (p q : PassView) (l l' : ListView) (low tail : ℕ) (act : Act) (value : ℤ) (d : Done) → MayCall c z p → StateTold z.key.setting (view_of p) l → IsPlan c z.key.setting p.own.id l (record { act = act; value = value })
-    → Becomes z.key.setting p.own.id act value l l' → HasRoomAt z low tail → p.seen ≤ tail → tail ≤ d.at → d ≡ done_of d.at act value → q ≡ announced (with_room p l low tail) act value d.at (slot.List l')
+    → Becomes z.key.setting p.own.id act value l l' → HasRoomAt z low tail → p.seen ≤ tail → d.at ≡ tail → d ≡ done_of d.at act value → q ≡ announced (with_room p l low tail) act value d.at (slot.List l')
     → IsDone z p q (act_of c d) (value_of c d) d
-done_is c z p q l l' low tail act value d call told plan to room later behind answer is =
+done_is c z p q l l' low tail act value d call told plan to room later here answer is =
     let s = says c d.at value act plan.0 in
     let same_act : act_of c d ≡ act = ap (act_of c) answer ∙ s.0 in
     let same_value : value_of c d ≡ value = ap (value_of c) answer ∙ s.1 in
@@ -169,7 +169,7 @@ done_is c z p q l l' low tail act value d call told plan to room later behind an
       may = plan.1;
       room = room;
       later = later;
-      behind = behind;
+      here = here;
       step = is_step z.key.setting p l l' act value told (steps c z.key.setting p l l' act value told call.life plan.0 plan.1 to);
       next = l';
       moves = steps c z.key.setting p l l' act value told call.life plan.0 plan.1 to;
@@ -201,9 +201,9 @@ at_of n (Fail k) value = refl
 
 -- and of one that was published at n
 pub answered : (c : Call) (z : TableView) (p q : PassView) (l l' : ListView) (low tail n : ℕ) (act : Act) (value : ℤ) (d : Done) → MayCall c z p → StateTold z.key.setting (view_of p) l → IsPlan c z.key.setting p.own.id l (record { act = act; value = value })
-    → Becomes z.key.setting p.own.id act value l l' → HasRoomAt z low tail → p.seen ≤ tail → tail ≤ n → d ≡ done_of n act value → q ≡ announced (with_room p l low tail) act value n (slot.List l')
+    → Becomes z.key.setting p.own.id act value l l' → HasRoomAt z low tail → p.seen ≤ tail → n ≡ tail → d ≡ done_of n act value → q ≡ announced (with_room p l low tail) act value n (slot.List l')
     → IsDone z p q (act_of c d) (value_of c d) d
-answered c z p q l l' low tail n act value d call told plan to room later behind answer is =
+answered c z p q l l' low tail n act value d call told plan to room later here answer is =
     let e : d.at ≡ n = ap (λ (d : Done). d.at) answer ∙ at_of n act value in
-    done_is c z p q l l' low tail act value d call told plan to room later (subst (λ k. tail ≤ k) (sym e) behind) (subst (λ k. d ≡ done_of k act value) (sym e) answer)
+    done_is c z p q l l' low tail act value d call told plan to room later (e ∙ here) (subst (λ k. d ≡ done_of k act value) (sym e) answer)
     (subst (λ k. q ≡ announced (with_room p l low tail) act value k (slot.List l')) (sym e) is)

@@ -85,7 +85,8 @@ pub record IsDone (z : TableView) (p q : PassView) (act : Act) (value : ℤ) (d 
   pub may : MayAct z.key.setting p.own.id state act value
   pub room : HasRoomAt z low tail
   pub later : p.seen ≤ tail
-  pub behind : tail ≤ d.at
+  -- it stands at the tail
+  pub here : d.at ≡ tail
   pub step : IsStepOf z.key.setting p act value
   -- from each state of the machine that the taken state stands for, it is one to a state that this one stands for
   pub next : ListView

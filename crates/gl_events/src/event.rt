@@ -35,7 +35,7 @@ fn announce(shared: &Shared, pass: &mut Pass, plan: &Plan, state: ListState) -> 
     requires spare { 0 < pass.old.spare }
     requires may { MayPublishAct shared.now.key pass.old plan.now.act plan.now.value state }
     ensures is { pass.new ≡ announced pass.old plan.now.act plan.now.value result (slot.List state) }
-    ensures later { pass.old.seen ≤ result }
+    ensures here { result ≡ pass.old.seen }
 {
     let at = shared.publish(pass, &plan.act, plan.value, &state);
     shared.put_list(pass, state, false);

@@ -1,7 +1,7 @@
 ghost use Rattle.std.specs.Prelude.{◌≡◌, []};
 ghost use Rattle.gl_segments.specs.Rings.{IsRing};
 
-use crate::{Stop, begin, end, exit, input};
+use crate::{Stop, begin, end, enter, exit, input};
 use gl_model::{Classes, Ending, Inputs};
 use gl_segments::Ring;
 use gl_table::{Layout, Shared};
@@ -58,5 +58,39 @@ fn one_thread_runs(rt: HostRuntime) -> Result<(), Fail> {
         panic!(rt; "no thread is live")
     };
     assert!(rt; zero.is_done() && one.is_done());
+    Ok(())
+}
+
+// The monitors that a thread is in: it enters two, one of them twice, and is in that until it left it twice.
+#[test]
+fn monitors_are_entered_and_left(rt: HostRuntime) -> Result<(), Fail> {
+    let Ok((shared, mut passes)) = Shared::new(rt.alloc(), layout(rt.alloc())) else {
+        panic!(rt; "no memory")
+    };
+    assert!(rt; passes.len() == 16);
+    let mut zero = passes.remove(0);
+    zero.reserve(6)?;
+    let Ok(_) = begin(&shared, &mut zero) else {
+        panic!(rt; "thread 0 is forked from the start")
+    };
+    let Ok(_) = enter(&shared, &mut zero, 9) else {
+        panic!(rt; "nobody is in the monitor")
+    };
+    let Ok(_) = enter(&shared, &mut zero, 5) else {
+        panic!(rt; "nobody is in the monitor")
+    };
+    let Ok(_) = enter(&shared, &mut zero, 9) else {
+        panic!(rt; "it is in the monitor itself")
+    };
+    assert!(rt; matches!(zero.monitors().monitors(), [5, 9]));
+    let Ok(left) = exit(&shared, &mut zero, 9) else {
+        panic!(rt; "it is in the monitor")
+    };
+    assert!(rt; left.code == 0 && matches!(zero.monitors().monitors(), [5, 9]));
+    let Ok(left) = exit(&shared, &mut zero, 9) else {
+        panic!(rt; "it is in the monitor")
+    };
+    assert!(rt; left.code == 0 && matches!(zero.monitors().monitors(), [5]));
+    assert!(rt; zero.right(7).is_none());
     Ok(())
 }

@@ -37,8 +37,8 @@ use Rattle.gl_table.specs.TableView.{TableView}
 use Rattle.gl_rows.specs.declared.accessing.PlainAccess.{PlainAccess}
 use Rattle.gl_rows.specs.declared.accessing.Seen.{Seen}
 use Rattle.gl_rows.specs.declared.accessing.Seen.TheVariants.{Value, Raised}
-use Rattle.gl_rows.specs.Accessing.{MayAccess, access_of, RowAfter, IsSeen, HasNumber, Answers, is_raised, value_told, question_of, IsJudged}
-use Rattle.gl_rows.specs.Walks.{HasWalked, HoldsRow}
+use Rattle.gl_rows.specs.Accessing.{MayAccess, access_of, RowAfter, IsSeen, HasNumber, Answers, is_raised, value_told, question_of, IsJudged, LoadsOnce}
+use Rattle.gl_rows.specs.Walks.{placed_from, HasWalked, HoldsRow}
 use Rattle.gl_rows.proofs.Noting.{OwnLeast, fits_pop, own_stands, still_last, raised_follows, write_follows, read_follows}
 use Rattle.gl_rows.proofs.Windows.{stand_judged}
 
@@ -299,15 +299,33 @@ module _ (setting : Setting) (p : PassView) (x : ℕ) (row : Row) (tail : ℕ) (
       } in
       subst (λ (z : PassView). MayPutBack setting (shelf_of z) (view_of z) (suc x) (slot.Row new) false) (sym (is ∙ ap (at_held p x row tail known loaded nth a) (held_is p x row tail))) back
 
+-- the events that it loaded
+loads_once : (p : PassView) (x : ℕ) (row : Row) (tail : ℕ) (w u r : PassView) → w ≡ with_row p x row tail → HasWalked row w u → r.seen ≡ tail → r.known ≡ u.known → LoadsOnce row p r
+loads_once p x row tail w u r is walk seen known =
+    let at = ap (λ (z : PassView). z.seen) is in
+    let ends = walk.ends in
+    record {
+      from = walk.from;
+      events = walk.events;
+      known = known ∙ ap (λ (z : PassView). z.known) walk.is ∙ ap (λ (z : PassView). z.known ++ placed_from walk.from walk.events) is;
+      ends = omega arith;
+      named = walk.named;
+    }
+
+-- none, where an early cut is sure of each Info that conflicts
+pub loads_none : (p : PassView) (x : ℕ) (row : Row) (tail : ℕ) (w u r : PassView) → w ≡ with_row p x row tail → u ≡ w → r.known ≡ u.known → r.known ≡ p.known
+loads_none p x row tail w u r is same known = known ∙ ap (λ (z : PassView). z.known) (same ∙ is)
+
 -- what the call tells of the row that it took
-pub is_judged : (setting : Setting) (p : PassView) (x : ℕ) (row : Row) (tail : ℕ) (known : List (ℕ × Stamp)) (loaded : List CellWord) (nth : ℕ) (write : Option ℤ) (race : Bool) (a : PlainAccess) (s : Seen) (r : PassView) → a ≡ access_of row write race → IsSeen a nth s → IsStored p x row tail known loaded nth a r
-    → ((l : List Stamp) → IsFitting setting (shelf_of p) tail known l → InfosStand setting l row → (race ≡ true) ↔ SomeFails l row (question_of p.own write)) → IsJudged setting x write p s r
-is_judged setting p x row tail known loaded nth write race a s r is seen stored judged =
+pub is_judged : (setting : Setting) (p : PassView) (x : ℕ) (row : Row) (tail : ℕ) (known : List (ℕ × Stamp)) (loaded : List CellWord) (nth : ℕ) (write : Option ℤ) (race : Bool) (a : PlainAccess) (s : Seen) (r : PassView) (w u : PassView) → w ≡ with_row p x row tail → HasWalked row w u → known ≡ u.known
+    → a ≡ access_of row write race → IsSeen a nth s → IsStored p x row tail known loaded nth a r → ((l : List Stamp) → IsFitting setting (shelf_of p) tail known l → InfosStand setting l row → (race ≡ true) ↔ SomeFails l row (question_of p.own write)) → IsJudged setting x write p s r
+is_judged setting p x row tail known loaded nth write race a s r w u took walk events is seen stored judged =
     let told = entry_told row write race nth s (subst (λ (b : PlainAccess). IsSeen b nth s) is seen) in
     let same : is_raised s ≡ race = sym told.raised ∙ (access_facts row write race).1 in
     record {
       row = row;
       took = stored.reads;
       answers = told.answers;
+      loads = loads_once p x row tail w u r took walk stored.seen (stored.known_is ∙ events);
       raised = λ l f stand. let k = judged l (fits_stored p x row tail known loaded nth setting a r stored l f) stand in (λ e. k.0 (sym same ∙ e), λ e. same ∙ k.1 e);
     }

@@ -92,9 +92,6 @@ fits_before setting s seen known further l f = record {
   own = f.own;
 }
 
--- the rule and the judge mean the same by Infos that stand for accesses
+-- what the rule means by Infos that stand for accesses the judge means, too
 pub stand_judged : (setting : Setting) (l : List Stamp) (row : Row) → InfosStand setting l row → judging.InfosStand setting l row
 stand_judged setting l row s = record { last_write = s.last_write; reads = s.reads }
-
-pub stand_ruled : (setting : Setting) (l : List Stamp) (row : Row) → judging.InfosStand setting l row → InfosStand setting l row
-stand_ruled setting l row s = record { last_write = s.last_write; reads = s.reads }

@@ -1,13 +1,16 @@
 -- What a checked access asks of its pass, and does.
-use Rattle.std.specs.Prelude.{◌≡◌, ◌↔◌, ◌⊎◌, ℕ, ℤ, suc, ◌<◌, ◌^◌, true, false, pos, Bool, if◌then◌else◌, List, [], ◌∷◌, ◌++◌, Option, Some, None, Contains}
+use Rattle.std.specs.Prelude.{◌≡◌, ◌↔◌, ◌⊎◌, ℕ, ℤ, suc, ◌<◌, ◌^◌, true, false, pos, Bool, if◌then◌else◌, List, [], ◌∷◌, ◌++◌, ◌+◌, length, Option, Some, None, Contains}
 use Rattle.std.specs.Option.{is_some}
 use Rattle.gl_model.specs.declared.event.Stamp.{Stamp}
+use Rattle.gl_model.specs.declared.limits.TheConstants.{THREADS}
+use Rattle.gl_model.specs.declared.row.Info.{Info}
 use Rattle.gl_model.specs.declared.row.Row.{Row}
 use Rattle.gl_model.specs.declared.row.Question.{Question}
 use Rattle.gl_model.specs.Entries.{Plain}
 use Rattle.gl_model.specs.Machine.{Setting}
 use Rattle.gl_draws.specs.RowFacts.{SomeFails}
 use Rattle.gl_draws.specs.Ties.{counted}
+use Rattle.gl_judge.specs.Conflicting.{Keeps, Conflicts}
 use Rattle.gl_judge.specs.Noted.{IsNoted}
 use Rattle.gl_rows.specs.declared.accessing.PlainAccess.{PlainAccess}
 use Rattle.gl_rows.specs.declared.accessing.Seen.{Seen}
@@ -15,9 +18,14 @@ use Rattle.gl_rows.specs.declared.accessing.Seen.TheVariants.{Value, Raised}
 use Rattle.gl_rule.specs.declared.slot.Slot.TheVariants as slot
 use Rattle.gl_rule.specs.Fitting.{IsFitting, InfosStand}
 use Rattle.gl_rule.specs.Lives.{Running, life_of}
+use Rattle.gl_rule.specs.Levels.{levels_of, AreLeastEntered}
+use Rattle.gl_rule.specs.Values.{InRow}
 use Rattle.gl_rule.specs.View.{Taken}
+use Rattle.gl_shortcut.specs.declared.cuts.Cuts.{Cuts}
+use Rattle.gl_shortcut.specs.Surely.{SayYesSurely}
 use Rattle.gl_table.specs.PassView.{PassView, Own, shelf_of}
 use Rattle.gl_table.specs.TableView.{TableView}
+use Rattle.gl_rows.specs.Walks.{placed_from}
 
 -- the pass is of this table, holds nothing, waits for no entry, does not owe the variable, has room for an entry, and its thread runs
 pub record MayAccess (z : TableView) (p : PassView) (x : ℕ) : Type 0 where
@@ -73,10 +81,26 @@ Answers row write (Raised nth) = Unit {0}
 abbrev pub question_of : Own → Option ℤ → Question
 question_of o write = record { thread = o.id; write = is_some write; commit = None; held = [] }
 
--- the row that the call took, by which it answered: raised exactly where some Info that conflicts with the access fails its test, over each list of events that the pass
--- cannot tell from the table's and in which the row's Infos stand for accesses
+-- the further events that the pass knows are those from an Info of the row on, up to the last tail that it saw, each of them once; or none
+pub record LoadsOnce (row : Row) (p q : PassView) : Type 0 where
+  pub from : ℕ
+  pub events : List Stamp
+  pub known : q.known ≡ p.known ++ placed_from from events
+  pub ends : from + length events ≡ q.seen
+  pub named : (events ≡ []) ⊎ ((i : Info) × InRow row i × (i.pos ≡ from))
+
+-- no event is loaded where, of each Info that conflicts with the access, some early cut says for sure that it is ordered before it: asked of
+-- the row that was taken, with the least monitors that the thread is in
+abbrev pub LoadsNone : {X : _} {Y : _} {f : _} {g : _} → Cuts X Y f g → ℕ → Option ℤ → PassView → PassView → Type 0
+LoadsNone cuts x write p q =
+    (row : Row) × (q.reads ≡ p.reads ++ Taken (suc x) (slot.Row row) ∷ []) × (held : List ℕ) × AreLeastEntered (levels_of p.own.mine) held
+    × (((i : Info) → Keeps row i → Conflicts i (record (question_of p.own write) { held = held }) → (i.thread < THREADS) × SayYesSurely cuts i (record (question_of p.own write) { held = held })) → q.known ≡ p.known)
+
+-- the row that the call took, by which it answered: raised exactly where some Info that conflicts with the access fails its test, over each
+-- list of events that the pass cannot tell from the table's and in which the row's Infos stand for accesses
 pub record IsJudged (setting : Setting) (x : ℕ) (write : Option ℤ) (p : PassView) (s : Seen) (q : PassView) : Type 0 where
   pub row : Row
   pub took : q.reads ≡ p.reads ++ Taken (suc x) (slot.Row row) ∷ []
   pub answers : Answers row write s
+  pub loads : LoadsOnce row p q
   pub raised : (l : List Stamp) → IsFitting setting (shelf_of q) q.seen q.known l → InfosStand setting l row → (is_raised s ≡ true) ↔ SomeFails l row (question_of p.own write)

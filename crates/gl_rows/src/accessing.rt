@@ -1,9 +1,9 @@
 // A checked access to a row.
-ghost use Rattle.std.specs.Prelude.{◌≡◌, ◌<◌, ◌≤◌, ◌-◌, List, [], IfOk, IfErr, OnOk, IsTrue, ◌↔◌, ℕ, true, is_some, None};
+ghost use Rattle.std.specs.Prelude.{◌≡◌, ◌<◌, ◌≤◌, ◌-◌, IfOk, IfErr, OnOk, ◌↔◌, true};
 ghost use Rattle.gl_judge.specs.declared.judging.Verdict.TheVariants.{Race};
 ghost use Rattle.gl_model.specs.declared.limits.TheConstants.{THREADS, VARIABLES};
 ghost use Rattle.gl_rule.specs.Objects.{capacity};
-ghost use Rattle.gl_rows.specs.Accessing.{MayAccess, access_of, RowAfter, IsSeen, HasEntry, IsJudged};
+ghost use Rattle.gl_rows.specs.Accessing.{MayAccess, access_of, RowAfter, IsSeen, HasEntry, IsJudged, LoadsNone};
 ghost use Rattle.gl_rows.specs.Walks.{ReadBusy};
 
 use crate::checking::check;
@@ -75,15 +75,15 @@ fn store(kept: &mut KeptRow, access: &PlainAccess, q: &Question, at: u64)
 fn answer(nth: u64, access: &PlainAccess) -> Seen
     ensures { IsSeen access.now nth result }
 {
-    if access.raised {
-        return Seen::Raised { nth };
+    if !access.raised {
+        return Seen::Value(access.value);
     }
-    Seen::Value(access.value)
+    Seen::Raised { nth }
 }
 
-/// Reads a variable, or writes it a value. Raised comes exactly where the row that the call took says that the access completes a race; its word and
-/// Infos stay then. Else a read answers the row's word, and a write the value written. Either way the pass stores one entry. Busy comes only where this call read the
-/// row's turn as held by another pass; the pass stores nothing then.
+/// Reads a variable, or writes it a value. Raised comes exactly where the row that the call took says that the access completes a race; its
+/// word and Infos stay then. Else a read answers the row's word, and a write the value written. Either way the pass stores one entry. Busy
+/// comes only where this call read the row's turn as held by another pass; the pass stores nothing then.
 pub fn access(
     shared: &Shared,
     pass: &mut Pass,
@@ -97,6 +97,7 @@ pub fn access(
     requires window { capacity shared.now.key ≤ window.old }
     ensures own { IfOk result (λ s. HasEntry var write pass.old.own s pass.new.own) }
     ensures judged { IfOk result (λ s. IsJudged shared.now.key.setting var write pass.old s pass.new) }
+    ensures loads { OnOk result (LoadsNone cuts.now var write pass.old pass.new) }
     ensures spare { OnOk result (pass.new.spare ≡ pass.old.spare - 1) }
     ensures busy { IfErr result (λ b. ReadBusy var b.by pass.old pass.new) }
     ensures later { pass.old.seen ≤ pass.new.seen }

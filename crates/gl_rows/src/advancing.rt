@@ -36,9 +36,10 @@ fn lifted_row(shared: &Shared, pass: &mut Pass, row: &Row, to: u64, window: &mut
     moved_row(row, from, to, window.as_slice())
 }
 
-/// Moves each Info of the variable's row that stands before a position up to it, with its lockset after the events in between, and raises the row's hold to
-/// the position where it is below. The row stands for the same accesses then. Ok answers the hold, as it was loaded while the row was held: it is at least that position. Busy comes only where this call read the row's turn as
-/// held by another pass; nothing changed then.
+/// Moves each Info of the variable's row that stands before a position up to it, with its lockset after the events in between, and raises
+/// the row's hold to the position where it is below. The row stands for the same accesses then. Ok answers the hold, as it was loaded while
+/// the row was held: it is at least that position. Busy comes only where this call read the row's turn as held by another pass; nothing
+/// changed then.
 pub fn advance_row(
     shared: &Shared,
     pass: &mut Pass,

@@ -8,6 +8,8 @@ mod checking;
 mod moving;
 mod storing;
 mod sweeping;
+#[cfg(test)]
+mod tests;
 mod walking;
 mod window;
 

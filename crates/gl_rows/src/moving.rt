@@ -1,5 +1,5 @@
 // Infos that are moved up to a position.
-ghost use Rattle.std.specs.Prelude.{◌≡◌, ℕ, ◌+◌, ◌≤◌, List, All, Some, length};
+ghost use Rattle.std.specs.Prelude.{◌≡◌, ℕ, ◌+◌, ◌≤◌, All, Some, length};
 ghost use Rattle.gl_model.specs.declared.row.Info.{Info as AnInfo};
 ghost use Rattle.gl_model.specs.Elements.{IsStampInRange};
 ghost use Rattle.gl_draws.specs.RowFacts.{read_of};
@@ -52,7 +52,8 @@ fn move_reads(reads: &mut [Option<Info>], from: u64, to: u64, window: &[Stamp])
     }
 }
 
-// The row with each of its Infos that stands before a position moved up to it. The window goes from a position at which none stands before up to that one.
+// The row with each of its Infos that stands before a position moved up to it. The window goes up to that one, from a position before which
+// none stands.
 pub(crate) fn moved_row(row: &Row, from: u64, to: u64, window: &[Stamp]) -> Row
     requires stamps { All IsStampInRange window.now }
     requires ends { from + length window.now ≡ to }

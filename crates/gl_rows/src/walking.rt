@@ -1,5 +1,5 @@
 // The events that a row's Infos are walked over.
-ghost use Rattle.std.specs.Prelude.{◌≡◌, ◌⊎◌, ◌<◌, ◌≤◌, ℕ, List, [], ◌∷◌, ◌++◌, ◌+◌, All, Some, length, vec_len, vec_capacity};
+ghost use Rattle.std.specs.Prelude.{◌≡◌, ◌⊎◌, ◌<◌, ◌≤◌, ℕ, [], ◌∷◌, ◌++◌, ◌+◌, All, Some, length, vec_len, vec_capacity};
 ghost use Rattle.gl_model.specs.declared.event.Stamp.{Stamp as AStamp};
 ghost use Rattle.gl_model.specs.declared.row.Info.{Info as AnInfo};
 ghost use Rattle.gl_model.specs.Elements.{IsStampInRange};

@@ -14,7 +14,7 @@ use Rattle.gl_draws.specs.Draws.{Draw}
 use Rattle.gl_rule.specs.declared.slot.Slot.{Slot}
 use Rattle.gl_rule.specs.declared.slot.Slot.TheVariants as slot
 use Rattle.gl_rule.specs.Objects.{Key, Board, board, capacity, objects}
-use Rattle.gl_rule.specs.View.{View, Held, HasObject, Read, Busy, Taken, Hold, Stop, saw}
+use Rattle.gl_rule.specs.View.{View, Held, HasObject, Read, Busy, Taken, Hold, Stop, SetStop, saw}
 use Rattle.gl_rule.specs.World.{World}
 use Rattle.gl_rule.specs.Turns.{HeldOne, TurnsFit, TurnsHold}
 use Rattle.gl_rule.specs.Values.{IsAbove, Stands, StandsHeld, HeldStands}
@@ -87,6 +87,7 @@ read_at hold hold' up (Hold k n) f = let a = up k f.0 in let b = f.1 in (f.0, om
 read_at hold hold' up (Busy k by) f = tt
 read_at hold hold' up (Taken k y) f = tt
 read_at hold hold' up (Stop n) f = tt
+read_at hold hold' up SetStop f = tt
 
 -- a home object's value while it is held
 pub stands_held : (setting : Setting) (w : World) (hold : ℕ → ℕ) (k : ℕ) (y : Slot) → Stands setting w hold k y → StandsHeld setting w hold None k y

@@ -478,5 +478,5 @@ module _ (key : Key) (slots id : ℕ) (v : View) (c : List (ℕ × Slot)) (s : S
                 });
           },
         ),
-        (small, omega arith, ap told (sym count)),
+        (small, omega arith, ap told (sym count), λ g m has list tail. tail_zero (length log) v.seen b.hold g.object m g.taken list (All-contains T v.held g mine.knowledge.tails has m tail) ∙ sym count),
       )

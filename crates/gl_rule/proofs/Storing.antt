@@ -9,25 +9,26 @@ use Rattle.atomic_table.proofs.Lists.{one_turn, set_again}
 use Rattle.gl_model.specs.declared.limits.TheConstants.{THREADS, VARIABLES}
 use Rattle.gl_rule.specs.declared.slot.Slot.{Slot}
 use Rattle.gl_rule.specs.Objects.{Key, Board, board, capacity, objects, cell_at}
-use Rattle.gl_rule.specs.View.{View, Held, Hold, put_word}
+use Rattle.gl_rule.specs.View.{View, Held, Hold, SetStop, saw, put_word}
 use Rattle.gl_rule.specs.World.{World}
 use Rattle.gl_rule.specs.Turns.{HeldOne}
 use Rattle.gl_rule.specs.Values.{HeldStands}
 use Rattle.gl_rule.specs.Knowledge.{TailsFit, ReadFits}
 use Rattle.gl_rule.specs.Ring.{RingHolds, FloorFits}
 use Rattle.gl_rule.specs.Fitting.{MayStoreWord}
-use Rattle.gl_rule.specs.Rule.{Fits, Rule}
-use Rattle.gl_rule.specs.Told.{PutWord}
+use Rattle.gl_rule.specs.Rule.{Fits, Holds, Rule}
+use Rattle.gl_rule.specs.Told.{PutWord, Saw}
 use Rattle.gl_rule.proofs.Each.{each_set}
 use Rattle.gl_rule.proofs.Loading.{tail_zero}
 use Rattle.gl_rule.proofs.Words.{still_long, stop_turns, stop_counts, stop_holds, stop_cells, cell_turns, cell_counts, cell_holds, cell_here, cell_else, SameTurns, SameHolds}
 use Rattle.gl_rule.proofs.HeldLists.{all_map, both_map}
-use Rattle.gl_rule.proofs.Frames.{machine_same, turns_kept, turns_same, stands_at, held_at, tail_at, read_at, fits_board, floor_moves}
+use Rattle.gl_rule.proofs.Frames.{machine_same, turns_kept, turns_same, stands_at, held_at, tail_at, read_at, fits_board, floor_moves, fits_saw, reviews}
 use Rattle.gl_rule.proofs.RingFrames.{ring_same}
 
 -- the stop word
-pub sets_stop : (key : Key) (slots id n : ℕ) (v : View) (c : List (ℕ × Slot)) → table.Allows (Rule key) slots id (v, c) 3075 (λ _. n) (λ _ u. u ≡ (v, c))
-sets_stop key slots id n v c st rule long here fits =
+pub sets_stop : (key : Key) (slots id : ℕ) (v : View) (c : List (ℕ × Slot)) → table.Allows (Rule key) slots id (v, c) 3075 (λ _. 1) (λ _. Saw SetStop v c)
+sets_stop key slots id v c st rule long here fits =
+    let n : ℕ = 1 in
     let w = rule.0 in
     let H = rule.1 in
     let cap = capacity key in
@@ -38,25 +39,24 @@ sets_stop key slots id n v c st rule long here fits =
     let holds = stop_holds cap st.words H.words n in
     let cells = stop_cells cap st.words H.words n in
     let zero_near : 0 < objects = omega arith in
-    let done : Rule key (record { words = set st.words 3075 n; homes = st.homes; views = st.views }) = (
-      w,
-      record {
-        words = still_long cap st.words 3075 n H.words;
-        whole = record {
-          turns = record { named = λ k q. subst (λ z. z ≤ THREADS) (sym (turns k q)) (H.whole.turns.named k q); busy = λ k q nz. H.whole.turns.busy k q (λ z. nz (turns k q ∙ z)) };
-          positions = record { count = counts 0 zero_near ∙ H.whole.positions.count; kept = H.whole.positions.kept; few = H.whole.positions.few };
-          machine = machine_same key.setting w _ refl refl refl refl H.whole.machine;
-          numbers = record { counts = λ z q. counts (suc z) (omega arith) ∙ H.whole.numbers.counts z q; threads = H.whole.numbers.threads; few = H.whole.numbers.few };
-          verdicts = H.whole.verdicts;
-          refused = H.whole.refused;
-          ring = ring_same key b b' w.log (holds 0 zero_near) holds cells H.whole.ring;
-          low = subst (λ z. Rattle.gl_rule.specs.Ring.LowHolds z w.trims) (sym (holds 0 zero_near)) H.whole.low;
-        };
-        values = record { home = λ k q z. let r = H.values.home k q (sym (turns k q) ∙ z) in (r.0, r.1, stands_at key.setting w b.hold b'.hold k r.0 (holds k q) r.2) };
-        views = record { at = λ j o e. let f = H.views.at j o e in fits_board key b b' w w.holder j o holds cells (turns_same b.turn b'.turn w.holder j o turns f.turns) f };
-      },
-    ) in
-    (v, table.keeps, tt, subst (λ vs. Rule key (record { words = set st.words 3075 n; homes = st.homes; views = vs })) (sym (set_again st.views id v here)) done, refl)
+    let set_to : table.State Slot View = record { words = set st.words 3075 n; homes = st.homes; views = st.views } in
+    let u = saw v SetStop in
+    let done : Holds key w set_to = record {
+      words = still_long cap st.words 3075 n H.words;
+      whole = record {
+        turns = record { named = λ k q. subst (λ z. z ≤ THREADS) (sym (turns k q)) (H.whole.turns.named k q); busy = λ k q nz. H.whole.turns.busy k q (λ z. nz (turns k q ∙ z)) };
+        positions = record { count = counts 0 zero_near ∙ H.whole.positions.count; kept = H.whole.positions.kept; few = H.whole.positions.few };
+        machine = machine_same key.setting w _ refl refl refl refl H.whole.machine;
+        numbers = record { counts = λ z q. counts (suc z) (omega arith) ∙ H.whole.numbers.counts z q; threads = H.whole.numbers.threads; few = H.whole.numbers.few };
+        verdicts = H.whole.verdicts;
+        refused = H.whole.refused;
+        ring = ring_same key b b' w.log (holds 0 zero_near) holds cells H.whole.ring;
+        low = subst (λ z. Rattle.gl_rule.specs.Ring.LowHolds z w.trims) (sym (holds 0 zero_near)) H.whole.low;
+      };
+      values = record { home = λ k q z. let r = H.values.home k q (sym (turns k q) ∙ z) in (r.0, r.1, stands_at key.setting w b.hold b'.hold k r.0 (holds k q) r.2) };
+      views = record { at = λ j o e. let f = H.views.at j o e in fits_board key b b' w w.holder j o holds cells (turns_same b.turn b'.turn w.holder j o turns f.turns) f };
+    } in
+    (u, table.keeps, tt, (w, reviews key w set_to id v u here (λ g o. o) done (fits_saw key b' w id v SetStop tt (done.views.at id v here))), refl)
 
 last_here : (xs : List ℕ) (x : ℕ) → slice_index (xs ++ x ∷ []) (length xs) ≡ x
 last_here [] x = refl

@@ -10,7 +10,7 @@ use Rattle.gl_rule.specs.declared.slot.Slot.{Slot}
 use Rattle.gl_rule.specs.declared.slot.Slot.TheVariants as slot
 use Rattle.gl_rule.specs.Objects.{objects}
 use Rattle.gl_rule.specs.Cells.{packed}
-use Rattle.gl_rule.specs.View.{View, Shelf, Held, Read, Busy, Taken, Hold, Stop, CellWord}
+use Rattle.gl_rule.specs.View.{View, Shelf, Held, Read, Busy, Taken, Hold, Stop, SetStop, CellWord}
 
 -- the events of the list are below n
 abbrev pub AreBelow : ℕ → Shelf → Type 0
@@ -33,6 +33,7 @@ ReadFits hold (Hold k n) = (k < objects) × (n ≤ hold k)
 ReadFits hold (Busy k by) = Unit {0}
 ReadFits hold (Taken k y) = Unit {0}
 ReadFits hold (Stop n) = Unit {0}
+ReadFits hold SetStop = Unit {0}
 
 -- a word that was loaded is that of the event at its position
 abbrev pub WordFits : List Stamp → CellWord → Type 0

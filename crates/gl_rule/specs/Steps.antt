@@ -28,7 +28,7 @@ use Rattle.gl_rule.specs.Objects.{Key, capacity, objects, stop_word, cell_at}
 use Rattle.gl_rule.specs.Opened.{first_words, first_slots, sixteen}
 use Rattle.gl_rule.specs.Rule.{Rule}
 use Rattle.gl_rule.specs.Told.{Took, Left, SawTail, Saw, SawHold, SawFloor, SawCell, SawEvent, PutWord, Published, PublishedAct, Raised, Lowered, Marked, Opened}
-use Rattle.gl_rule.specs.View.{View, Shelf, shelf, Held, Hold, Stop, blank, both}
+use Rattle.gl_rule.specs.View.{View, Shelf, shelf, Held, Hold, Stop, SetStop, blank, both}
 
 -- the turn of an object that is free is taken
 abbrev pub TakesTurn : Type 0
@@ -87,9 +87,9 @@ StoresWord =
     (key : Key) (slots id n : ℕ) (v : View) (c : List (ℕ × Slot)) (h : Held) (tail : ℕ) → MayStoreWord key v h tail →
     table.Allows (Rule key) slots id (v, c) (cell_at (capacity key) tail (length v.stored)) (λ _. n) (λ _. PutWord n v c)
 
--- the stop word is stored
+-- the stop word is set
 abbrev pub SetsStop : Type 0
-SetsStop = (key : Key) (slots id n : ℕ) (v : View) (c : List (ℕ × Slot)) → table.Allows (Rule key) slots id (v, c) stop_word (λ _. n) (λ _ u. u ≡ (v, c))
+SetsStop = (key : Key) (slots id : ℕ) (v : View) (c : List (ℕ × Slot)) → table.Allows (Rule key) slots id (v, c) stop_word (λ _. 1) (λ _. Saw SetStop v c)
 
 -- the hold of a row is raised, with Infos moved up to it
 abbrev pub RaisesHold : Type 0

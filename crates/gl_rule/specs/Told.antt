@@ -55,9 +55,13 @@ SawEvent cap p v c n w =
 abbrev pub SawHold : ℕ → View → List (ℕ × Slot) → ℕ → Seat → Type 0
 SawHold k v c n w = (w ≡ (saw v (Hold k n), c)) × ((m : ℕ) → Contains v.reads (Hold k m) → m ≤ n)
 
--- an event was published: the entry, the stamp and the list's new state
+-- each tail that was seen while the list was held is n
+abbrev pub IsTailOf : List Held → ℕ → Type 0
+IsTailOf held n = (h : Held) (m : ℕ) → Contains held h → h.object ≡ 0 → Contains h.tails m → m ≡ n
+
+-- an event was published, at the tail that was seen while the list was held: the entry, the stamp and the list's new state
 abbrev pub Published : Shelf → (ℕ → Entry) → Stamp → Slot → (ℕ → Held → Option Draw) → View → List (ℕ × Slot) → ℕ → Seat → Type 0
-Published s entry x y drew v c n w = (n + 1 < 2 ^ 64) × (v.seen ≤ n) × (w ≡ (published v s.thread s.marked (entry n) n x y (drew n), c))
+Published s entry x y drew v c n w = (n + 1 < 2 ^ 64) × (v.seen ≤ n) × (w ≡ (published v s.thread s.marked (entry n) n x y (drew n), c)) × IsTailOf v.held n
 
 -- the hold of an object that the pass holds, which is as it was loaded or raised since the object was taken
 abbrev pub SawFloor : Held → View → List (ℕ × Slot) → ℕ → Seat → Type 0

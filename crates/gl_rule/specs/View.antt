@@ -31,7 +31,7 @@ pub record Held : Type 0 where
   -- the hold, where it was loaded or raised since then
   pub floor : Option ℕ
 
--- what a try on a turn, or a load, gave
+-- what a try on a turn, or a load, gave; and that the stop word was set
 pub data Read : Type 0 where
   -- the pass that holds the object
   Busy : (object : ℕ) → (by : ℕ) → Read
@@ -40,6 +40,8 @@ pub data Read : Type 0 where
   -- the hold of a row; of the list, the first segment
   Hold : (object : ℕ) → (n : ℕ) → Read
   Stop : (n : ℕ) → Read
+  -- that it set the stop word itself
+  SetStop : Read
 
 -- a word of a cell
 pub record CellWord : Type 0 where

@@ -1,9 +1,10 @@
 pub mod JudgedLines
 pub mod LongPrograms
 pub mod SaidLines
-pub mod BuiltPrograms
 pub mod Entries
+pub mod Finished
 pub mod FewWords
 pub mod SameRecord
 pub mod OneAnswer
 pub mod OneProgram
+pub mod OptionWords

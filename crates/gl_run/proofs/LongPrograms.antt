@@ -1,12 +1,12 @@
 -- What each command answers for a text that is too long.
 use Rattle.std.proofs.Common.{arith, ◌≡◌, ◌<◌, ℕ, List, [], true, Option, None, Some, Result, Ok, Err, IfOk, IfSome, length, inl, inr, refl, sym, subst, nat_lt}
 use Rattle.std.proofs.lemmas.Bool.{lt-ltb}
-use Rattle.std.specs.Prelude.{◌⊎◌}
+use Rattle.std.specs.Prelude.{◌⊎◌, MatchResult}
+use Rattle.std.specs.Result.{is_ok}
 use Rattle.std.specs.Io.KnownBytes.{Consumes}
 use Rattle.std.proofs.KnownBytes.{Appends-nil}
 use Rattle.gl_asm.specs.declared.limits.TheConstants.{LONGEST}
 use Rattle.gl_asm.specs.Texts.{text_read}
-use Rattle.gl_asm.specs.Unbuilt.{read_to_run}
 use Rattle.gl_text.specs.declared.kinds.TheConstants.{TOO_LONG}
 use Rattle.gl_io.specs.Whole.{IsTaken}
 use Rattle.gl_run.specs.Replies.{RepliesTo}
@@ -16,6 +16,7 @@ use Rattle.gl_run.specs.Texts.{AnswersText, AnswersLonger}
 use Rattle.gl_run.specs.Words.{most_of}
 use Rattle.gl_run.specs.declared.keep.Keep.{Keep}
 use Rattle.gl_run.specs.declared.page.Page.{Page}
+use Rattle.gl_run.specs.declared.status.TheConstants.{NO_COMMAND, READ_FAILED, WRITE_FAILED, REFUSED, NO_MEMORY}
 use Rattle.gl_run.specs.declared.words.Command.{Command}
 use Rattle.gl_run.specs.declared.words.Command.TheVariants as commands
 
@@ -23,22 +24,23 @@ read_longer : (text : List ℕ) → LONGEST < length text → text_read text ≡
 unfolding text_read
 read_longer text long = let over : nat_lt LONGEST (length text) ≡ true = lt-ltb LONGEST (length text) long in rw over refl
 
--- so for `run`
-read_longer_to_run : (text : List ℕ) → LONGEST < length text → read_to_run text ≡ Err (0, TOO_LONG)
-unfolding read_to_run
-read_longer_to_run text long = let over : nat_lt LONGEST (length text) ≡ true = lt-ltb LONGEST (length text) long in rw over refl
-
-refused_longer : (keep : Keep) (command : Command) (input : List ℕ) → most_of command < length input → AnswersText keep command input 4 (refusal 0 TOO_LONG) None
+refused_longer : (keep : Keep) (command : Command) (input : List ℕ) → most_of command < length input → AnswersText keep command input REFUSED (refusal 0 TOO_LONG) None
 refused_longer keep commands.Check input long = inr (record { line = 0; kind = TOO_LONG; fault = inl (long, refl, refl); status_is = refl; bytes_are = refl; kept_is = refl })
 refused_longer keep commands.List input long = inr (record { line = 0; kind = TOO_LONG; fault = inl (read_longer input long); status_is = refl; bytes_are = refl; kept_is = refl })
-refused_longer keep (commands.Run steps) input long = inr (record { line = 0; kind = TOO_LONG; fault = inl (read_longer_to_run input long); status_is = refl; bytes_are = refl; kept_is = refl })
+refused_longer keep (commands.Run options) input long = inr (record { line = 0; kind = TOO_LONG; fault = inl (read_longer input long); status_is = refl; bytes_are = refl; kept_is = refl })
 
-pub longer : {E : Type 0} (command : Command) (r : Result Page E) → IfOk r (λ p. p.status ≡ 4) → IfOk r (λ p. p.text.items ≡ refusal 0 TOO_LONG) → IfOk r (λ p. p.kept ≡ None)
+pub longer : {E : Type 0} (command : Command) (r : Result Page E) → IfOk r (λ p. p.status ≡ REFUSED) → IfOk r (λ p. p.text.items ≡ refusal 0 TOO_LONG) → IfOk r (λ p. p.kept ≡ None)
     → IfOk r (λ p. AnswersLonger command p.status p.text.items p.kept)
 longer command (Ok p) status text kept = λ keep input long.
     subst (λ s. AnswersText keep command input s p.text.items p.kept) (sym status)
-    (subst (λ b. AnswersText keep command input 4 b p.kept) (sym text) (subst (AnswersText keep command input 4 (refusal 0 TOO_LONG)) (sym kept) (refused_longer keep command input long)))
+    (subst (λ b. AnswersText keep command input REFUSED b p.kept) (sym text) (subst (AnswersText keep command input REFUSED (refusal 0 TOO_LONG)) (sym kept) (refused_longer keep command input long)))
 longer command (Err e) status text kept = tt
+
+-- what holds of an answer holds of it with its error mapped
+pub mapped : {T E F : Type 0} (P : T → Type 0) (Q : E → Type 0) (r : Result T E) (m : Result T F) → MatchResult r (λ x. m ≡ Ok x) Q → is_ok m ≡ is_ok r → IfOk r P → IfOk m P
+mapped P Q (Ok x) m is same holds = subst (λ o. IfOk o P) (sym is) holds
+mapped P Q (Err e) (Ok x) is same holds = absurd (cc same)
+mapped P Q (Err e) (Err f) is same holds = tt
 
 -- some input that is all of what is left, where that is told, and begins with these bytes or is them
 some_longer : (left now : Option (List ℕ)) (bytes : List ℕ) (most : ℕ) → most < length bytes → Consumes left now bytes → IfSome left (λ xs. most < length xs)
@@ -60,7 +62,7 @@ some_input None = ([], tt)
 some_input (Some xs) = (xs, refl)
 
 -- what words that are no command are answered
-pub usage_reply : {E : Type 0} (keep : Keep) (asked : Option Command) (left : Option (List ℕ)) (r : Result Page E) → asked ≡ None → IfOk r (λ p. p.status ≡ 1)
+pub usage_reply : {E : Type 0} (keep : Keep) (asked : Option Command) (left : Option (List ℕ)) (r : Result Page E) → asked ≡ None → IfOk r (λ p. p.status ≡ NO_COMMAND)
     → IfOk r (λ p. p.text.items ≡ usage) → IfOk r (λ p. p.kept ≡ None) → IfOk r (RepliesTo keep asked left)
 usage_reply keep asked left (Ok p) none status text kept =
     let some = some_input left in
@@ -68,7 +70,7 @@ usage_reply keep asked left (Ok p) none status text kept =
 usage_reply keep asked left (Err e) none status text kept = tt
 
 -- where nothing was read, or memory ran out, nothing is written
-pub stopped : (keep : Keep) (asked : Option Command) (left : Option (List ℕ)) (status : ℕ) (now : Option (List ℕ)) → (status ≡ 2) ⊎ (status ≡ 5)
+pub stopped : (keep : Keep) (asked : Option Command) (left : Option (List ℕ)) (status : ℕ) (now : Option (List ℕ)) → (status ≡ READ_FAILED) ⊎ (status ≡ NO_MEMORY)
     → Serves keep asked left status None now now
 stopped keep asked left status now stop =
     let some = some_input left in
@@ -83,8 +85,8 @@ stopped keep asked left status now stop =
       };
     }
   where
-    not_whole : (status : ℕ) → (status ≡ 2) ⊎ (status ≡ 5) → IsWhole status → ⊥
+    not_whole : (status : ℕ) → (status ≡ READ_FAILED) ⊎ (status ≡ NO_MEMORY) → IsWhole status → ⊥
     not_whole status stop whole = grind arith
 
-    not_part : (status : ℕ) → (status ≡ 2) ⊎ (status ≡ 5) → status ≡ 3 → ⊥
+    not_part : (status : ℕ) → (status ≡ READ_FAILED) ⊎ (status ≡ NO_MEMORY) → status ≡ WRITE_FAILED → ⊥
     not_part status stop part = grind arith

@@ -18,7 +18,7 @@ use Rattle.gl_run.specs.Output.{refusal}
 use Rattle.gl_run.specs.declared.keep.Keep.{Keep}
 use Rattle.gl_run.specs.declared.keep.Keep.TheVariants.{Record, Nothing}
 use Rattle.gl_run.specs.declared.kept.Kept.{Kept}
-use Rattle.gl_run.specs.declared.kept.Kept.TheVariants.{Trace}
+use Rattle.gl_run.specs.declared.kept.Kept.TheVariants.{Trace, Run}
 use Rattle.gl_run.proofs.SaidLines.{said_sound}
 use Rattle.gl_run.proofs.SameRecord.{same_record}
 
@@ -86,7 +86,9 @@ module _ (settled : LastIsSettled) where
 one_kept : (keep : Keep) (lines : List Line) (j k : Option Kept) → KeepsRecord keep lines j → KeepsRecord keep lines k → j ≡ k
 one_kept Nothing lines j k one two = one ∙ sym two
 one_kept Record lines None k one two = absurd one
+one_kept Record lines (Some (Run made)) k one two = absurd one
 one_kept Record lines (Some (Trace made)) None one two = absurd two
+one_kept Record lines (Some (Trace made)) (Some (Run other)) one two = absurd two
 one_kept Record lines (Some (Trace made)) (Some (Trace other)) one two =
     ap (λ r. Some (Trace r)) (same_record made other one.0 two.0 (λ t. one.1 t ∙ sym (two.1 t)))
 

@@ -3,10 +3,10 @@ use Rattle.std.proofs.Common.{◌≡◌, ℕ, ℤ, List, Option, None, Some, ap,
 use Rattle.std.specs.Prelude.{unwrap_or}
 use Rattle.gl_asm.specs.Listing.{listing}
 use Rattle.gl_asm.specs.Texts.{IsText, IsFirstFault}
-use Rattle.gl_asm.specs.Unbuilt.{IsTextToRun, IsFirstFaultToRun}
 use Rattle.gl_bytecode.specs.Programs.{Bytecode, Draft, draft_of}
-use Rattle.gl_model.specs.Entries.{Entry}
 use Rattle.gl_model.specs.Report.{report_of}
+use Rattle.gl_table.specs.SealedView.{SealedView}
+use Rattle.gl_threads.specs.declared.options.Options.{Options}
 use Rattle.gl_run.specs.Laws.{ChecksAreOne, ListingsAreApart, ListingsAreOne, RepliesAreOne, RepliesAreTold, RunsAreApart, RunsAreLawful, RunsAreTold, IsKeptRun, IsOneAnswer, IsToldByKept}
 use Rattle.gl_run.specs.Listed.{AcceptsProgram, Refuses}
 use Rattle.gl_run.specs.Output.{refusal}
@@ -15,7 +15,7 @@ use Rattle.gl_run.specs.Texts.{AnswersText}
 use Rattle.gl_run.specs.Words.{run_part}
 use Rattle.gl_run.specs.declared.keep.Keep.{Keep}
 use Rattle.gl_run.specs.declared.kept.Kept.{Kept}
-use Rattle.gl_run.specs.declared.kept.Kept.TheVariants.{Trace}
+use Rattle.gl_run.specs.declared.kept.Kept.TheVariants.{Run}
 use Rattle.gl_run.specs.declared.words.Command.{Command}
 use Rattle.gl_run.specs.declared.words.Command.TheVariants as commands
 
@@ -27,7 +27,7 @@ same_program : (P Q : Bytecode) → draft_of P ≡ draft_of Q → P ≡ Q
 unfolding program_of
 same_program P Q same = ap (program_of P) same
 
-same_kept : (made other : List (ℕ × List Entry)) (kept : Option Kept) → kept ≡ Some (Trace made) → kept ≡ Some (Trace other) → made ≡ other
+same_kept : (made other : SealedView) (kept : Option Kept) → kept ≡ Some (Run made) → kept ≡ Some (Run other) → made ≡ other
 same_kept made other kept one two = cc
 
 -- what is refused for one fault has one answer
@@ -58,47 +58,46 @@ module _ (apart : (text : List ℕ) (program : Bytecode) (inputs : List ℤ) (li
         | inr x ↦ elim two [ inl y ↦ absurd (listings_apart input t s b a k j y x) | inr y ↦ refused_once (IsFirstFault input) (faults input) s t a b j k x y ]
       ]
 
-module _ (apart : (text : List ℕ) (program : Bytecode) (inputs : List ℤ) (line kind : ℕ) → IsTextToRun text program inputs → IsFirstFaultToRun text line kind → ⊥)
-    (faults : (text : List ℕ) (a b j k : ℕ) → IsFirstFaultToRun text a j → IsFirstFaultToRun text b k → (a ≡ b) × (j ≡ k)) where
+module _ (apart : (text : List ℕ) (program : Bytecode) (inputs : List ℤ) (line kind : ℕ) → IsText text program inputs → IsFirstFault text line kind → ⊥)
+    (faults : (text : List ℕ) (a b j k : ℕ) → IsFirstFault text a j → IsFirstFault text b k → (a ≡ b) × (j ≡ k)) where
   pub runs_apart : RunsAreApart
-  runs_apart steps input s t a b j k one two = apart input one.program one.inputs two.line two.kind one.meaning two.fault
+  runs_apart options input s t a b j k one two = apart input one.program one.inputs two.line two.kind one.meaning two.fault
 
-  ran_same : (steps : ℕ) (input : List ℕ) (s t : ℕ) (a b : List ℕ) (kept : Option Kept) → AcceptsRun steps input s a kept → AcceptsRun steps input t b kept → (s ≡ t) × (a ≡ b)
-  ran_same steps input s t a b kept one two =
+  ran_same : (options : Options) (input : List ℕ) (s t : ℕ) (a b : List ℕ) (kept : Option Kept) → AcceptsRun options input s a kept → AcceptsRun options input t b kept → (s ≡ t) × (a ≡ b)
+  ran_same options input s t a b kept one two =
       let x = one.answer in
       let y = two.answer in
       let same : x.made ≡ y.made = same_kept x.made y.made kept x.kept_is y.kept_is in
-      (x.status_is ∙ ap run_status same ∙ sym y.status_is, x.bytes_are ∙ ap report_of same ∙ sym y.bytes_are)
+      (x.status_is ∙ ap (λ (m : SealedView). run_status m.entries) same ∙ sym y.status_is, x.bytes_are ∙ ap (λ (m : SealedView). report_of m.entries) same ∙ sym y.bytes_are)
 
   pub runs_told : RunsAreTold
-  runs_told steps input s t a b kept one two =
+  runs_told options input s t a b kept one two =
       elim one [
-        | inl x ↦ elim two [ inl y ↦ ran_same steps input s t a b kept x y | inr y ↦ absurd (runs_apart steps input s t a b kept kept x y) ]
+        | inl x ↦ elim two [ inl y ↦ ran_same options input s t a b kept x y | inr y ↦ absurd (runs_apart options input s t a b kept kept x y) ]
         | inr x ↦
             elim two [
-              | inl y ↦ absurd (runs_apart steps input t s b a kept kept y x)
-              | inr y ↦ let same = refused_once (IsFirstFaultToRun input) (faults input) s t a b kept kept x y in (same.0, same.1)
+              | inl y ↦ absurd (runs_apart options input t s b a kept kept y x)
+              | inr y ↦ let same = refused_once (IsFirstFault input) (faults input) s t a b kept kept x y in (same.0, same.1)
             ]
       ]
 
-refused_none : (made : List (ℕ × List Entry)) (input : List ℕ) (s : ℕ) (a : List ℕ) → RefusesRun input s a (Some (Trace made)) → ⊥
+refused_none : (made : SealedView) (input : List ℕ) (s : ℕ) (a : List ℕ) → RefusesRun input s a (Some (Run made)) → ⊥
 refused_none made input s a refused = let none = refused.kept_is in cc
 
-some_made : (made other : List (ℕ × List Entry)) → Some (Trace made) ≡ Some (Trace other) → other ≡ made
+some_made : (made other : SealedView) → Some (Run made) ≡ Some (Run other) → other ≡ made
 some_made made other e = cc
 
 pub runs_lawful : RunsAreLawful
-runs_lawful steps input s a made one =
+runs_lawful options input s a made one =
     elim one [
       | inl x ↦
           let same : x.answer.made ≡ made = some_made made x.answer.made x.answer.kept_is in
-          subst (IsKeptRun steps input s a) same
+          subst (IsKeptRun options input s a) same
           (record {
             program = x.program;
             inputs = x.inputs;
             meaning = x.meaning;
-            is = x.answer.is;
-            lawful = x.answer.lawful;
+            run = x.answer.run;
             status_is = x.answer.status_is;
             bytes_are = x.answer.bytes_are;
           })
@@ -113,19 +112,19 @@ some_same c d asked one two = cc
 not_both : (c : Command) (asked : Option Command) → asked ≡ None → asked ≡ Some c → ⊥
 not_both c asked none some = cc
 
-no_run : (steps : ℕ) (asked : Option Command) → asked ≡ Some (commands.Run steps) → run_part asked ≡ None → ⊥
-no_run steps asked is none = let runs : run_part asked ≡ Some (commands.Run steps) = ap run_part is in cc
+no_run : (options : Options) (asked : Option Command) → asked ≡ Some (commands.Run options) → run_part asked ≡ None → ⊥
+no_run options asked is none = let runs : run_part asked ≡ Some (commands.Run options) = ap run_part is in cc
 
 module _ (checks : ChecksAreOne) (listings : ListingsAreOne) (runs : RunsAreTold) where
   texts_one : (keep : Keep) (asked : Option Command) (command : Command) (input : List ℕ) → asked ≡ Some command → run_part asked ≡ None → IsOneAnswer (AnswersText keep command input)
   texts_one keep asked commands.Check input is none = checks keep input
   texts_one keep asked commands.List input is none = listings input
-  texts_one keep asked (commands.Run steps) input is none = absurd (no_run steps asked is none)
+  texts_one keep asked (commands.Run options) input is none = absurd (no_run options asked is none)
 
   texts_told : (keep : Keep) (command : Command) (input : List ℕ) → IsToldByKept (AnswersText keep command input)
   texts_told keep commands.Check input s t a b kept one two = let same = checks keep input s t a b kept kept one two in (same.0, same.1)
   texts_told keep commands.List input s t a b kept one two = let same = listings input s t a b kept kept one two in (same.0, same.1)
-  texts_told keep (commands.Run steps) input s t a b kept one two = runs steps input s t a b kept one two
+  texts_told keep (commands.Run options) input s t a b kept one two = runs options input s t a b kept one two
 
   pub replies_one : RepliesAreOne
   replies_one keep asked input none s t a b j k one two =

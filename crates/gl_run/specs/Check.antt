@@ -13,7 +13,8 @@ use Rattle.gl_run.specs.Output.{refusal}
 use Rattle.gl_run.specs.declared.keep.Keep.{Keep}
 use Rattle.gl_run.specs.declared.keep.Keep.TheVariants.{Record, Nothing}
 use Rattle.gl_run.specs.declared.kept.Kept.{Kept}
-use Rattle.gl_run.specs.declared.kept.Kept.TheVariants.{Trace}
+use Rattle.gl_run.specs.declared.kept.Kept.TheVariants.{Trace, Run}
+use Rattle.gl_run.specs.declared.status.TheConstants.{ALL_WELL, REFUSED, RACES}
 
 -- a line with what is said of it
 abbrev pub Said : Type 0
@@ -23,14 +24,15 @@ Said = TraceLine × Judged
 abbrev pub lines_said : List Said → List TraceLine
 lines_said said = map (λ p. p.0) said
 
--- 6 where some access is raised
+-- whether some access is raised
 abbrev pub status_of : List Judged → ℕ
-status_of judged = if list_any is_race judged then 6 else 0
+status_of judged = if list_any is_race judged then RACES else ALL_WELL
 
 -- the record of these lines is kept, where one is to be kept
 abbrev pub KeepsRecord : Keep → List Line → Option Kept → Type 0
 KeepsRecord Nothing lines kept = kept ≡ None
 KeepsRecord Record lines None = ⊥
+KeepsRecord Record lines (Some (Run made)) = ⊥
 KeepsRecord Record lines (Some (Trace made)) = IsRecord made × ((t : ℕ) → lists_of made t ≡ trace_record lines t)
 
 -- the status, the bytes and what is kept for a trace: one thing is said of each of its lines, as the race law says it
@@ -53,7 +55,7 @@ pub record RefusesTrace (input : List ℕ) (status : ℕ) (bytes : List ℕ) (ke
   pub line : ℕ
   pub kind : ℕ
   pub fault : IsFirstFault input line kind
-  pub status_is : status ≡ 4
+  pub status_is : status ≡ REFUSED
   pub bytes_are : bytes ≡ refusal line kind
   pub kept_is : kept ≡ None
 

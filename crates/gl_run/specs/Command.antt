@@ -5,6 +5,7 @@ use Rattle.std.specs.Io.KnownBytes.{Appends, Consumes, IsAtEnd}
 use Rattle.gl_io.specs.Faults.{Rose}
 use Rattle.gl_io.specs.Whole.{IsTaken}
 use Rattle.gl_run.specs.declared.words.Command.{Command}
+use Rattle.gl_run.specs.declared.status.TheConstants.{ALL_WELL, NO_COMMAND, READ_FAILED, WRITE_FAILED, REFUSED, NO_MEMORY, RACES, NOT_HALTED}
 use Rattle.gl_run.specs.declared.keep.Keep.{Keep}
 use Rattle.gl_run.specs.declared.kept.Kept.{Kept}
 use Rattle.gl_run.specs.Texts.{AnswersText}
@@ -14,7 +15,7 @@ use Rattle.gl_run.specs.Words.{most_of}
 -- words that are no command get the usage line
 pub record AnswersUsage (asked : Option Command) (status : ℕ) (bytes : List ℕ) (kept : Option Kept) : Type 0 where
   pub nothing : asked ≡ None
-  pub status_is : status ≡ 1
+  pub status_is : status ≡ NO_COMMAND
   pub bytes_are : bytes ≡ usage
   pub kept_is : kept ≡ None
 
@@ -32,25 +33,26 @@ Replies keep asked input status bytes kept = AnswersUsage asked status bytes kep
 abbrev pub IsNoCommand : Option Command → Type 0
 IsNoCommand asked = asked ≡ None
 
--- the causes of a status, at each command: 1 for words that are none, 2 and 3 where the counts of the source and the sink rose and never else
+-- the causes of a status, at each command: that of no command for such words, and those of a read and of a write that failed where the counts of the
+-- source and the sink rose and never else
 pub record HasCauses (asked : Option Command) (source_before source_now sink_before sink_now : ℕ) (status : ℕ) : Type 0 where
-  pub usage : status ≡ 1 → IsNoCommand asked
-  pub no_usage : IsNoCommand asked → ((status ≡ 1) ⊎ ((status ≡ 3) ⊎ (status ≡ 5))) × (source_now ≡ source_before)
-  pub read : status ≡ 2 → (IsNoCommand asked → ⊥) × Rose source_before source_now
-  pub no_read : (status ≡ 2 → ⊥) → source_now ≡ source_before
-  pub write : status ≡ 3 → Rose sink_before sink_now
-  pub no_write : (status ≡ 3 → ⊥) → sink_now ≡ sink_before
+  pub usage : status ≡ NO_COMMAND → IsNoCommand asked
+  pub no_usage : IsNoCommand asked → ((status ≡ NO_COMMAND) ⊎ ((status ≡ WRITE_FAILED) ⊎ (status ≡ NO_MEMORY))) × (source_now ≡ source_before)
+  pub read : status ≡ READ_FAILED → (IsNoCommand asked → ⊥) × Rose source_before source_now
+  pub no_read : (status ≡ READ_FAILED → ⊥) → source_now ≡ source_before
+  pub write : status ≡ WRITE_FAILED → Rose sink_before sink_now
+  pub no_write : (status ≡ WRITE_FAILED → ⊥) → sink_now ≡ sink_before
 
 -- the statuses in which all that was to be written was written
 abbrev pub IsWhole : ℕ → Type 0
-IsWhole status = (status ≡ 0) ⊎ ((status ≡ 1) ⊎ ((status ≡ 4) ⊎ ((status ≡ 6) ⊎ (status ≡ 7))))
+IsWhole status = (status ≡ ALL_WELL) ⊎ ((status ≡ NO_COMMAND) ⊎ ((status ≡ REFUSED) ⊎ ((status ≡ RACES) ⊎ (status ≡ NOT_HALTED))))
 
 -- what was written and what is kept, for an input
 pub record HasWritten (keep : Keep) (asked : Option Command) (input : List ℕ) (status : ℕ) (kept : Option Kept) (before now : Option (List ℕ)) : Type 0 where
   pub whole : IsWhole status → (bytes : List ℕ) × Replies keep asked input status bytes kept × Appends before now bytes
-  pub part : status ≡ 3 → (meant : ℕ) × (n : ℕ) × (bytes : List ℕ) × Replies keep asked input meant bytes kept × Appends before now (take n bytes)
-  pub nothing : (status ≡ 2) ⊎ (status ≡ 5) → Appends before now [] × (kept ≡ None)
-  pub other : IsWhole status ⊎ ((status ≡ 2) ⊎ ((status ≡ 3) ⊎ (status ≡ 5)))
+  pub part : status ≡ WRITE_FAILED → (meant : ℕ) × (n : ℕ) × (bytes : List ℕ) × Replies keep asked input meant bytes kept × Appends before now (take n bytes)
+  pub nothing : (status ≡ READ_FAILED) ⊎ (status ≡ NO_MEMORY) → Appends before now [] × (kept ≡ None)
+  pub other : IsWhole status ⊎ ((status ≡ READ_FAILED) ⊎ ((status ≡ WRITE_FAILED) ⊎ (status ≡ NO_MEMORY)))
 
 -- the same for some input, which is all that the source had left, where it tells that
 pub record Serves (keep : Keep) (asked : Option Command) (left : Option (List ℕ)) (status : ℕ) (kept : Option Kept) (before now : Option (List ℕ)) : Type 0 where
@@ -66,11 +68,11 @@ pub record HasRead (most : ℕ) (before now : Option (List ℕ)) : Type 0 where
 
 -- the statuses of a command that read its input without a fault and had memory for its answer
 abbrev pub IsAnswered : ℕ → Type 0
-IsAnswered status = (status ≡ 0) ⊎ ((status ≡ 3) ⊎ ((status ≡ 4) ⊎ ((status ≡ 6) ⊎ (status ≡ 7))))
+IsAnswered status = (status ≡ ALL_WELL) ⊎ ((status ≡ WRITE_FAILED) ⊎ ((status ≡ REFUSED) ⊎ ((status ≡ RACES) ⊎ (status ≡ NOT_HALTED))))
 
 -- what a source has left: all where the words ask for nothing; nothing where the input was accepted; and else what was not read of a text that is
 -- too long
 pub record HasLeft (asked : Option Command) (before now : Option (List ℕ)) (status : ℕ) : Type 0 where
   pub unread : IsNoCommand asked → now ≡ before
-  pub accepted : (status ≡ 0) ⊎ ((status ≡ 6) ⊎ (status ≡ 7)) → IsAtEnd now
+  pub accepted : (status ≡ ALL_WELL) ⊎ ((status ≡ RACES) ⊎ (status ≡ NOT_HALTED)) → IsAtEnd now
   pub read : (command : Command) → asked ≡ Some command → IsAnswered status → HasRead (most_of command) before now

@@ -1,20 +1,18 @@
--- That an answer is settled: by the words and the input, or by the record that is kept of a run.
+-- That an answer is settled: by the words and the input, or by what is kept of a run.
 use Rattle.std.specs.Prelude.{◌≡◌, ℕ, ℤ, List, Option, Some, None}
-use Rattle.gl_asm.specs.Unbuilt.{IsTextToRun}
-use Rattle.gl_bytecode.specs.Lawful.{Lawful}
+use Rattle.gl_asm.specs.Texts.{IsText}
 use Rattle.gl_bytecode.specs.Programs.{Bytecode}
-use Rattle.gl_model.specs.Entries.{Entry}
-use Rattle.gl_model.specs.Kept.{IsRecord}
-use Rattle.gl_model.specs.Lists.{lists_of}
 use Rattle.gl_model.specs.Report.{report_of}
 use Rattle.gl_run.specs.Check.{AcceptsTrace, ChecksText, RefusesTrace}
 use Rattle.gl_run.specs.Command.{Replies}
 use Rattle.gl_run.specs.Listed.{AcceptsProgram, ListsText, RefusesProgram}
-use Rattle.gl_run.specs.Runs.{AcceptsRun, RefusesRun, RunsText, run_status}
+use Rattle.gl_table.specs.SealedView.{SealedView}
+use Rattle.gl_threads.specs.declared.options.Options.{Options}
+use Rattle.gl_run.specs.Runs.{AcceptsRun, IsRunOf, RefusesRun, RunsText, run_status}
 use Rattle.gl_run.specs.Words.{run_part}
 use Rattle.gl_run.specs.declared.keep.Keep.{Keep}
 use Rattle.gl_run.specs.declared.kept.Kept.{Kept}
-use Rattle.gl_run.specs.declared.kept.Kept.TheVariants.{Trace}
+use Rattle.gl_run.specs.declared.kept.Kept.TheVariants.{Run}
 use Rattle.gl_run.specs.declared.words.Command.{Command}
 
 -- these answers are one: whatever is answered, the status, the bytes and what is kept are the same
@@ -42,25 +40,25 @@ abbrev pub ListingsAreApart : Type 0
 ListingsAreApart = (input : List ℕ) (s t : ℕ) (a b : List ℕ) (j k : Option Kept) → AcceptsProgram input s a j → RefusesProgram input t b k → ⊥
 
 abbrev pub RunsAreTold : Type 0
-RunsAreTold = (steps : ℕ) (input : List ℕ) → IsToldByKept (RunsText steps input)
+RunsAreTold = (options : Options) (input : List ℕ) → IsToldByKept (RunsText options input)
 
 abbrev pub RunsAreApart : Type 0
-RunsAreApart = (steps : ℕ) (input : List ℕ) (s t : ℕ) (a b : List ℕ) (j k : Option Kept) → AcceptsRun steps input s a j → RefusesRun input t b k → ⊥
+RunsAreApart = (options : Options) (input : List ℕ) (s t : ℕ) (a b : List ℕ) (j k : Option Kept) → AcceptsRun options input s a j → RefusesRun input t b k → ⊥
 
--- what is kept of a run is a record, and lawful for the program and the inputs that the text says; the status and the bytes are read off it
-pub record IsKeptRun (steps : ℕ) (input : List ℕ) (status : ℕ) (bytes : List ℕ) (made : List (ℕ × List Entry)) : Type 0 where
+-- what is kept of a run is the closed table of a run of the program and the inputs that the text says, with these options; the status and the bytes are
+-- read off it
+pub record IsKeptRun (options : Options) (input : List ℕ) (status : ℕ) (bytes : List ℕ) (made : SealedView) : Type 0 where
   pub program : Bytecode
   pub inputs : List ℤ
-  pub meaning : IsTextToRun input program inputs
-  pub is : IsRecord made
-  pub lawful : Lawful program inputs steps (lists_of made)
-  pub status_is : status ≡ run_status made
-  pub bytes_are : bytes ≡ report_of made
+  pub meaning : IsText input program inputs
+  pub run : IsRunOf program inputs options made
+  pub status_is : status ≡ run_status made.entries
+  pub bytes_are : bytes ≡ report_of made.entries
 
 abbrev pub RunsAreLawful : Type 0
 RunsAreLawful =
-    (steps : ℕ) (input : List ℕ) (status : ℕ) (bytes : List ℕ) (made : List (ℕ × List Entry)) → RunsText steps input status bytes (Some (Trace made))
-    → IsKeptRun steps input status bytes made
+    (options : Options) (input : List ℕ) (status : ℕ) (bytes : List ℕ) (made : SealedView) → RunsText options input status bytes (Some (Run made))
+    → IsKeptRun options input status bytes made
 
 -- ## All commands
 

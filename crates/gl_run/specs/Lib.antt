@@ -1,4 +1,5 @@
 pub mod Output
+pub mod Options
 pub mod Words
 pub mod Check
 pub mod Recording
@@ -7,5 +8,6 @@ pub mod Listed
 pub mod Texts
 pub mod Command
 pub mod Replies
+pub mod Finishing
 pub mod Runs
 pub mod Laws

@@ -4,6 +4,7 @@ use Rattle.gl_io.specs.Faults.{Rose}
 use Rattle.gl_io.specs.Whole.{IsTaken}
 use Rattle.gl_run.specs.Command.{IsNoCommand, Replies}
 use Rattle.gl_run.specs.declared.keep.Keep.{Keep}
+use Rattle.gl_run.specs.declared.status.TheConstants.{ALL_WELL, NO_COMMAND, REFUSED, RACES, NOT_HALTED}
 use Rattle.gl_run.specs.declared.words.Command.{Command}
 use Rattle.gl_run.specs.declared.page.Page.{Page}
 use Rattle.gl_run.specs.declared.page.Stop.{Stop}
@@ -11,10 +12,14 @@ use Rattle.gl_run.specs.declared.page.Stop.TheVariants.{Read, Memory}
 
 -- the statuses of a text that was read
 abbrev pub IsVerdict : ℕ → Type 0
-IsVerdict status = (status ≡ 0) ⊎ ((status ≡ 4) ⊎ ((status ≡ 6) ⊎ (status ≡ 7)))
+IsVerdict status = (status ≡ ALL_WELL) ⊎ ((status ≡ REFUSED) ⊎ ((status ≡ RACES) ⊎ (status ≡ NOT_HALTED)))
+
+-- those of a text that is accepted
+abbrev pub IsAccepted : ℕ → Type 0
+IsAccepted status = (status ≡ ALL_WELL) ⊎ ((status ≡ RACES) ⊎ (status ≡ NOT_HALTED))
 
 abbrev pub IsPageStatus : Option Command → ℕ → Type 0
-IsPageStatus asked status = (IsNoCommand asked × (status ≡ 1)) ⊎ ((IsNoCommand asked → ⊥) × IsVerdict status)
+IsPageStatus asked status = (IsNoCommand asked × (status ≡ NO_COMMAND)) ⊎ ((IsNoCommand asked → ⊥) × IsVerdict status)
 
 abbrev pub ReplyCause : Option Command → ℕ → ℕ → Result Page Stop → Type 0
 ReplyCause asked before now (Ok p) = (now ≡ before) × IsPageStatus asked p.status

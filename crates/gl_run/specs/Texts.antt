@@ -12,7 +12,7 @@ use Rattle.gl_run.specs.Runs.{RunsText}
 abbrev pub AnswersText : Keep → Command → List ℕ → ℕ → List ℕ → Option Kept → Type 0
 AnswersText keep commands.Check input status bytes kept = ChecksText keep input status bytes kept
 AnswersText keep commands.List input status bytes kept = ListsText input status bytes kept
-AnswersText keep (commands.Run steps) input status bytes kept = RunsText steps input status bytes kept
+AnswersText keep (commands.Run options) input status bytes kept = RunsText options input status bytes kept
 
 -- what every text of more bytes than the command reads is answered
 abbrev pub AnswersLonger : Command → ℕ → List ℕ → Option Kept → Type 0

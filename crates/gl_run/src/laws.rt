@@ -11,8 +11,8 @@ pub fn checks_are_settled()
     gl_lines::verdicts_of_traces();
 }
 
-/// A text has one answer of `list`. A run's answer is told by the record that is kept, which is lawful. No text is both accepted and
-/// refused.
+/// A text has one answer of `list`. A run's answer is told by the closed table that is kept, whose record is lawful. No text is both
+/// accepted and refused.
 pub fn programs_are_settled()
     ensures listings { ListingsAreOne }
     ensures listings_apart { ListingsAreApart }
@@ -21,7 +21,6 @@ pub fn programs_are_settled()
     ensures lawful { RunsAreLawful }
 {
     gl_asm::one_meaning();
-    gl_asm::one_meaning_to_run();
 }
 
 /// Words that run no program have one answer for each input: one status, one text, and one record that is kept. Whatever the words

@@ -6,18 +6,23 @@ mod keep;
 mod kept;
 mod laws;
 mod listed;
+mod options;
 mod output;
 mod page;
+mod reply;
 mod run;
 mod stated;
+mod status;
 mod top;
 mod verdicts;
 mod words;
 
 pub use kept::Kept;
 pub use laws::{answers_are_settled, checks_are_settled, programs_are_settled};
-pub use stated::limits_are_stated;
+pub use stated::{limits_are_stated, statuses_are_stated};
 pub use top::{Answer, goldi, goldi_run, goldi_text, goldi_without_trace};
 
+#[cfg(test)]
+mod gate_tests;
 #[cfg(test)]
 mod tests;

@@ -4,6 +4,7 @@ ghost use Rattle.gl_run.specs.Listed.{ListsText};
 ghost use Rattle.gl_run.specs.Replies.{IsVerdict};
 
 use crate::page::{Page, refused};
+use crate::status::ALL_WELL;
 use gl_asm::assemble;
 use gl_text::TextError;
 use std::alloc::{AllocError, Global};
@@ -15,7 +16,7 @@ pub fn list(alloc: Global, input: &[u8]) -> Result<Page, AllocError>
 {
     match assemble(alloc, input) {
         Ok(assembled) => Ok(Page {
-            status: 0,
+            status: ALL_WELL,
             text: gl_asm::list(alloc, &assembled.program)?,
             kept: None,
         }),

@@ -3,6 +3,7 @@ ghost use Rattle.gl_run.specs.Output.{refusal};
 
 use crate::kept::Kept;
 use crate::output::refusal;
+use crate::status::REFUSED;
 use std::alloc::{AllocError, Global};
 
 // A status and the text to be written, or why there is none.
@@ -22,12 +23,12 @@ pub enum Stop {
 
 // The page of a refused text.
 pub fn refused(alloc: Global, line: u32, kind: u8) -> Result<Page, AllocError>
-    ensures status { IfOk result (λ p. p.status ≡ 4) }
+    ensures status { IfOk result (λ p. p.status ≡ REFUSED) }
     ensures text { IfOk result (λ p. p.text.items ≡ refusal line kind) }
     ensures kept { IfOk result (λ p. p.kept ≡ None) }
 {
     Ok(Page {
-        status: 4,
+        status: REFUSED,
         text: refusal(alloc, line, kind)?.into_bytes(),
         kept: None,
     })

@@ -1,20 +1,28 @@
 // The command `run`.
-ghost use Rattle.std.specs.Prelude.{◌≡◌, IfOk, map};
+ghost use Rattle.std.specs.Prelude.{◌≡◌, ℤ, List, IfOk, map};
 ghost use Rattle.std.specs.List.{list_any};
+ghost use Rattle.gl_bytecode.specs.Programs.{Bytecode};
 ghost use Rattle.gl_model.specs.Entries.{seen};
-ghost use Rattle.gl_single.specs.OneThread.{RunsAlone};
-ghost use Rattle.gl_single.specs.Lines.{is_raised};
+ghost use Rattle.gl_model.specs.Report.{report_of};
+ghost use Rattle.gl_report.specs.Lines.{is_raised};
+ghost use Rattle.gl_threads.specs.Options.{AreOptions};
+ghost use Rattle.gl_threads.specs.declared.options.Options.{Options as SeenOptions};
 ghost use Rattle.gl_run.specs.Replies.{IsVerdict};
-ghost use Rattle.gl_run.specs.Runs.{AnswersRun, RunsText, entries_status, is_unhalted, run_status};
+ghost use Rattle.gl_run.specs.Runs.{AnswersRun, IsRunOf, RunsText, entries_status, is_unhalted, run_status};
 
 use crate::kept::Kept;
 use crate::page::{Page, refused};
-use gl_asm::assemble_to_run;
-use gl_bytecode::Program;
-use gl_model::{Ending, Entry, Inputs, Record};
-use gl_single::{entries_of, is_raised, report, run_alone};
+use crate::status::{ALL_WELL, NOT_HALTED, RACES};
+use gl_asm::{Assembled, assemble};
+use gl_model::{Ending, Entry};
+use gl_report::{entries_of, is_raised, report_of_entries};
+use gl_shortcut::Cuts;
+use gl_table::Sealed;
 use gl_text::TextError;
+use gl_threads::{Gate, Options, run_program};
 use std::alloc::{AllocError, Global};
+use std::sync::Wait;
+use std::thread::Threads;
 
 // Whether the entry is the end of a thread that did not halt.
 fn is_unhalted(entry: &Entry) -> bool
@@ -45,45 +53,73 @@ fn entries_status(entries: &[(u8, &Entry)]) -> u8
     ensures few { IsVerdict result }
 {
     if has_raised(entries) {
-        return 6;
+        return RACES;
     }
-    if has_unhalted(entries) { 7 } else { 0 }
+    if has_unhalted(entries) {
+        NOT_HALTED
+    } else {
+        ALL_WELL
+    }
 }
 
-// The status of a run that left this record.
-fn run_status(alloc: Global, made: &Record) -> Result<u8, AllocError>
-    ensures value { IfOk result (λ status. status ≡ run_status made.now) }
-    ensures few { IfOk result IsVerdict }
+// The status and the report of a run that left this table. Its entries are laid out once.
+fn told(alloc: Global, sealed: &Sealed) -> Result<(u8, Vec<u8>), AllocError>
+    ensures status { IfOk result (λ r. r.0 ≡ run_status sealed.now.entries) }
+    ensures few { IfOk result (λ r. IsVerdict r.0) }
+    ensures report { IfOk result (λ r. r.1.items ≡ report_of sealed.now.entries) }
 {
-    let entries = entries_of(alloc, made)?;
-    Ok(entries_status(&entries))
+    let entries = entries_of(alloc, sealed.record())?;
+    let text = report_of_entries(alloc, &entries)?;
+    Ok((entries_status(&entries), text.into_bytes()))
 }
 
-// What a program is answered.
-fn ran(alloc: Global, program: &Program, inputs: &Inputs, steps: u32) -> Result<Page, AllocError>
-    requires { RunsAlone program.now }
-    ensures answer { IfOk result (λ p. AnswersRun program.now inputs.now steps p.status p.text.items p.kept) }
+// The page of a run that left this table.
+fn page_of(alloc: Global, sealed: Sealed) -> Result<Page, AllocError>
+    ensures answer { (program : Bytecode) (inputs : List ℤ) (options : SeenOptions) → IsRunOf program inputs options sealed → IfOk result (λ p. AnswersRun program inputs options p.status p.text.items p.kept) }
     ensures status { IfOk result (λ p. IsVerdict p.status) }
 {
-    let made = run_alone(alloc, program, inputs, steps)?;
-    made.keeps();
-    let text = report(alloc, &made)?.into_bytes();
-    let status = run_status(alloc, &made)?;
+    let (status, text) = told(alloc, &sealed)?;
     Ok(Page {
         status,
         text,
-        kept: Some(Kept::Trace(made)),
+        kept: Some(Kept::Run(sealed)),
     })
 }
 
-// What a text is answered.
-#[tactic(auto, using(crate::proofs::BuiltPrograms::runs_alone))]
-pub fn run(alloc: Global, input: &[u8], steps: u32) -> Result<Page, AllocError>
-    ensures answer { IfOk result (λ p. RunsText steps input.now p.status p.text.items p.kept) }
+// What a program is answered.
+fn ran<G: Gate, R: Threads + Wait + Sync>(
+    rt: &R,
+    alloc: Global,
+    assembled: Assembled,
+    options: &Options,
+    cuts: &Cuts,
+    gate: &G,
+) -> Result<Page, AllocError>
+    requires { AreOptions options.now }
+    ensures answer { IfOk result (λ p. AnswersRun assembled.program assembled.inputs options.now p.status p.text.items p.kept) }
     ensures status { IfOk result (λ p. IsVerdict p.status) }
 {
-    match assemble_to_run(alloc, input) {
-        Ok(assembled) => ran(alloc, &assembled.program, &assembled.inputs, steps),
+    let Assembled { program, inputs } = assembled;
+    let sealed = run_program(rt, alloc, &program, inputs, options, cuts, gate)?;
+    sealed.record().keeps();
+    page_of(alloc, sealed)
+}
+
+// What a text is answered.
+pub fn run<G: Gate, R: Threads + Wait + Sync>(
+    rt: &R,
+    alloc: Global,
+    input: &[u8],
+    options: &Options,
+    cuts: &Cuts,
+    gate: &G,
+) -> Result<Page, AllocError>
+    requires { AreOptions options.now }
+    ensures answer { IfOk result (λ p. RunsText options.now input.now p.status p.text.items p.kept) }
+    ensures status { IfOk result (λ p. IsVerdict p.status) }
+{
+    match assemble(alloc, input) {
+        Ok(assembled) => ran(rt, alloc, assembled, options, cuts, gate),
         Err(TextError::Fault(fault)) => refused(alloc, fault.line, fault.kind),
         Err(TextError::Memory(error)) => Err(error),
     }

@@ -1,13 +1,30 @@
-// The limits of the command line, with their numbers written out.
-ghost use Rattle.std.specs.Prelude.{◌≡◌, ℕ};
+// The limits and statuses of the command line, with their numbers written out.
+ghost use Rattle.std.specs.Prelude.{◌≡◌};
+ghost use Rattle.gl_run.specs.Options.{limits_of};
 ghost use Rattle.gl_run.specs.Words.{most_of};
+ghost use Rattle.gl_run.specs.declared.options.RunOption.TheVariants.{Cells, Segments, Steps, Workers};
+ghost use Rattle.gl_run.specs.declared.options.TheConstants.{MOST_DIGITS};
+ghost use Rattle.gl_run.specs.declared.status.TheConstants.{ALL_WELL, NOT_HALTED, NO_COMMAND, NO_MEMORY, RACES, READ_FAILED, REFUSED, WRITE_FAILED};
 ghost use Rattle.gl_run.specs.declared.words.Command.{Command};
-ghost use Rattle.gl_run.specs.declared.words.TheConstants.{DEFAULT_STEPS, MOST_DIGITS, MOST_STEPS};
 
-/// Each limit is the number that is stated for it.
+/// Each limit, and each number that stands where none is given, is the one that is stated for it.
 pub fn limits_are_stated()
-    ensures default_steps { DEFAULT_STEPS ≡ 200000 }
-    ensures most_steps { MOST_STEPS ≡ 1000000 }
+    ensures workers { limits_of Workers ≡ record { least = 1; most = 16; standard = 4 } }
+    ensures steps { limits_of Steps ≡ record { least = 1; most = 1000000; standard = 200000 } }
+    ensures segments { limits_of Segments ≡ record { least = 2; most = 64; standard = 64 } }
+    ensures cells { limits_of Cells ≡ record { least = 4; most = 64; standard = 64 } }
     ensures most_digits { MOST_DIGITS ≡ 7 }
     ensures most_bytes { (command : Command) → most_of command ≡ 1048576 }
+{}
+
+/// Each status is the number that is stated for it.
+pub fn statuses_are_stated()
+    ensures all_well { ALL_WELL ≡ 0 }
+    ensures no_command { NO_COMMAND ≡ 1 }
+    ensures read_failed { READ_FAILED ≡ 2 }
+    ensures write_failed { WRITE_FAILED ≡ 3 }
+    ensures refused { REFUSED ≡ 4 }
+    ensures no_memory { NO_MEMORY ≡ 5 }
+    ensures races { RACES ≡ 6 }
+    ensures not_halted { NOT_HALTED ≡ 7 }
 {}

@@ -1,9 +1,12 @@
 use super::*;
 use gl_io::{MemorySink, MemorySource, ReaderSource, WriterSink};
 use gl_shortcut::Cuts;
+use gl_threads::Open;
 use std::alloc::Global;
 use std::io;
+use std::sync::Wait;
 use std::test::Fail;
+use std::thread::Threads;
 
 // The words of a command line.
 fn words(alloc: Global, given: &[&str]) -> Result<Vec<String>, Fail> {
@@ -20,15 +23,15 @@ const LIST: &[&str] = &["goldi", "list"];
 
 // A command over a source of 8 bytes a call and a sink of 4 bytes a call, which fail at these calls: the status, and
 // whether these bytes were written.
-fn checked(
-    rt: &HostRuntime,
+fn checked<R: Threads + Wait + Sync>(
+    rt: &R,
+    alloc: Global,
     command: &[&str],
     input: &str,
     source_fails: &[u64],
     sink_fails: &[u64],
     written: &[u8],
 ) -> Result<(u8, bool), Fail> {
-    let alloc = rt.alloc();
     let bytes = input.as_bytes().to_vec(alloc)?;
     let mut source = MemorySource::new(bytes, source_fails.to_vec(alloc)?, 8);
     let mut sink = match MemorySink::new(alloc, 100, sink_fails.to_vec(alloc)?, 4) {
@@ -36,7 +39,15 @@ fn checked(
         Err((_, refused)) => return Err(Fail::from(refused)),
     };
     let words = words(alloc, command)?;
-    let answer = goldi(alloc, &words, &mut source, &mut sink, &Cuts::none());
+    let answer = goldi(
+        rt,
+        alloc,
+        &words,
+        &mut source,
+        &mut sink,
+        &Cuts::none(),
+        &Open {},
+    );
     Ok((answer.status, sink.written() == written))
 }
 
@@ -97,7 +108,7 @@ fn traces(rt: HostRuntime) -> Result<(), Fail> {
     ];
     for (input, status, written) in rows {
         assert_eq!(rt;
-            checked(&rt, CHECK, input, &[], &[], written.as_bytes())?,
+            checked(&rt, rt.alloc(), CHECK, input, &[], &[], written.as_bytes())?,
             (status, true),
             "at {input}"
         );
@@ -116,7 +127,7 @@ fn programs(rt: HostRuntime) -> Result<(), Fail> {
     ];
     for (input, status, written) in rows {
         assert_eq!(rt;
-            checked(&rt, LIST, input, &[], &[], written.as_bytes())?,
+            checked(&rt, rt.alloc(), LIST, input, &[], &[], written.as_bytes())?,
             (status, true),
             "at {input}"
         );
@@ -124,12 +135,16 @@ fn programs(rt: HostRuntime) -> Result<(), Fail> {
     Ok(())
 }
 
+// A thread that is forked with 7 prints it.
+const FORKS: &str =
+    "func main 0 0\n push 7\n fork f\n join\n halt\nfunc f 1 1\n load 0\n print\n push 0\n ret\n";
+
 // Each row: the words, the program, the status, and what `run` writes.
 #[test]
 fn runs(rt: HostRuntime) -> Result<(), Fail> {
     let one = "func main 0 0\n  push 5\n  print\n  halt\n";
     let two = "func main 0 0\npush 1\nprint\npush 2\nprint\nhalt\n";
-    let rows: [(&[&str], &str, u8, &str); 6] = [
+    let rows: [(&[&str], &str, u8, &str); 7] = [
         (&["goldi", "run"], one, 0, "out 5\nend 0 halt\nraces 0\n"),
         (
             &["goldi", "run", "--steps=3"],
@@ -156,18 +171,72 @@ fn runs(rt: HostRuntime) -> Result<(), Fail> {
             "out 41\nend 0 halt\nraces 0\n",
         ),
         (
-            &["goldi", "run"],
-            "func main 0 0\ntxbegin\nhalt\n",
-            4,
-            "refused 2 9\n",
+            &[
+                "goldi",
+                "run",
+                "--workers=16",
+                "--segments",
+                "2",
+                "--cells",
+                "4",
+            ],
+            FORKS,
+            0,
+            "out 7\nend 0 halt\nend 1 halt\nraces 0\n",
+        ),
+        (
+            &["goldi", "run", "--steps=5", "--workers", "2"],
+            "func main 0 0\ntxbegin\ncommit\npush 3\nprint\nhalt\n",
+            0,
+            "out 3\nend 0 halt\nraces 0\n",
         ),
     ];
     for (given, input, status, written) in rows {
         assert_eq!(rt;
-            checked(&rt, given, input, &[], &[], written.as_bytes())?,
+            checked(&rt, rt.alloc(), given, input, &[], &[], written.as_bytes())?,
             (status, true),
             "at {input}"
         );
+    }
+    Ok(())
+}
+
+// Each row: the options of a run, and the status. The text is refused, so nothing is run.
+#[test]
+fn options(rt: HostRuntime) -> Result<(), Fail> {
+    let rows: [(&[&str], u8); 16] = [
+        (&["goldi", "run"], 4),
+        (&["goldi", "run", "--workers", "1"], 4),
+        (&["goldi", "run", "--workers=16", "--steps=1000000"], 4),
+        (&["goldi", "run", "--cells", "4", "--segments=2"], 4),
+        (
+            &[
+                "goldi",
+                "run",
+                "--segments=64",
+                "--cells=64",
+                "--steps",
+                "1",
+                "--workers",
+                "0004",
+            ],
+            4,
+        ),
+        (&["goldi", "run", "--workers", "0"], 1),
+        (&["goldi", "run", "--workers", "17"], 1),
+        (&["goldi", "run", "--steps=1000001"], 1),
+        (&["goldi", "run", "--segments=1"], 1),
+        (&["goldi", "run", "--cells=65"], 1),
+        (&["goldi", "run", "--workers", "2", "--workers", "2"], 1),
+        (&["goldi", "run", "--workers", "2", "--steps"], 1),
+        (&["goldi", "run", "--"], 1),
+        (&["goldi", "run", "--", "--steps", "2"], 1),
+        (&["goldi", "run", "--workers", "00000004"], 1),
+        (&["goldi", "list", "--workers", "2"], 1),
+    ];
+    for (given, status) in rows {
+        let (came, _) = checked(&rt, rt.alloc(), given, "halt\n", &[], &[], &[])?;
+        assert_eq!(rt; came, status);
     }
     Ok(())
 }
@@ -178,14 +247,26 @@ fn faults(rt: HostRuntime) -> Result<(), Fail> {
     let input = "0 wr 1\n0 fork 1\n1 rd 1\n";
     let written = "1 ok\n3 ok\nraces 0\n".as_bytes();
     for call in 1..=4 {
-        assert_eq!(rt; checked(&rt, CHECK, input, &[call], &[], &[])?, (2, true));
+        assert_eq!(rt;
+            checked(&rt, rt.alloc(), CHECK, input, &[call], &[], &[])?,
+            (2, true)
+        );
     }
-    assert_eq!(rt; checked(&rt, CHECK, input, &[5], &[], written)?, (0, true));
+    assert_eq!(rt;
+        checked(&rt, rt.alloc(), CHECK, input, &[5], &[], written)?,
+        (0, true)
+    );
     for call in 1..=5 {
         let part = &written[..4 * (call as usize - 1)];
-        assert_eq!(rt; checked(&rt, CHECK, input, &[], &[call], part)?, (3, true));
+        assert_eq!(rt;
+            checked(&rt, rt.alloc(), CHECK, input, &[], &[call], part)?,
+            (3, true)
+        );
     }
-    assert_eq!(rt; checked(&rt, CHECK, input, &[], &[6], written)?, (0, true));
+    assert_eq!(rt;
+        checked(&rt, rt.alloc(), CHECK, input, &[], &[6], written)?,
+        (0, true)
+    );
     Ok(())
 }
 
@@ -222,11 +303,13 @@ fn adapters(rt: HostRuntime) -> Result<(), Fail> {
     assert_eq!(rt; &out[..], "1 ok\nraces 0\n".as_bytes());
     let mut alone = Vec::new(alloc);
     let answer = goldi_without_trace(
+        &rt,
         alloc,
         &words,
         &mut ReaderSource::new(input),
         &mut WriterSink::new(&mut alone),
         &Cuts::none(),
+        &Open {},
     );
     assert_eq!(rt; answer.status, 0);
     assert_eq!(rt; answer.kept.is_some(), false);
@@ -303,11 +386,13 @@ fn narrow_writers(rt: HostRuntime) -> Result<(), Fail> {
     let program = "func main 0 0\n  push 5\n  print\n  halt\n".as_bytes();
     let mut writer = Narrow::new(alloc, false);
     let answer = goldi_run(
+        &rt,
         alloc,
         &words,
         &mut ReaderSource::new(program),
         &mut WriterSink::new(&mut writer),
         &Cuts::none(),
+        &Open {},
     );
     assert_eq!(rt; answer.status, 0);
     assert_eq!(rt; answer.kept.is_some(), true);
@@ -317,11 +402,13 @@ fn narrow_writers(rt: HostRuntime) -> Result<(), Fail> {
     );
     let mut writer = Narrow::new(alloc, true);
     let answer = goldi_run(
+        &rt,
         alloc,
         &words,
         &mut ReaderSource::new(program),
         &mut WriterSink::new(&mut writer),
         &Cuts::none(),
+        &Open {},
     );
     assert_eq!(rt; answer.status, 3);
     assert_eq!(rt; writer.behind.len(), 0);

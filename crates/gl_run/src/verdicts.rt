@@ -14,6 +14,7 @@ ghost use Rattle.gl_run.specs.Recording.{IsRecorded, keep_of};
 use crate::keep::Keep;
 use crate::kept::Kept;
 use crate::page::Page;
+use crate::status::{ALL_WELL, RACES};
 use gl_core::Detector;
 use gl_model::{Item, Judged};
 use gl_shortcut::Cuts;
@@ -140,7 +141,7 @@ impl Verdicts {
     {
         push_races(&mut self.text, self.races as usize)?;
         Ok(Page {
-            status: if self.races == 0 { 0 } else { 6 },
+            status: if self.races == 0 { ALL_WELL } else { RACES },
             text: self.text.into_bytes(),
             kept: kept_of(self.tracer)?,
         })

@@ -1,23 +1,24 @@
 // The words of the command line.
-ghost use Rattle.std.specs.Prelude.{◌≡◌, string_bytes, map};
-ghost use Rattle.gl_run.specs.Words.{alone, command_named, command_of, joined_steps, most_of, named_steps, run_command_of, run_part, run_steps, steps_of, text_command_of, text_part, within_steps};
+ghost use Rattle.std.specs.Prelude.{◌≡◌, IfSome, None, string_bytes, map};
+ghost use Rattle.gl_run.specs.Words.{HasLimits, alone, command_named, command_of, most_of, run_command_of, run_part, text_command_of, text_part};
 
-use gl_text::magnitude;
+use crate::options::run_options;
+use gl_threads::Options;
 use gl_trace::TRACE_BYTES;
 
 /// A command that reads a text and writes a text.
-#[derive(Clone, Copy, Debug, PartialEq, Eq)]
+#[derive(Clone, Copy)]
 pub enum Command {
     /// Says of each access of a trace whether it completes a race.
     Check,
     /// Lists a program in its canonical form.
     List,
-    /// Runs a program, each thread of which starts so many instructions at most.
-    Run { steps: u32 },
+    /// Runs a program.
+    Run(Options),
 }
 
-// The most bytes of a program text.
-const PROGRAM_BYTES: usize = 1_048_576;
+/// The most bytes of a program text.
+pub const PROGRAM_BYTES: usize = 1_048_576;
 
 impl Command {
     // The most bytes that the command reads.
@@ -26,82 +27,15 @@ impl Command {
     {
         match self {
             Command::Check => TRACE_BYTES,
-            Command::List | Command::Run { .. } => PROGRAM_BYTES,
+            Command::List | Command::Run(_) => PROGRAM_BYTES,
         }
-    }
-}
-
-/// The steps of a thread where no option says how many.
-pub const DEFAULT_STEPS: u32 = 200_000;
-
-/// The most steps of a thread.
-pub const MOST_STEPS: u64 = 1_000_000;
-
-/// The most digits of an option's number.
-pub const MOST_DIGITS: usize = 7;
-
-// A number of steps within its limits.
-fn within_steps(n: u64) -> Option<u32>
-    ensures { result ≡ within_steps (Some n) }
-{
-    if 1 <= n && n <= MOST_STEPS {
-        Some(n as u32)
-    } else {
-        None
-    }
-}
-
-// The steps that a word says.
-fn steps_of(word: &[u8]) -> Option<u32>
-    ensures { result ≡ steps_of word.now }
-{
-    if MOST_DIGITS < word.len() {
-        return None;
-    }
-    match magnitude(word) {
-        Some(n) => within_steps(n),
-        None => None,
-    }
-}
-
-// The steps of an option and its number in one word.
-fn joined_steps(word: &[u8]) -> Option<u32>
-    ensures { result ≡ joined_steps word.now }
-{
-    let name = b"--steps=".as_slice();
-    if word.len() < name.len() {
-        return None;
-    }
-    let (front, value) = word.split_at(name.len());
-    if front == name { steps_of(value) } else { None }
-}
-
-// The steps of an option and its number in two words.
-fn named_steps(option: &[u8], value: &[u8]) -> Option<u32>
-    ensures { result ≡ named_steps option.now value.now }
-{
-    if option == b"--steps".as_slice() {
-        steps_of(value)
-    } else {
-        None
-    }
-}
-
-// The steps that the options of a run give.
-fn run_steps(options: &[String]) -> Option<u32>
-    ensures { result ≡ run_steps (map string_bytes options.now) }
-{
-    match options {
-        [] => Some(DEFAULT_STEPS),
-        [option] => joined_steps(option.as_bytes()),
-        [option, value] => named_steps(option.as_bytes(), value.as_bytes()),
-        _ => None,
     }
 }
 
 // A command without options.
 fn alone(options: &[String], command: Command) -> Option<Command>
-    ensures { result ≡ alone (map string_bytes options.now) command }
+    ensures value { result ≡ alone (map string_bytes options.now) command }
+    ensures limits { HasLimits command → IfSome result HasLimits }
 {
     match options {
         [] => Some(command),
@@ -111,13 +45,14 @@ fn alone(options: &[String], command: Command) -> Option<Command>
 
 // The command of this name with these options.
 fn command_named(word: &[u8], options: &[String]) -> Option<Command>
-    ensures { result ≡ command_named word.now (map string_bytes options.now) }
+    ensures value { result ≡ command_named word.now (map string_bytes options.now) }
+    ensures limits { IfSome result HasLimits }
 {
     match word {
         b"check" => alone(options, Command::Check),
         b"list" => alone(options, Command::List),
-        b"run" => match run_steps(options) {
-            Some(steps) => Some(Command::Run { steps }),
+        b"run" => match run_options(options) {
+            Some(options) => Some(Command::Run(options)),
             None => None,
         },
         _ => None,
@@ -126,7 +61,8 @@ fn command_named(word: &[u8], options: &[String]) -> Option<Command>
 
 // The command that the words ask for, if they are one of the stated forms.
 pub fn command_of(words: &[String]) -> Option<Command>
-    ensures { result ≡ command_of (map string_bytes words.now) }
+    ensures value { result ≡ command_of (map string_bytes words.now) }
+    ensures limits { IfSome result HasLimits }
 {
     match words {
         [] | [_] => None,
@@ -136,20 +72,22 @@ pub fn command_of(words: &[String]) -> Option<Command>
 
 // The command, if it is one that reads a text and runs nothing.
 pub fn text_command_of(words: &[String]) -> Option<Command>
-    ensures { result ≡ text_command_of (map string_bytes words.now) }
+    ensures value { result ≡ text_command_of (map string_bytes words.now) }
+    ensures runs_nothing { run_part result ≡ None }
 {
     match command_of(words) {
-        Some(Command::Run { .. }) => None,
+        Some(Command::Run(_)) => None,
         other => other,
     }
 }
 
 // The command, if it is one that runs a program.
 pub fn run_command_of(words: &[String]) -> Option<Command>
-    ensures { result ≡ run_command_of (map string_bytes words.now) }
+    ensures value { result ≡ run_command_of (map string_bytes words.now) }
+    ensures limits { IfSome result HasLimits }
 {
     match command_of(words) {
-        Some(Command::Run { steps }) => Some(Command::Run { steps }),
+        Some(Command::Run(options)) => Some(Command::Run(options)),
         _ => None,
     }
 }

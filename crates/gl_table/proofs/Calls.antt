@@ -15,13 +15,13 @@ use Rattle.gl_table.specs.CaughtUp.{caught_up}
 use Rattle.gl_table.specs.PassInside.{IsReady}
 use Rattle.gl_state.specs.ListView.{ListView}
 use Rattle.gl_rule.specs.Objects.{Key, objects, capacity, cell_at}
-use Rattle.gl_rule.specs.View.{View, Held, Shelf, shelf, Hold, Stop}
+use Rattle.gl_rule.specs.View.{View, Held, Shelf, shelf, Hold, Stop, SetStop}
 use Rattle.gl_rule.specs.Fitting.{MayPublish, MayMark, MayOpen, MayWalk, MayStoreWord, MayRaise, MayTrim}
 use Rattle.gl_table.specs.Putting.{MayPutBack}
 use Rattle.gl_rule.specs.Rule.{Rule}
 use Rattle.gl_table.specs.Says.{EventSaid, MarkSaid}
 use Rattle.gl_rule.specs.Told.{Took, Left, SawTail, Saw, SawHold, PutWord, PublishedAct, Marked, Opened, SawCell, SawEvent, SawFloor, Raised, Lowered}
-use Rattle.gl_table.specs.Told.{Kept, PaidLeft, PublishedTx}
+use Rattle.gl_table.specs.Told.{PaidLeft, PublishedTx}
 use Rattle.gl_table.specs.Committing.{commit_stamp}
 use Rattle.gl_model.specs.declared.tx.Tx.{Tx}
 use Rattle.gl_rule.proofs.Committing.{publishes_commit}
@@ -61,8 +61,8 @@ module _ (key : Key) (slots id : ℕ) (me : table.Me Slot View) (t : ℕ) (es : 
   pub may_hold : (k y : ℕ) → y ≡ k → k < objects → table.Allows (Rule key) slots id me (3 * k + 2) (λ n. n) (SawHold y u me.1)
   may_hold k y is near = subst (λ z. table.Allows (Rule key) slots id me (3 * k + 2) (λ n. n) (SawHold z u me.1)) (sym is) (as_told (3 * k + 2) (λ n. n) (λ z. SawHold k z me.1) (loads_hold key slots id k (caught_up me.0 t es) me.1 near))
 
-  pub may_set : table.Allows (Rule key) slots id me 3075 (λ _. 1) (λ _. Kept u me.1)
-  may_set = as_told 3075 (λ _. 1) (λ z _. Kept z me.1) (sets_stop key slots id 1 (caught_up me.0 t es) me.1)
+  pub may_set : table.Allows (Rule key) slots id me 3075 (λ _. 1) (λ _. Saw SetStop u me.1)
+  may_set = as_told 3075 (λ _. 1) (λ z _. Saw SetStop z me.1) (sets_stop key slots id (caught_up me.0 t es) me.1)
 
   pub may_stop : table.Allows (Rule key) slots id me 3075 (λ n. n) (λ n. Saw (Stop n) u me.1)
   may_stop = as_told 3075 (λ n. n) (λ z n. Saw (Stop n) z me.1) (loads_stop key slots id (caught_up me.0 t es) me.1)

@@ -15,3 +15,4 @@ pub mod Commitments
 pub mod Unpacking
 pub mod FiveWords
 pub mod LeastEntered
+pub mod RightsKept

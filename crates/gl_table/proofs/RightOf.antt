@@ -2,10 +2,8 @@
 use Rattle.std.proofs.Common.{◌≡◌, ℕ, ◌+◌, ◌-◌, ◌<◌, List, [], ◌∷◌, ◌++◌, length, take, map, get_or, refl, sym, ap, ◌∙◌, subst, arith, Bool, true, false, ◌==◌, if◌then◌else◌, Option, Some, None, inl, inr, append-nil, append_assoc, eq-eqb}
 use Rattle.std.specs.Prelude.{ℤ}
 use Rattle.std.proofs.lemmas.Bool.{eqb-true}
-use Rattle.std.proofs.lemmas.List.{map-append, take_more}
 use Rattle.std.proofs.lemmas.Option.{slice_get_within}
-use Rattle.gl_model.specs.declared.record.Entry.{Entry as StoredEntry}
-use Rattle.gl_model.specs.Entries.{Entry, Sync, Commit, Plain, Abort, Trim, Over, seen}
+use Rattle.gl_model.specs.Entries.{Entry, Sync, Commit, Plain, Abort, Trim, Over}
 use Rattle.gl_model.specs.Form.{GivesRight, HasRight}
 use Rattle.gl_model.specs.Records.{position_of}
 use Rattle.gl_draws.proofs.Pushes.{at_cases, at_kept, at_new}
@@ -80,13 +78,3 @@ right_all done (e ∷ es) x r stands = subst (λ l. RightStands l x (right_from 
 -- the right that the list gives is one by which an entry may be repeated
 pub right_stands : (es : List Entry) (x k : ℕ) (w write : Bool) → right_of es x ≡ Some (k, w) → (write ≡ true → w ≡ true) → HasRight es (length es) x k write
 right_stands es x k w write is enough = (subst (RightStands es x) is (right_all [] es x None tt)) write enough
-
--- the list up to the entry at i, from the list before it
-pub right_take : (items : List StoredEntry) (x i : ℕ) (d : StoredEntry) → i < length items → right_of (map seen (take (i + 1) items)) x ≡ right_after x (right_of (map seen (take i items)) x) (seen (get_or items i d))
-right_take items x i d near = ap (λ l. right_of (map seen l) x) (take_more items i d near) ∙ ap (λ l. right_of l x) (map-append seen (take i items) (get_or items i d ∷ [])) ∙ right_push x None (map seen (take i items)) (seen (get_or items i d))
-
--- the same of the first i entries, of which e is the last
-pub right_up : (items : List StoredEntry) (x i : ℕ) (e : StoredEntry) → 0 < i → i - 1 < length items → e ≡ get_or items (i - 1) e → right_of (map seen (take i items)) x ≡ right_after x (right_of (map seen (take (i - 1) items)) x) (seen e)
-right_up items x i e some near is =
-    let n : i ≡ (i - 1) + 1 = omega arith in
-    ap (λ k. right_of (map seen (take k items)) x) n ∙ right_take items x (i - 1) e near ∙ ap (λ z. right_after x (right_of (map seen (take (i - 1) items)) x) (seen z)) (sym is)

@@ -20,7 +20,9 @@ pub mod RightOf
 pub mod Committing
 pub mod Unpacking
 pub mod Walking
-pub mod Saying
+pub mod Repeating
+pub mod RightsView
+pub mod RightsInside
 pub mod LevelsInside
 pub mod Stored
 pub mod StoredInside

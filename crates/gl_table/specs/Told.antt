@@ -1,4 +1,4 @@
--- What a step tells that changes nothing of a view but what it records.
+-- What some steps tell of a view.
 use Rattle.std.specs.Prelude.{◌≡◌, ℕ, suc, false, List, [], ◌∷◌}
 use Rattle.gl_rule.specs.declared.slot.Slot.{Slot}
 use Rattle.gl_rule.specs.declared.slot.Slot.TheVariants as slot
@@ -10,9 +10,6 @@ use Rattle.gl_draws.specs.Draws.{draw, Entered}
 use Rattle.gl_rule.specs.Commits.{paid, drew_commit}
 use Rattle.gl_rule.specs.Told.{Seat, Left, Published}
 use Rattle.gl_rule.specs.View.{View, Held, Shelf}
-
-abbrev pub Kept : View → List (ℕ × Slot) → Seat → Type 0
-Kept v c w = w ≡ (v, c)
 
 -- a value that was owed was written back: the row of x, which was held as h, is y then
 abbrev pub PaidLeft : ℕ → Held → Slot → View → List (ℕ × Slot) → Seat → Type 0

@@ -11,6 +11,7 @@ mod new;
 mod own_list;
 mod pack;
 mod pass;
+mod rights;
 mod rule;
 mod sealed;
 mod setting;

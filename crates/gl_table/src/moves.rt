@@ -8,7 +8,7 @@ ghost use Rattle.gl_table.specs.CaughtUp.{caught_up, block_of};
 ghost use Rattle.gl_rule.specs.Fitting.{MayPublish, MayMark, MayOpen, MayWalk, MayStoreWord, MayRaise, MayTrim};
 ghost use Rattle.gl_table.specs.Committing.{commit_stamp};
 ghost use Rattle.gl_table.specs.Ending.{ClosedTold};
-ghost use Rattle.gl_table.specs.Told.{Kept, PaidLeft, PublishedTx, head_slot};
+ghost use Rattle.gl_table.specs.Told.{PaidLeft, PublishedTx, head_slot};
 ghost use Rattle.gl_rule.specs.Commits.{MayCommit, MayPay};
 ghost use Rattle.gl_table.specs.KeyOf.{key_of};
 ghost use Rattle.gl_state.specs.ListView.{ListView};
@@ -17,7 +17,7 @@ ghost use Rattle.gl_table.specs.OfTable.{OfTable};
 ghost use Rattle.gl_table.specs.PassInside.{IsReady};
 ghost use Rattle.gl_table.specs.Putting.{MayPutBack, held_at};
 ghost use Rattle.gl_rule.specs.Told.{Took, Left, SawTail, Saw, SawHold, PutWord, PublishedAct, Marked, Opened, SawCell, SawEvent, SawFloor, Raised, Lowered};
-ghost use Rattle.gl_rule.specs.View.{Shelf, shelf, Held, Hold, Stop};
+ghost use Rattle.gl_rule.specs.View.{Shelf, shelf, Held, Hold, Stop, SetStop};
 ghost use Rattle.gl_rule.specs.declared.slot.Slot.{Slot as ASlot};
 ghost use Rattle.gl_rule.specs.declared.slot.Slot.TheVariants as slot;
 
@@ -219,7 +219,7 @@ pub fn set_word<B: Told>(board: &Board, seat: &mut Seat, id: u8, mine: &OwnList)
     requires ready { IsReady seat.old.me.0 id mine.now.entries }
     requires told { B.view ≡ caught_up seat.old.me.0 id mine.now.entries }
     ensures seat { (seat.new.table_id ≡ seat.old.table_id) × (seat.new.id ≡ seat.old.id) }
-    ensures kept { Kept (caught_up seat.old.me.0 id mine.now.entries) seat.old.me.1 seat.new.me }
+    ensures saw { Saw SetStop (caught_up seat.old.me.0 id mine.now.entries) seat.old.me.1 seat.new.me }
 {
     board.store::<Stops<B>>(seat, 3075, 1);
 }

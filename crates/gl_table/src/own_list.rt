@@ -3,18 +3,20 @@ ghost use Rattle.std.specs.Prelude.{◌≡◌, ◌≤◌, ◌<◌, ◌-◌, ◌+
 ghost use Rattle.gl_model.specs.Entries.{seen};
 ghost use Rattle.gl_model.specs.Kept.{IsEntryKept};
 ghost use Rattle.gl_rule.specs.Levels.{levels_of, AreLeastEntered};
-ghost use Rattle.gl_table.specs.Stored.{Stored as AStored};
+ghost use Rattle.gl_table.specs.RightOf.{right_of};
 
 use crate::levels::Levels;
-use gl_model::{Entry, Held};
+use crate::rights::Rights;
+use gl_model::{Entry, Held, VARIABLES};
 use std::alloc::{AllocError, Global};
 use std::marker::Model;
 
-/// What a thread has stored, with the levels of its monitors.
+/// What a thread has stored, with the levels of its monitors and the rights on variables.
 #[derive(Drop)]
 pub struct OwnList {
     list: Vec<Entry>,
     levels: Levels,
+    rights: Rights,
 }
 
 impl Model for OwnList {
@@ -37,6 +39,7 @@ impl OwnList {
         Ok(OwnList {
             list: Vec::new(alloc),
             levels: Levels::none(alloc)?,
+            rights: Rights::none(alloc)?,
         })
     }
 
@@ -61,6 +64,17 @@ impl OwnList {
         self.levels.least()
     }
 
+    /// Number and kind of the access of the variable that may be repeated.
+    pub fn right(&self, var: u16) -> Option<(u64, bool)>
+        ensures { result ≡ right_of self.now.entries var }
+    {
+        let rights = &self.rights;
+        if var >= VARIABLES {
+            return None;
+        }
+        rights.on(var)
+    }
+
     /// Makes room for so many entries more.
     pub fn reserve(&mut self, additional: usize) -> Result<(), AllocError>
         ensures spare { OnOk result (additional ≤ self.new.spare) }
@@ -78,6 +92,7 @@ impl OwnList {
         ensures spare { self.new.spare ≡ self.old.spare - 1 }
     {
         self.levels.note(&entry);
+        self.rights.note(&entry);
         self.list.push_reserved(entry);
     }
 }

@@ -2,7 +2,6 @@
 ghost use Rattle.std.specs.Prelude.{◌≡◌, map, ◌||◌, ℕ, ◌<◌, ◌≤◌, ◌+◌, true, false, suc, Contains, OnOk, OnErr, IfOk, IfErr, Some};
 ghost use Rattle.gl_model.specs.declared.limits.TheConstants.{THREADS};
 ghost use Rattle.gl_model.specs.Entries.{Abort, Over, Plain};
-ghost use Rattle.gl_rule.specs.Adding.{MayCache};
 ghost use Rattle.gl_rule.specs.Lives.{Ended, life_of};
 ghost use Rattle.gl_model.specs.declared.row.Row.{Row as ARow};
 ghost use Rattle.gl_rule.specs.Fitting.{MayRaise, MayTrim};
@@ -10,8 +9,8 @@ ghost use Rattle.gl_rule.specs.declared.slot.Slot.TheVariants as slot;
 ghost use Rattle.gl_model.specs.Entries.{seen};
 ghost use Rattle.gl_rule.specs.Closed.{IsDone};
 ghost use Rattle.gl_table.specs.Doneness.{is_done, is_over as over_entry};
+ghost use Rattle.gl_table.specs.Repeating.{MayRepeat};
 ghost use Rattle.gl_table.specs.RightOf.{right_of};
-ghost use Rattle.gl_table.specs.Saying.{IsSaid};
 ghost use Rattle.gl_table.specs.KeyOf.{key_of};
 ghost use Rattle.gl_table.specs.Lowering.{lowered_pass};
 ghost use Rattle.gl_rule.specs.Objects.{objects};
@@ -21,7 +20,7 @@ ghost use Rattle.gl_table.specs.Putting.{MayAbort, MayPutBack, held_at};
 ghost use Rattle.gl_rule.specs.Taken.{TakenTold};
 ghost use Rattle.gl_draws.specs.RowFacts.{IsWithin};
 ghost use Rattle.gl_rule.specs.Knowledge.{AreBelow};
-ghost use Rattle.gl_rule.specs.View.{Held, Hold, Stop, took, refused, left, saw_tail, saw, saw_floor, raised};
+ghost use Rattle.gl_rule.specs.View.{Held, Hold, Stop, SetStop, took, refused, left, saw_tail, saw, saw_floor, raised};
 
 use crate::hold::bring;
 use crate::moves::{
@@ -81,51 +80,6 @@ fn ends(mine: &[Entry], quiet: bool) -> bool
     is_over(&mine[mine.len() - 1])
 }
 
-// What an entry says of the right on a variable: that it gives it, takes it, or nothing.
-enum RightChange {
-    Gives(u64, bool),
-    Takes,
-    Nothing,
-}
-
-fn right_told(entry: &Entry, of: u16) -> RightChange
-    ensures { IsSaid of (seen entry.now) result }
-{
-    match entry {
-        Entry::Sync { .. } | Entry::Commit { .. } | Entry::Abort { .. } => RightChange::Takes,
-        Entry::Trim { .. } | Entry::Over(_) => RightChange::Nothing,
-        Entry::Plain {
-            var,
-            nth,
-            cached,
-            write,
-            raised,
-            ..
-        } => {
-            if *var == of && !*cached && !*raised {
-                return RightChange::Gives(*nth, *write);
-            }
-            RightChange::Nothing
-        }
-    }
-}
-
-// The right on a variable, from the end of the list.
-fn right_in(mine: &[Entry], var: u16) -> Option<(u64, bool)>
-    ensures { result ≡ right_of (map seen mine.now) var }
-{
-    let mut i = mine.len();
-    while i > 0 {
-        i -= 1;
-        match right_told(&mine[i], var) {
-            RightChange::Gives(nth, write) => return Some((nth, write)),
-            RightChange::Takes => return None,
-            RightChange::Nothing => {}
-        }
-    }
-    None
-}
-
 impl Pass {
     /// Its number.
     pub fn id(&self) -> u8
@@ -154,7 +108,7 @@ impl Pass {
     pub fn right(&self, var: u16) -> Option<(u64, bool)>
         ensures { result ≡ right_of self.now.own.mine var }
     {
-        right_in(self.mine.entries(), var)
+        self.mine.right(var)
     }
 
     /// Makes room for so many entries more.
@@ -185,9 +139,9 @@ impl Pass {
         self.mine.push(Entry::Abort { tx, why });
     }
 
-    /// Repeats its last access of the variable, whose number is `nth`.
+    /// Repeats its last access of the variable, to which it has the right: `nth` is its number.
     pub fn cached(&mut self, var: u16, nth: u64, write: bool, value: i64)
-        requires may { MayCache (shelf_of self.old) (view_of self.old) var nth write value }
+        requires may { MayRepeat self.old var nth write value }
         requires spare { 0 < self.old.spare }
         ensures { self.new ≡ after_adding self.old (Plain var nth true write value false) }
     {
@@ -266,7 +220,7 @@ pub(crate) fn lower(board: &Board, pass: &mut Pass, to: u64) -> u64
 // Sets the stop word.
 pub(crate) fn stop(board: &Board, pass: &mut Pass)
     requires table { OfTable pass.old.own.table board.now.table_id (key_of board.now.key) }
-    ensures pass { pass.new ≡ pass.old }
+    ensures pass { pass.new ≡ after pass.old (saw (view_of pass.old) SetStop) }
 {
     set_word::<Brand>(board, &mut pass.seat, pass.id, &pass.mine);
 }

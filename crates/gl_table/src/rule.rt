@@ -205,9 +205,10 @@ impl<B: Told> Play<Slot, Know> for Closes<B> {
 pub struct Stops<B>(PhantomData<B>);
 
 impl<B: Told> Play<Slot, Know> for Stops<B> {
-    ghost use Rattle.gl_table.specs.Told.{Kept};
+    ghost use Rattle.gl_rule.specs.Told.{Saw};
+    ghost use Rattle.gl_rule.specs.View.{SetStop};
 
-    ghost then = { λ s v n w. Kept B.view v.1 w };
+    ghost then = { λ s v n w. Saw SetStop B.view v.1 w };
 }
 
 pub struct SeesStop<B>(PhantomData<B>);

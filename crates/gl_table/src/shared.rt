@@ -16,7 +16,7 @@ ghost use Rattle.gl_rule.specs.Taken.{StateTold};
 ghost use Rattle.gl_draws.specs.RowFacts.{IsWithin};
 ghost use Rattle.gl_rule.specs.Knowledge.{AreBelow};
 ghost use Rattle.gl_rule.specs.Told.{IsAboveDrawn};
-ghost use Rattle.gl_rule.specs.View.{Held, Hold, Stop, took, refused, left, saw_tail, saw, saw_floor, raised};
+ghost use Rattle.gl_rule.specs.View.{Held, Hold, Stop, SetStop, took, refused, left, saw_tail, saw, saw_floor, raised};
 ghost use Rattle.gl_rule.specs.declared.slot.Slot.TheVariants as slot;
 
 use crate::layout::Layout;
@@ -110,15 +110,15 @@ impl Shared {
         self.layout.ring
     }
 
-    /// Publishes an act, by which the list's state became `state`, and answers its position. The words of the event are stored in the cell of the
-    /// tail first.
+    /// Publishes an act, by which the list's state became `state`, and answers its position: the tail that it saw. The words of the event are stored in the cell
+    /// of the tail first.
     pub fn publish(&self, pass: &mut Pass, act: &Act, value: i64, state: &ListState) -> u64
         requires table { pass.old.own.table ≡ self.now.id }
         requires idle { pass.old.own.drawn ≡ [] }
         requires spare { 0 < pass.old.spare }
         requires may { MayPublishAct self.now.key pass.old act.now value state.now }
         ensures published { pass.new ≡ published_act pass.old act.now value result state.now }
-        ensures later { pass.old.seen ≤ result }
+        ensures here { result ≡ pass.old.seen }
     {
         publish(
             &self.table.shared,
@@ -144,7 +144,7 @@ impl Shared {
         requires vars { vars.now ≡ variables_of tx.value }
         requires may { MayPublishTx self.now.key pass.old tx.value state.now }
         ensures published { pass.new ≡ published_tx pass.old tx.value result state.now }
-        ensures later { pass.old.seen ≤ result }
+        ensures here { result ≡ pass.old.seen }
     {
         commit(
             &self.table.shared,
@@ -246,10 +246,10 @@ impl Shared {
         if before < to { to } else { before }
     }
 
-    /// Tells all passes to stop.
+    /// Tells all passes to stop. The pass knows then that it did.
     pub fn set_stop(&self, pass: &mut Pass)
         requires table { pass.old.own.table ≡ self.now.id }
-        ensures { pass.new ≡ pass.old }
+        ensures { pass.new ≡ after pass.old (saw (view_of pass.old) SetStop) }
     {
         stop(&self.table.shared, pass);
     }

@@ -58,7 +58,7 @@ pub(crate) fn publish(
     requires spare { 0 < pass.old.spare }
     requires may { MayPublishAct (key_of board.now.key) pass.old act.now value state.now }
     ensures published { pass.new ≡ published_act pass.old act.now value result state.now }
-    ensures later { pass.old.seen ≤ result }
+    ensures here { result ≡ pass.old.seen }
 {
     let words = pack(pass.id, act);
     put_words(
@@ -102,7 +102,7 @@ pub(crate) fn commit(
     requires vars { vars.now ≡ variables_of tx.value }
     requires may { MayPublishTx (key_of board.now.key) pass.old tx.value state.now }
     ensures published { pass.new ≡ published_tx pass.old tx.value result state.now }
-    ensures later { pass.old.seen ≤ result }
+    ensures here { result ≡ pass.old.seen }
 {
     let words = pack_commit(pass.id, vars);
     put_words(

@@ -16,8 +16,6 @@ pub const BAD_NUMBER: u8 = 6;
 pub const NAME_TAKEN: u8 = 7;
 /// The line names what no line defines in its scope.
 pub const NAME_UNKNOWN: u8 = 8;
-/// The line's form is one that the program cannot read yet.
-pub const NOT_BUILT: u8 = 9;
 /// The line stands where none of its form may stand.
 pub const MISPLACED: u8 = 10;
 /// A word in a defined name's place is no name.

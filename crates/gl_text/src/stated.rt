@@ -1,6 +1,6 @@
 // The kinds of faults, with their numbers written out.
 ghost use Rattle.std.specs.Prelude.{◌≡◌};
-ghost use Rattle.gl_text.specs.declared.kinds.TheConstants.{BAD_BYTE, BAD_HEADER, BAD_NAME, BAD_NUMBER, BAD_ORDER, BAD_SET, CANNOT_FORK, JOIN_SELF, MISPLACED, MONITOR_NOT_OWNED, MONITOR_OWNED, NAME_TAKEN, NAME_UNKNOWN, NOT_BUILT, NOT_RUNNING, NO_DONE, PROGRAM_FAULT_BASE, TOO_LONG, TOO_MANY, TOO_MANY_LINES, UNKNOWN_WORD, WORD_COUNT};
+ghost use Rattle.gl_text.specs.declared.kinds.TheConstants.{BAD_BYTE, BAD_HEADER, BAD_NAME, BAD_NUMBER, BAD_ORDER, BAD_SET, CANNOT_FORK, JOIN_SELF, MISPLACED, MONITOR_NOT_OWNED, MONITOR_OWNED, NAME_TAKEN, NAME_UNKNOWN, NOT_RUNNING, NO_DONE, PROGRAM_FAULT_BASE, TOO_LONG, TOO_MANY, TOO_MANY_LINES, UNKNOWN_WORD, WORD_COUNT};
 
 /// Each kind is the number that is stated for it.
 pub fn kinds_are_stated()
@@ -12,7 +12,6 @@ pub fn kinds_are_stated()
     ensures bad_number { BAD_NUMBER ≡ 6 }
     ensures name_taken { NAME_TAKEN ≡ 7 }
     ensures name_unknown { NAME_UNKNOWN ≡ 8 }
-    ensures not_built { NOT_BUILT ≡ 9 }
     ensures misplaced { MISPLACED ≡ 10 }
     ensures bad_name { BAD_NAME ≡ 11 }
     ensures too_many { TOO_MANY ≡ 12 }

@@ -4,6 +4,7 @@
 use gl_io::{ReaderSource, WriterSink};
 use gl_run::goldi_without_trace;
 use gl_shortcut::{Cuts, ShortCut, Sure, both_commits, same_thread, shared_monitor, two_threads};
+use gl_threads::Open;
 use std::alloc::{AllocError, Global};
 use std::env::FillError;
 use std::process::ExitCode;
@@ -40,7 +41,15 @@ fn main(rt: HostRuntime) -> ExitCode {
         Ok(words) => {
             let mut source = ReaderSource::new(rt.stdin());
             let mut sink = WriterSink::new(rt.stdout());
-            let answer = goldi_without_trace(rt.alloc(), &words, &mut source, &mut sink, &cuts);
+            let answer = goldi_without_trace(
+                &rt,
+                rt.alloc(),
+                &words,
+                &mut source,
+                &mut sink,
+                &cuts,
+                &Open {},
+            );
             ExitCode::from(answer.status)
         }
         Err(_) => ExitCode::from(5),

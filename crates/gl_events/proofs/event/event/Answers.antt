@@ -1,7 +1,7 @@
 use Rattle.std.proofs.Common.{rules, sym, ap, subst, ◌∙◌, false}
 use Rattle.std.proofs.Common.{FitsSigned, w64}
 use Rattle.std.proofs.lemmas.Int.{to_z-of_z}
-use Rattle.std.specs.Prelude.{◌≤◌}
+use Rattle.std.specs.Prelude.{◌≡◌, ◌≤◌}
 use Rattle.gl_rule.specs.declared.slot.Slot.TheVariants as slot
 use Rattle.gl_rule.specs.View.{saw, saw_tail, Hold}
 use Rattle.gl_table.specs.Doing.{announced}
@@ -55,6 +55,6 @@ returns-clause-done c =
     let fits : FitsSigned w64 a.value = search rules in
     let answer = simp to_z-of_z at c.answer.ensures in
     let later = subst (λ (q : PassView). q.seen ≤ c.tail-tail.result) (c.low-low.ensures.pass ∙ ap (λ (q : PassView). after q (saw (view_of q) (Hold 0 c.low-low.result))) c.in-Ok.ensures.ok) c.tail-tail.ensures.later in
-    let behind = subst (λ (q : PassView). q.seen ≤ c.announce-at.result) is c.announce-at.ensures.later in
-    answered c.args.call.now z p c.announce-at.new.pass c.in-Ok.state c.apply.new.state c.low-low.result c.tail-tail.result c.announce-at.result a.act a.value c.answer.result c.requires.may c.in-Ok.ensures.told plan to (search rules) later behind answer
+    let here = subst (λ (q : PassView). c.announce-at.result ≡ q.seen) is c.announce-at.ensures.here in
+    answered c.args.call.now z p c.announce-at.new.pass c.in-Ok.state c.apply.new.state c.low-low.result c.tail-tail.result c.announce-at.result a.act a.value c.answer.result c.requires.may c.in-Ok.ensures.told plan to (search rules) later here answer
     (c.announce-at.ensures.is ∙ ap (λ (q : PassView). announced q a.act a.value c.announce-at.result (slot.List c.apply.new.state)) is)

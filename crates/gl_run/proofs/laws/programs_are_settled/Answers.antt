@@ -8,10 +8,10 @@ pub returns-clause-listings_apart : goal.returns-clause-listings_apart
 returns-clause-listings_apart c = let meaning = c.one_meaning.ensures in listings_apart meaning.apart meaning.faults meaning.texts
 
 pub returns-clause-runs : goal.returns-clause-runs
-returns-clause-runs c = let meaning = c.one_meaning_to_run.ensures in runs_told meaning.apart meaning.faults
+returns-clause-runs c = let meaning = c.one_meaning.ensures in runs_told meaning.apart meaning.faults
 
 pub returns-clause-runs_apart : goal.returns-clause-runs_apart
-returns-clause-runs_apart c = let meaning = c.one_meaning_to_run.ensures in runs_apart meaning.apart meaning.faults
+returns-clause-runs_apart c = let meaning = c.one_meaning.ensures in runs_apart meaning.apart meaning.faults
 
 pub returns-clause-lawful : goal.returns-clause-lawful
 returns-clause-lawful c = runs_lawful

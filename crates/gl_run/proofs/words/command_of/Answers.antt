@@ -3,4 +3,4 @@ use Rattle.gl_run.proofs.FewWords.{few_words}
 use Rattle.gl_run.proofs.words.command_of.Goals as goal
 
 pub returns-in-empty : goal.returns-in-empty
-returns-in-empty c = few_words string_bytes c.args.words.now c.in-empty.len_below
+returns-in-empty c = record { value = few_words string_bytes c.args.words.now c.in-empty.len_below; limits = tt }

@@ -1,6 +1,5 @@
-use Rattle.std.proofs.Common.{refl}
-use Rattle.gl_table.proofs.Passes.{pass_steps}
+use Rattle.gl_table.proofs.Passes.{pass_saw}
 use Rattle.gl_table.proofs.pass.stop.Goals as goal
 
 pub invariant_of-pass : goal.invariant_of-pass
-invariant_of-pass c = let p = c.pass.invariant.pass in record { pass = pass_steps _ _ _ _ _ _ p _ _ _ _ _ refl refl p.quiets p.unstored p.out c.set_word.ensures.kept; room = c.pass.invariant.room }
+invariant_of-pass c = record { pass = pass_saw _ _ _ _ _ _ c.pass.invariant.pass _ _ c.set_word.ensures.saw; room = c.pass.invariant.room }

@@ -11,6 +11,7 @@ use Rattle.gl_model.specs.declared.event.Event.TheVariants.{Commit as Commits}
 use Rattle.gl_rule.specs.Cells.{packed}
 use Rattle.gl_rule.specs.Commits.{MayCommit, drew_commit}
 use Rattle.gl_rule.specs.Fitting.{MayPublish}
+use Rattle.gl_rule.specs.Told.{IsTailOf}
 use Rattle.gl_rule.specs.View.{View, shelf, published}
 use Rattle.gl_table.specs.CaughtUp.{caught_up}
 use Rattle.gl_table.specs.Committing.{MayPublishTx, commit_stamp, published_tx}
@@ -79,6 +80,8 @@ returns c =
     let r = pass_tells _ _ _ _ _ _ c.pass.invariant.pass _ (Commit n tx) (commit_stamp id tx) (drew_commit (variables_of tx) (draw id n (Entered (Commit n tx)))) (slot.List c.args.state.now) _ _ n _ _ c.put_words.ensures.stored c.put_words.ensures.seat.2 more told.1 told.2 refl kept in
     let is = r.1 in
     let same = c.publish_tx-at.ensures.seat.0 ∙ c.put_words.ensures.seat.0 in
+    let m = subst (λ (p : PassView). MayPublishTx (key_of c.args.board.now.key) p c.args.tx.value c.args.state.now) (sym c.pass.view_is) c.requires.may in
+    let at_tail = subst (λ (v : View). IsTailOf v.held n) c.put_words.ensures.stored told.3 in
     let old = c.pass.inside.mine.spare - 1 in
     let left = c.push.ensures.spare in
     let mine' = c.push.new.self.entries in
@@ -88,5 +91,5 @@ returns c =
           ∙ ap (λ v. pass_of z id mine' v old) is
           ∙ ap (λ l. pass_of z id l (published (caught_up c.pass.inside.seat.me.0 id mine) id mine (Commit n tx) n (commit_stamp id tx) (slot.List c.args.state.now) (drew_commit (variables_of tx) (draw id n (Entered (Commit n tx))))) old) more
           ∙ ap (λ (p : PassView). published_tx p tx n c.args.state.now) c.pass.view_is;
-      later = subst (λ (p : PassView). p.seen ≤ n) c.pass.view_is r.2;
+      here = subst (λ (p : PassView). n ≡ p.seen) c.pass.view_is (sym (at_tail m.held m.may.tail m.may.held m.may.list m.may.saw) ∙ m.tail);
     }

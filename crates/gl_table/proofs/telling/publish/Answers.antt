@@ -10,6 +10,7 @@ use Rattle.gl_table.specs.KeyOf.{key_of}
 use Rattle.gl_rule.specs.Fitting.{MayPublish}
 use Rattle.gl_table.specs.PassView.{PassView, pass_of, view_of, after_storing}
 use Rattle.gl_table.specs.Putting.{MayPublishAct}
+use Rattle.gl_rule.specs.Told.{IsTailOf}
 use Rattle.gl_rule.specs.View.{View, shelf, published}
 use Rattle.gl_table.proofs.Passes.{pass_publishes}
 use Rattle.gl_table.proofs.telling.publish.Goals as goal
@@ -44,6 +45,8 @@ returns c =
     let more = simp to_z-of_z at c.push.ensures.entries in
     let is = (pass_publishes _ _ _ _ _ _ c.pass.invariant.pass _ c.args.act.now c.args.value (slot.List c.args.state.now) _ _ _ _ _ c.put_words.ensures.stored c.put_words.ensures.seat.2 more told c.requires.may.may.kept).1 in
     let same = c.publish_act-at.ensures.seat.0 ∙ c.put_words.ensures.seat.0 in
+    let m = subst (λ (p : PassView). MayPublishAct (key_of c.args.board.now.key) p c.args.act.now c.args.value c.args.state.now) (sym c.pass.view_is) c.requires.may in
+    let at_tail = subst (λ (v : View). IsTailOf v.held n) c.put_words.ensures.stored told.3 in
     let left = c.push.ensures.spare in
     record {
       published = ap (λ y. pass_of y id c.push.new.self.entries (caught_up c.publish_act-at.new.seat.me.0 id c.push.new.self.entries) c.push.new.self.spare) same
@@ -51,5 +54,5 @@ returns c =
           ∙ ap (λ v. pass_of z id c.push.new.self.entries v (c.pass.inside.mine.spare - 1)) is
           ∙ ap (λ l. pass_of z id l (published (caught_up c.pass.inside.seat.me.0 id mine) id mine (Sync n c.args.act.now c.args.value) n (record { thread = id; event = Does c.args.act.now }) (slot.List c.args.state.now) (λ g. g.drew)) (c.pass.inside.mine.spare - 1)) more
           ∙ ap (λ (p : PassView). after_storing p (published (view_of p) p.own.id p.own.mine (Sync n c.args.act.now c.args.value) n (record { thread = p.own.id; event = Does c.args.act.now }) (slot.List c.args.state.now) (λ g. g.drew))) c.pass.view_is;
-      later = subst (λ (p : PassView). p.seen ≤ n) c.pass.view_is (pass_publishes _ _ _ _ _ _ c.pass.invariant.pass _ c.args.act.now c.args.value (slot.List c.args.state.now) _ _ _ _ _ c.put_words.ensures.stored c.put_words.ensures.seat.2 more told c.requires.may.may.kept).2;
+      here = subst (λ (p : PassView). n ≡ p.seen) c.pass.view_is (sym (at_tail m.held m.may.tail m.may.held m.may.list m.may.saw) ∙ m.tail);
     }

@@ -1,0 +1,192 @@
+-- The text of a record, list by list and part by part.
+use Rattle.std.proofs.Common.{◌≡◌, ◌⊎◌, ℕ, ◌+◌, ◌-◌, ◌<◌, ◌≤◌, ◌==◌, true, false, zero, suc, List, [], ◌∷◌, ◌++◌, Option, Some, None, codes, length, map, take, slice_get, get_or, refl, ap, sym, ◌∙◌, arith, inl, inr, append_assoc, append-nil, eq-eqb}
+use Rattle.std.specs.Prelude.{nat_lt}
+use Rattle.std.specs.List.{AllByRecursion, filter, flat_map}
+use Rattle.std.proofs.lemmas.Bool.Decides.{nat_tests}
+use Rattle.std.proofs.lemmas.Bool.{cases_order}
+use Rattle.std.proofs.lemmas.List.{map-append, take_more, take_all}
+use Rattle.std.proofs.lemmas.Option.{slice_get_within, get_or_from_slice_get, slice_get_cases}
+use Rattle.gl_model.specs.Entries.{Entry, seen}
+use Rattle.gl_model.specs.declared.record.Entry.{Entry as StoredEntry}
+use Rattle.gl_model.specs.Kept.{IsListKept}
+use Rattle.gl_model.specs.Lists.{list_of}
+use Rattle.gl_model.specs.Rising.{Rises}
+use Rattle.gl_model.specs.declared.limits.TheConstants.{THREADS}
+use Rattle.gl_journal.specs.Fields.{Word}
+use Rattle.gl_journal.specs.Rows.{Row, entry_row, entry_rows, header_row, list_rows, list_word, record_rows, record_text, row_text, thread_row}
+
+-- ## Lists of parts
+
+flat_more : {A : Type 0} (f : A → List ℕ) (xs : List A) (x : A) → flat_map f (xs ++ x ∷ []) ≡ flat_map f xs ++ f x
+flat_more f [] x = append-nil (f x)
+flat_more f (y ∷ ys) x = ap (λ l. f y ++ l) (flat_more f ys x) ∙ sym (append_assoc (f y) (flat_map f ys) (f x))
+
+word_more : {A : Type 0} (f : A → Word) (y : A) (ys : List A) (x : A) → list_word (map f (y ∷ (ys ++ x ∷ []))) ≡ list_word (map f (y ∷ ys)) ++ (codes "," ++ f x)
+word_more f y ys x =
+    ap (λ l. f y ++ flat_map (λ v. codes "," ++ v) l) (map-append f ys (x ∷ []))
+    ∙ ap (λ l. f y ++ l) (flat_more (λ v. codes "," ++ v) (map f ys) (f x))
+    ∙ sym (append_assoc (f y) (flat_map (λ v. codes "," ++ v) (map f ys)) (codes "," ++ f x))
+
+list_more : {A : Type 0} (f : A → Word) (xs : List A) (i : ℕ) (x : A) → 1 ≤ i → slice_get xs i ≡ Some x
+    → list_word (map f (take (i + 1) xs)) ≡ list_word (map f (take i xs)) ++ (codes "," ++ f x)
+list_more f [] i x some there = cc
+list_more f (y ∷ ys) zero x some there = absurd (omega arith)
+list_more f (y ∷ ys) (suc j) x some there =
+    let below : j < length ys = slice_get_within ys j x there in
+    let more : take (suc j + 1) (y ∷ ys) ≡ take (suc j) (y ∷ ys) ++ x ∷ [] =
+    take_more (y ∷ ys) (suc j) x (slice_get_within (y ∷ ys) (suc j) x there)
+    ∙ ap (λ z. take (suc j) (y ∷ ys) ++ z ∷ []) (get_or_from_slice_get (y ∷ ys) (suc j) x x there) in
+    ap (λ l. list_word (map f l)) more ∙ word_more f y (take j ys) x
+
+-- one part more
+pub push_more : {A : Type 0} (f : A → Word) (xs : List A) (i : ℕ) (x : A) (start old comma new : List ℕ) → 1 ≤ i → slice_get xs i ≡ Some x
+    → old ≡ start ++ list_word (map f (take i xs)) → comma ≡ old ++ codes "," → new ≡ comma ++ f x
+    → new ≡ start ++ list_word (map f (take (i + 1) xs))
+push_more f xs i x start old comma new some there before then after =
+    after ∙ ap (λ l. l ++ f x) then ∙ append_assoc old (codes ",") (f x) ∙ ap (λ l. l ++ (codes "," ++ f x)) before
+    ∙ append_assoc start (list_word (map f (take i xs))) (codes "," ++ f x) ∙ ap (λ l. start ++ l) (sym (list_more f xs i x some there))
+
+-- the first part
+pub push_first : {A : Type 0} (f : A → Word) (xs : List A) (x : A) (start new : List ℕ) → slice_get xs 0 ≡ Some x → new ≡ start ++ f x
+    → (1 ≤ length xs) × (new ≡ start ++ list_word (map f (take 1 xs)))
+push_first f [] x start new there is = cc
+push_first f (y ∷ ys) x start new there is =
+    let same : y ≡ x = cc in
+    (omega arith, is ∙ ap (λ l. start ++ l) (sym (append-nil (f x)) ∙ ap (λ z. f z ++ []) (sym same)))
+
+past_of : {A : Type 0} (xs : List A) (at : ℕ) → slice_get xs at ≡ None → length xs ≤ at
+past_of xs at none =
+    elim (slice_get_cases xs at).1 [
+      | inl some ↦ let e = some.2 in cc
+      | inr past ↦ past.0
+    ]
+
+-- no part is left
+pub push_all : {A : Type 0} (f : A → Word) (xs : List A) (i : ℕ) (start new : List ℕ) → length xs ≤ i → new ≡ start ++ list_word (map f (take i xs))
+    → new ≡ start ++ list_word (map f xs)
+push_all f xs i start new past is = is ∙ ap (λ l. start ++ list_word (map f l)) (take_all i xs past)
+
+pub push_last : {A : Type 0} (f : A → Word) (xs : List A) (i : ℕ) (start new : List ℕ) → slice_get xs i ≡ None → new ≡ start ++ list_word (map f (take i xs))
+    → new ≡ start ++ list_word (map f xs)
+push_last f xs i start new none is = push_all f xs i start new (past_of xs i none) is
+
+no_item : {A : Type 0} (xs : List A) → length xs ≤ 0 → xs ≡ []
+no_item [] le = refl
+no_item (x ∷ xs) le = absurd (omega arith)
+
+-- there is no part
+pub push_none : {A : Type 0} (f : A → Word) (xs : List A) (start new : List ℕ) → slice_get xs 0 ≡ None → new ≡ start ++ codes "-" → new ≡ start ++ list_word (map f xs)
+push_none f xs start new none is = is ∙ ap (λ l. start ++ list_word (map f l)) (sym (no_item xs (past_of xs 0 none)))
+
+-- ## Lists of entries
+
+-- the lines of entries
+abbrev pub entries_text : List Entry → List ℕ
+entries_text es = flat_map (λ e. row_text (entry_row e)) es
+
+abbrev pub one_text : ℕ × List Entry → List ℕ
+one_text l = row_text (thread_row l.0) ++ entries_text l.1
+
+abbrev pub lists_text : List (ℕ × List Entry) → List ℕ
+lists_text ls = flat_map one_text ls
+
+stored_text : (es : List StoredEntry) → flat_map (λ e. row_text (entry_row (seen e))) es ≡ entries_text (map seen es)
+stored_text [] = refl
+stored_text (e ∷ es) = ap (λ l. row_text (entry_row (seen e)) ++ l) (stored_text es)
+
+entries_are : (es : List Entry) (rest : List Row) → flat_map row_text (entry_rows es rest) ≡ entries_text es ++ flat_map row_text rest
+entries_are [] rest = refl
+entries_are (e ∷ es) rest =
+    ap (λ l. row_text (entry_row e) ++ l) (entries_are es rest) ∙ sym (append_assoc (row_text (entry_row e)) (entries_text es) (flat_map row_text rest))
+
+lists_are : (ls : List (ℕ × List Entry)) (rest : List Row) → flat_map row_text (list_rows ls rest) ≡ lists_text ls ++ flat_map row_text rest
+lists_are [] rest = refl
+lists_are (l ∷ ls) rest =
+    ap (λ s. row_text (thread_row l.0) ++ s) (entries_are l.1 (list_rows ls rest))
+    ∙ ap (λ s. row_text (thread_row l.0) ++ (entries_text l.1 ++ s)) (lists_are ls rest)
+    ∙ sym (append_assoc (row_text (thread_row l.0)) (entries_text l.1) (lists_text ls ++ flat_map row_text rest))
+    ∙ sym (append_assoc (one_text l) (lists_text ls) (flat_map row_text rest))
+
+-- the whole text
+pub text_is : (steps : ℕ) (R : List (ℕ × List Entry)) (head all new : List ℕ) → head ≡ row_text (header_row steps) → all ≡ head ++ lists_text R → new ≡ all ++ codes "done\n"
+    → new ≡ record_text steps R
+text_is steps R head all new first is last =
+    last ∙ ap (λ l. l ++ codes "done\n") is ∙ append_assoc head (lists_text R) (codes "done\n") ∙ ap (λ l. l ++ (lists_text R ++ codes "done\n")) first
+    ∙ ap (λ l. row_text (header_row steps) ++ l) (sym (lists_are R ((codes "done" ∷ []) ∷ [])))
+
+-- ## Thread by thread
+
+-- the lists of the threads below this one
+abbrev pub below : ℕ → List (ℕ × List Entry) → List (ℕ × List Entry)
+below t ls = filter (λ l. nat_lt l.0 t) ls
+
+-- no thread is below 0
+pub below_none : (ls : List (ℕ × List Entry)) → below 0 ls ≡ []
+below_none [] = refl
+below_none (l ∷ ls) = (let no : nat_lt l.0 0 ≡ false = grind (arith, nat_tests) in rw no (below_none ls))
+
+none_below : (t n : ℕ) (ls : List (ℕ × List Entry)) → n ≤ t + 1 → AllByRecursion (λ s. t < s) (map (λ l. l.0) ls) → below n ls ≡ []
+none_below t n [] le above = refl
+none_below t n (l ∷ ls) le above =
+    let first : t < l.0 = above.0 in
+    let out : nat_lt l.0 n ≡ false = grind (arith, nat_tests) in
+    rw out (none_below t n ls le above.1)
+
+-- the list of a thread, if it has one
+abbrev pub one_of : ℕ → Option (List Entry) → List (ℕ × List Entry)
+one_of t None = []
+one_of t (Some es) = (t, es) ∷ []
+
+abbrev pub GathersNext : ℕ → List (ℕ × List Entry) → Type 0
+GathersNext t ls = below (t + 1) ls ≡ below t ls ++ one_of t (list_of ls t)
+
+next_is_first : (t : ℕ) (l : ℕ × List Entry) (ls : List (ℕ × List Entry)) → l.0 ≡ t → AllByRecursion (λ s. l.0 < s) (map (λ l. l.0) ls) → GathersNext t (l ∷ ls)
+next_is_first t l ls same above =
+    let within : nat_lt l.0 (t + 1) ≡ true = grind (arith, nat_tests) in
+    let out : nat_lt l.0 t ≡ false = grind (arith, nat_tests) in
+    let here : (l.0 == t) ≡ true = eq-eqb l.0 t same in
+    rw (within, out, here, none_below l.0 (t + 1) ls (omega arith) above, none_below l.0 t ls (omega arith) above) (ap (λ s. (s, l.1) ∷ []) same)
+
+next_is_later : (t : ℕ) (l : ℕ × List Entry) (ls : List (ℕ × List Entry)) → (l.0 < t) ⊎ (t < l.0) → GathersNext t ls → GathersNext t (l ∷ ls)
+next_is_later t l ls (inl lt) more =
+    let within_next : nat_lt l.0 (t + 1) ≡ true = grind (arith, nat_tests) in
+    let within : nat_lt l.0 t ≡ true = grind (arith, nat_tests) in
+    let other : (l.0 == t) ≡ false = grind (arith, nat_tests) in
+    rw (within_next, within, other) (ap (λ rest. l ∷ rest) more)
+next_is_later t l ls (inr lt) more =
+    let out_next : nat_lt l.0 (t + 1) ≡ false = grind (arith, nat_tests) in
+    let out : nat_lt l.0 t ≡ false = grind (arith, nat_tests) in
+    let other : (l.0 == t) ≡ false = grind (arith, nat_tests) in
+    rw (out_next, out, other) more
+
+-- the next thread's list comes last
+gathers_next : (t : ℕ) (ls : List (ℕ × List Entry)) → Rises (map (λ l. l.0) ls) → GathersNext t ls
+gathers_next t [] rises = refl
+gathers_next t (l ∷ ls) rises =
+    elim (cases_order l.0 t) [ inl same ↦ next_is_first t l ls same rises.0 | inr other ↦ next_is_later t l ls other (gathers_next t ls rises.1) ]
+
+-- all threads are below their limit
+pub all_below : (ls : List (ℕ × List Entry)) → AllByRecursion IsListKept ls → below THREADS ls ≡ ls
+all_below [] kept = refl
+all_below (l ∷ ls) kept =
+    let first : l.0 < THREADS = kept.0.0 in
+    let within : nat_lt l.0 THREADS ≡ true = grind (arith, nat_tests) in
+    rw within (ap (λ rest. l ∷ rest) (all_below ls kept.1))
+
+-- a thread that has no list
+pub thread_without : (t : ℕ) (R : List (ℕ × List Entry)) (start old : List ℕ) → Rises (map (λ l. l.0) R) → list_of R t ≡ None
+    → old ≡ start ++ lists_text (below t R) → old ≡ start ++ lists_text (below (t + 1) R)
+thread_without t R start old rises none is =
+    let same : below (t + 1) R ≡ below t R = gathers_next t R rises ∙ ap (λ o. below t R ++ one_of t o) none ∙ append-nil (below t R) in
+    is ∙ ap (λ l. start ++ lists_text l) (sym same)
+
+-- a thread with its list
+pub thread_with : (t : ℕ) (R : List (ℕ × List Entry)) (es : List StoredEntry) (start old new : List ℕ) → Rises (map (λ l. l.0) R) → list_of R t ≡ Some (map seen es)
+    → old ≡ start ++ lists_text (below t R) → new ≡ old ++ (row_text (thread_row t) ++ flat_map (λ e. row_text (entry_row (seen e))) es)
+    → new ≡ start ++ lists_text (below (t + 1) R)
+thread_with t R es start old new rises some is adds =
+    let l : ℕ × List Entry = (t, map seen es) in
+    let next : below (t + 1) R ≡ below t R ++ l ∷ [] = gathers_next t R rises ∙ ap (λ o. below t R ++ one_of t o) some in
+    adds ∙ ap (λ s. old ++ (row_text (thread_row t) ++ s)) (stored_text es) ∙ ap (λ s. s ++ one_text l) is
+    ∙ append_assoc start (lists_text (below t R)) (one_text l) ∙ ap (λ s. start ++ s) (sym (flat_more one_text (below t R) l))
+    ∙ ap (λ ls. start ++ lists_text ls) (sym next)

@@ -1,0 +1,10 @@
+pub mod Fields
+pub mod SyncKinds
+pub mod Forms
+pub mod Refused
+pub mod Parts
+pub mod Transactions
+pub mod EntryLines
+pub mod Meaning
+pub mod Rows
+pub mod Written

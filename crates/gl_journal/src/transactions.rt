@@ -1,0 +1,56 @@
+// The transaction of a line.
+ghost use Rattle.std.specs.Prelude.{◌≡◌, MatchResult, IfOk, IfErr, Ok, Err, map, true, ◌<◌};
+ghost use Rattle.std.specs.List.{AllByRecursion};
+ghost use Rattle.gl_model.specs.declared.limits.TheConstants.{VARIABLES};
+ghost use Rattle.gl_journal.specs.Parts.{is_set, look_of, pair_of, number_of};
+ghost use Rattle.gl_journal.specs.Refused.{Refused};
+ghost use Rattle.gl_journal.specs.Transactions.{lists_of, tx_in, tx_of};
+
+use crate::fields::told;
+use crate::parts::{PartForm, is_set, list_in, looks_of, numbers_of, pairs_of};
+use crate::refusal::Refusal;
+use gl_model::Tx;
+use gl_text::Words;
+use gl_text::kinds::{BAD_NUMBER, BAD_SET, WORD_COUNT};
+use std::alloc::{AllocError, Global};
+
+// The three lists, behind an r, a w and an n.
+#[tactic(auto, unfolding(crate::specs::Transactions::lists_of))]
+fn lists_of(mut words: Words<'_>) -> Result<(&[u8], &[u8], &[u8]), u8>
+    ensures { MatchResult result (λ l. lists_of words.entry ≡ Ok (l.0.now, l.1.now, l.2.now)) (λ kind. lists_of words.entry ≡ Err kind) }
+{
+    told(BAD_NUMBER, b"r", words.next().ok_or(WORD_COUNT)?)?;
+    let looks = words.next().ok_or(WORD_COUNT)?;
+    told(BAD_NUMBER, b"w", words.next().ok_or(WORD_COUNT)?)?;
+    let writes = words.next().ok_or(WORD_COUNT)?;
+    told(BAD_NUMBER, b"n", words.next().ok_or(WORD_COUNT)?)?;
+    let numbers = words.next().ok_or(WORD_COUNT)?;
+    Ok((looks, writes, numbers))
+}
+
+fn boxed(alloc: Global, tx: Tx) -> Result<Box<Tx>, AllocError>
+    ensures { IfOk result (λ b. b.value ≡ tx) }
+{
+    Ok(Box::new(alloc, tx)?)
+}
+
+/// The transaction that the words say.
+#[tactic(auto, unfolding(crate::specs::Transactions::tx_in))]
+pub fn tx_in(alloc: Global, words: Words<'_>) -> Result<Box<Tx>, Refusal>
+    ensures ok { IfOk result (λ tx. tx_in words.entry ≡ Ok tx.value) }
+    ensures fault { IfErr result (Refused (tx_in words.entry)) }
+{
+    let (looks, writes, numbers) = lists_of(words)?;
+    let looks = list_in(alloc, PartForm::Look, looks)?;
+    let writes = list_in(alloc, PartForm::Pair, writes)?;
+    let numbers = list_in(alloc, PartForm::Number, numbers)?;
+    if is_set(&looks) && is_set(&writes) && is_set(&numbers) {
+        let tx = Tx {
+            looks: looks_of(&looks),
+            writes: pairs_of(&writes),
+            numbers: numbers_of(&numbers),
+        };
+        return Ok(boxed(alloc, tx)?);
+    }
+    Err(Refusal::Kind(BAD_SET))
+}

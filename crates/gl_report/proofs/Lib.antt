@@ -1,0 +1,4 @@
+pub mod ByThread
+pub mod Firsts
+pub mod Reporting
+pub mod Summing

@@ -1,0 +1,4 @@
+pub mod ByThread
+pub mod Firsts
+pub mod Lines
+pub mod Summary

@@ -1,8 +1,0 @@
-use Rattle.std.proofs.Common.{◌≡◌, map}
-use Rattle.gl_model.specs.Entries.{seen}
-use Rattle.gl_single.specs.ByThread.{by_thread}
-use Rattle.gl_single.proofs.ByThread.{below}
-use Rattle.gl_single.proofs.entries.entries_of.Given as goal
-
-abbrev pub invariant-loop-thread : goal.invariant-loop-thread
-invariant-loop-thread l = map (λ p. (p.0, seen p.1.now)) l.entries.items ≡ by_thread (below l.thread l.made)
