@@ -10,13 +10,10 @@ use Rattle.gl_model.specs.Entries.{Entry, Plain}
 use Rattle.gl_cache.specs.Words.{IsChanged, Word, Words, clean_word, cleaned, no_words, with_word, word_at}
 use Rattle.gl_cache.proofs.Places.{no_word_at}
 use Rattle.gl_rows.specs.WritingBack.{without_owed}
-use Rattle.gl_rule.specs.Adding.{MayCache}
+use Rattle.gl_table.specs.Repeating.{MayRepeat}
 use Rattle.gl_rule.specs.Lives.{Running, life_of}
-use Rattle.gl_rule.specs.View.{View, Shelf}
-use Rattle.gl_rule.proofs.Lasting.{has_block, no_end}
-use Rattle.gl_table.specs.PassView.{Own, PassView, shelf_of, view_of}
+use Rattle.gl_table.specs.PassView.{Own, PassView}
 use Rattle.gl_table.specs.RightOf.{right_of}
-use Rattle.gl_table.proofs.RightOf.{right_stands}
 use Rattle.gl_rows.specs.Accessing.{HasEntry, is_raised, value_told}
 use Rattle.gl_rows.specs.declared.accessing.Seen.{Seen}
 use Rattle.gl_rows.specs.declared.accessing.Seen.TheVariants.{Value, Raised}
@@ -104,25 +101,17 @@ has_word ws own x n write owns may = (let r = right_there (right_of own.mine x) 
 -- what the table asks of a repeat
 may_cache :
     (v : PassView) (x n : ℕ) (write : Option ℤ) (value : ℤ) → v.own.held ≡ [] → life_of v.own.mine ≡ Running → repeat_number (right_of v.own.mine x) write ≡ Some n →
-    (is_some write ≡ false → IsLast v.own.mine x value) → MayCache (shelf_of v) (view_of v) x n (is_some write) value
+    (is_some write ≡ false → IsLast v.own.mine x value) → MayRepeat v x n (is_some write) value
 may_cache v x n write value held runs may last =
     let r = right_there (right_of v.own.mine x) n write may in
-    let b = has_block v.own.mine runs in
-    record {
-      held = held;
-      right = right_stands v.own.mine x n r.by_write (is_some write) r.is r.enough;
-      word = last;
-      position = b.0;
-      block = b.1;
-      goes_on = no_end v.own.mine runs;
-    }
+    record { held = held; runs = runs; by_write = r.by_write; right = r.is; enough = r.enough; word = last }
 
 found : (ws : Words) (mine : List Entry) (x : ℕ) (value : ℤ) → (h : HasWord ws mine x) → option_map (λ (w : Word). w.value) (word_at ws x) ≡ Some value → h.word.value ≡ value
 found ws mine x value h is = (let e : Some h.word.value ≡ Some value = ap (option_map (λ (w : Word). w.value)) (sym h.there) ∙ is in cc)
 
 pub may_read :
     (v : PassView) (ws : Words) (x n : ℕ) (value : ℤ) → Owns ws v.own → v.own.held ≡ [] → life_of v.own.mine ≡ Running → repeat_number (right_of v.own.mine x) None ≡ Some n →
-    option_map (λ (w : Word). w.value) (word_at ws x) ≡ Some value → MayCache (shelf_of v) (view_of v) x n false value
+    option_map (λ (w : Word). w.value) (word_at ws x) ≡ Some value → MayRepeat v x n false value
 may_read v ws x n value owns held runs may is =
     let h = has_word ws v.own x n None owns may in
     let at : ℤ → Type 0 = λ a. IsLast v.own.mine x a in
@@ -130,7 +119,7 @@ may_read v ws x n value owns held runs may is =
 
 pub may_write :
     (v : PassView) (x n : ℕ) (a : ℤ) → v.own.held ≡ [] → life_of v.own.mine ≡ Running → repeat_number (right_of v.own.mine x) (Some a) ≡ Some n →
-    MayCache (shelf_of v) (view_of v) x n true a
+    MayRepeat v x n true a
 may_write v x n a held runs may = may_cache v x n (Some a) a held runs may (λ w. cc)
 
 pub owns_read :

@@ -6,8 +6,7 @@ ghost use Rattle.gl_rule.specs.Lives.{Running, life_of};
 ghost use Rattle.gl_rule.specs.Objects.{capacity};
 ghost use Rattle.gl_table.specs.RightOf.{right_of};
 ghost use Rattle.gl_riders.specs.Owing.{MayMark, Owns, PlainBy, repeat_number, repeated};
-ghost use Rattle.gl_rule.specs.Adding.{MayCache};
-ghost use Rattle.gl_table.specs.PassView.{shelf_of, view_of};
+ghost use Rattle.gl_table.specs.Repeating.{MayRepeat};
 
 use gl_cache::WordCache;
 use gl_rows::{Seen, Window, access, write_back};
@@ -50,7 +49,7 @@ fn number_of(right: Option<(u64, bool)>, write: Option<i64>) -> Option<u64>
 
 // Adds the entry of a repeat.
 fn add_repeat(pass: &mut Pass, var: u16, nth: u64, write: bool, value: i64)
-    requires may { MayCache (shelf_of pass.old) (view_of pass.old) var nth write value }
+    requires may { MayRepeat pass.old var nth write value }
     requires spare { 0 < pass.old.spare }
     ensures { pass.new.own ≡ repeated var nth write value pass.old.own }
 {
