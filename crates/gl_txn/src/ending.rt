@@ -129,6 +129,7 @@ fn end_taken(
     ensures room { OnErr result (vec_capacity rows.new ≡ vec_capacity rows.old) }
     ensures window { window.new ≡ window.old }
 {
+    tx.looks.keeps();
     match first_change(rows.as_slice(), &tx.looks) {
         Some(change) => Ok(drop_changed(shared, pass, tx, rows, &change)),
         None => end_unchanged(shared, pass, tx, vars, rows, cuts, window),

@@ -1,4 +1,4 @@
 use Rattle.gl_rows.proofs.owning.monitors.Goals as goal
 
 pub returns : goal.returns
-returns c = ?
+returns c = λ setting l now fits allowed. c.monitors.ensures.owned setting l now fits.own allowed
