@@ -18,9 +18,24 @@ use Rattle.gl_rule.specs.Knowledge.{AreBelow}
 use Rattle.gl_rule.specs.View.{View, Held, saw_tail, with_tail}
 use Rattle.gl_table.specs.PassView.{PassView, view_of, shelf_of, after}
 use Rattle.gl_table.specs.TableView.{TableView}
-use Rattle.gl_txn.specs.Changing.{AreUnchangedIn}
+use Rattle.gl_txn.specs.Changing.{AreUnchangedIn, IsFirstChange, look_in}
 use Rattle.gl_txn.specs.Drawing.{attempt_in, MayNumber, HasDropped, with_entry}
-use Rattle.gl_txn.specs.Ending.{entry_of}
+use Rattle.gl_txn.specs.Ending.{entry_of, AreUnchanged, OverEach, IsClear, IsCauseBy, IsWaitBy}
+use Rattle.gl_rule.specs.Fitting.{IsFitting}
+use Rattle.gl_rule.specs.View.{Read, Busy, Taken, Hold}
+use Rattle.gl_model.specs.Rising.{Rises}
+use Rattle.gl_model.specs.declared.tx.Look.{Look}
+use Rattle.gl_rows.proofs.Windows.{fits_before}
+use Rattle.std.proofs.Common.{append-nil, Ok, Err}
+use Rattle.std.specs.Prelude.{Result, IfOk, IfErr}
+use Rattle.gl_txn.specs.Stages.{ReachedEnd, ReachedWait}
+use Rattle.gl_txn.specs.declared.changing.Change.{Change}
+use Rattle.gl_txn.specs.declared.stops.TxEnd.TheVariants as end
+use Rattle.gl_txn.specs.declared.stops.TxWait.{TxWait}
+use Rattle.gl_txn.specs.declared.stops.TxWait.TheVariants as wait
+use Rattle.gl_txn.proofs.Published.{look_found}
+use Rattle.gl_txn.proofs.Sizes.{of_look}
+use Rattle.gl_txn.proofs.Unions.{found_part}
 use Rattle.gl_txn.specs.Holding.{vars_of, found, row_at, row_held, held_by, held_of, AreHeld, undrawn, HaveTaken, HaveWrites, takes}
 use Rattle.gl_txn.specs.Publishing.{IsReady}
 use Rattle.gl_txn.specs.Racing.{asked_on, asked_of, MayJudge, KnowsOn, Over, AreClear, IsFirstRace, RacesOn}
@@ -29,7 +44,7 @@ use Rattle.gl_txn.specs.Trying.{Draws, MayTry}
 use Rattle.gl_txn.specs.declared.stops.TxEnd.{TxEnd}
 use Rattle.gl_txn.specs.declared.taken.TakenRow.{TakenRow}
 use Rattle.gl_txn.proofs.Finding.{found_held, found_mapped, changed, once_mapped}
-use Rattle.gl_txn.proofs.Refusals.{row_of, row_is}
+use Rattle.gl_txn.proofs.Refusals.{row_of, row_is, lower_before}
 
 -- a tail was seen while the rows are held
 held_tail : (held : List Held) (rows : List TakenRow) (tails : List ℕ) → AreHeld held None rows tails undrawn → (n : ℕ) → AreHeld (map (with_tail n) held) None rows (n ∷ tails) undrawn
@@ -187,3 +202,132 @@ may_try_writes z p a b e m = record {
     each = m.draws.each;
   };
 }
+
+-- ---- causes
+
+in_at : (rows : List TakenRow) (i : ℕ) (r : TakenRow) → slice_get rows i ≡ Some r → Contains rows r
+in_at [] i r e = absurd (cc)
+in_at (x ∷ xs) zero r e = (0, omega arith, (let same : x ≡ r = cc in same))
+in_at (x ∷ xs) (suc i) r e = let c = in_at xs i r e in (suc c.0, (let l = c.1 in omega arith), c.2)
+
+at_in : (rows : List TakenRow) (r : TakenRow) → Contains rows r → (k : ℕ) × (slice_get rows k ≡ Some r)
+at_in [] r c = absurd (let l = c.1 in omega arith)
+at_in (x ∷ xs) r (zero, l, e) = (0, ap (λ (z : TakenRow). Some z) e)
+at_in (x ∷ xs) r (suc k, l, e) = let f = at_in xs r (k, omega arith, e) in (suc f.0, f.1)
+
+-- words that are unchanged in the rows, by places and by looks
+look_same : (a : Tx) (l : Look) (r : TakenRow) → Rises (map (λ l. l.var) a.looks) → Contains a.looks l → r.var ≡ l.var → look_in a.looks r.var ≡ Some l
+look_same a l r rises c e = ap (look_in a.looks) e ∙ look_found a.looks rises l c
+
+pub unchanged_all : (a : Tx) (rows : List TakenRow) → AreVariables (map (λ l. l.var) a.looks) → AreUnchangedIn a.looks rows → AreUnchanged (attempt_in a) rows
+unchanged_all a rows looks u l r c d e = let k = at_in rows r d in u k.0 r k.1 l (look_same a l r looks.1 c e)
+
+module _ (p q r : PassView) (rows : List TakenRow) (tx : Tx) (h : HoldsRows p rows tx) (n : ℕ) (saw : q ≡ after p (saw_tail (view_of p) n)) (below : AreBelow n (shelf_of p)) (k : KnowsOn q r) (base : Question) (thread : base.thread ≡ p.own.id) (commit : base.commit ≡ Some (variables_of tx))
+    (later : p.seen ≤ n) (looks : AreVariables (map (λ l. l.var) tx.looks)) (unchanged : AreUnchangedIn tx.looks rows) where
+  abbrev J : PassView
+  J = record (after p (saw_tail (view_of p) n)) { known = p.known ++ k.more; loaded = r.loaded }
+
+  at_j : r ≡ record (after p (saw_tail (view_of p) n)) { known = p.known ++ k.more; loaded = r.loaded }
+  at_j = k.is ∙ ap (λ (u : PassView). record u { known = u.known ++ k.more; loaded = r.loaded }) saw
+
+  seen_j : r.seen ≡ n
+  seen_j = ap (λ (u : PassView). u.seen) at_j
+
+  reads_j : r.reads ≡ p.reads
+  reads_j = ap (λ (u : PassView). u.reads) at_j
+
+  -- what is said over each list that fits the judging pass is said over each that fits with more that is known
+  over_j : (P : List Stamp → Type 0) → Over r rows P → (setting : Setting) (known more : List (ℕ × Stamp)) → known ≡ r.known ++ more → OverEach setting (shelf_of p) r.seen known rows P
+  over_j P over setting known more e l fits stand =
+      over setting l (subst (λ (u : PassView). IsFitting setting (shelf_of u) r.seen r.known l) (sym at_j) (fits_before setting (shelf_of p) r.seen r.known more l (subst (λ ks. IsFitting setting (shelf_of p) r.seen ks l) e fits))) stand
+
+  pub is_clear_by : AreClear r base tx.writes rows → (setting : Setting) (s : PassView) (more : List (ℕ × Stamp)) → s.known ≡ r.known ++ more → r.seen ≤ s.seen → IsClear setting (attempt_in tx) (shelf_of p) p.seen rows s
+  is_clear_by clear setting s more known within = record {
+    unchanged = unchanged_all tx rows looks unchanged;
+    upto = r.seen;
+    later = (let e = seen_j in omega arith);
+    within = within;
+    unraced = λ l fits stand u c fails.
+        (let j = at_in rows u c in
+        over_j (λ l. SomeFails l u.row (asked_on base tx.writes u.var) → ⊥) (λ setting l f st. clear j.0 u j.1 setting l f st) setting s.known more known l fits stand
+        (same_test l u.row (asked_of p.own.id tx u.var) (asked_on base tx.writes u.var) (sym thread) refl (sym commit) fails));
+  }
+
+  pub done_cause : (z : TableView) → AreClear r base tx.writes rows → (e : TxEnd) (s : PassView) → ReachedEnd z e r s → IsCauseBy z (attempt_in tx) e (shelf_of p) p.seen p.reads rows s
+  done_cause z clear (end.Done at) s d = record {
+    clear = is_clear_by clear z.key.setting s d.more d.known (let a = d.later in let b = d.behind in let c = d.seen in omega arith);
+    list = d.list;
+    low = d.low;
+    tail = d.tail;
+    reads = d.reads ∙ ap (λ (l : List Read). l ++ (Taken 0 (slot.List d.list) ∷ Hold 0 d.low ∷ [])) reads_j;
+    room = d.room;
+    behind = d.behind;
+    seen = d.seen;
+  }
+  done_cause z clear (end.Raised var) s d = absurd d
+  done_cause z clear (end.Changed var read found) s d = absurd d
+
+  pub wait_cause : (z : TableView) → AreClear r base tx.writes rows → (w : TxWait) (s : PassView) → ReachedWait z w r s → IsWaitBy z (attempt_in tx) w (shelf_of p) p.seen p.reads rows s
+  wait_cause z clear (wait.Busy by) s d = record {
+    near = d.near;
+    clear = is_clear_by clear z.key.setting s [] (d.known ∙ sym (append-nil r.known)) (let c = d.seen in omega arith);
+    reads = d.reads ∙ ap (λ (l : List Read). l ++ Busy 0 by ∷ []) reads_j;
+  }
+  wait_cause z clear (wait.RingFull low tail) s d = record {
+    clear = is_clear_by clear z.key.setting s [] (d.known ∙ sym (append-nil r.known)) (let a = d.later in let c = d.seen in omega arith);
+    list = d.list;
+    reads = d.reads ∙ ap (λ (l : List Read). l ++ (Taken 0 (slot.List d.list) ∷ Hold 0 low ∷ [])) reads_j;
+    seen = d.seen;
+    full = d.full;
+  }
+
+  pub raised_cause : (z : TableView) (x : ℕ) → IsFirstRace r base tx.writes rows x → (why : _) (s : PassView) → HasDropped tx why r s → IsCauseBy z (attempt_in tx) (end.Raised x) (shelf_of p) p.seen p.reads rows s
+  raised_cause z x f why s d =
+      let same_seen : s.seen ≡ r.seen = ap (λ (u : PassView). u.seen) d.is in
+      let same_known : s.known ≡ r.known ++ [] = ap (λ (u : PassView). u.known) d.is ∙ sym (append-nil r.known) in
+      record {
+        reads = ap (λ (u : PassView). u.reads) d.is ∙ reads_j;
+        unchanged = unchanged_all tx rows looks unchanged;
+        later = (let e = seen_j in omega arith);
+        row = f.row;
+        of = in_at rows f.place f.row f.there;
+        here = sym f.var;
+        races = λ l fits stand. same_test l f.row.row (asked_on base tx.writes f.row.var) (asked_of p.own.id tx f.row.var) thread refl commit
+            (over_j (λ l. SomeFails l f.row.row (asked_on base tx.writes f.row.var)) f.races z.key.setting s.known [] same_known l (subst (λ m. IsFitting z.key.setting (shelf_of p) m s.known l) same_seen fits) stand);
+        least = λ l fits stand u c less fails.
+            (let j = at_in rows u c in
+            let before = lower_before rows h.held.are.1 f.place j.0 f.row u f.there j.1 (let e = f.var in omega arith) in
+            over_j (λ l. SomeFails l u.row (asked_on base tx.writes u.var) → ⊥) (λ setting l g st. f.before j.0 u before j.1 setting l g st) z.key.setting s.known [] same_known l (subst (λ m. IsFitting z.key.setting (shelf_of p) m s.known l) same_seen fits) stand
+            (same_test l u.row (asked_of p.own.id tx u.var) (asked_on base tx.writes u.var) (sym thread) refl (sym commit) fails));
+      }
+
+-- an attempt that was dropped as changed
+pub changed_cause : (z : TableView) (p s : PassView) (rows : List TakenRow) (tx : Tx) → HoldsRows p rows tx → AreVariables (map (λ l. l.var) tx.looks) → (c : Change) → IsFirstChange tx.looks rows c → (why : _) → HasDropped tx why p s
+    → IsCauseBy z (attempt_in tx) (end.Changed c.var c.read c.found) (shelf_of p) p.seen p.reads rows s
+changed_cause z p s rows tx h looks c f why d =
+    let found = found_part of_look f.row.var tx.looks f.is.look f.is.looked in
+    record {
+      reads = ap (λ (u : PassView). u.reads) d.is;
+      look = f.is.look;
+      looked = found.0;
+      at = found.1 ∙ sym f.is.var;
+      read_is = sym f.is.read;
+      row = f.row;
+      of = in_at rows f.place f.row f.there;
+      here = sym f.is.var;
+      found_is = sym f.is.found;
+      other = f.is.other;
+      least = λ l r a b e less.
+          (let k = at_in rows r b in
+          let before = lower_before rows h.held.are.1 f.place k.0 f.row r f.there k.1 (let v = f.is.var in omega arith) in
+          f.before k.0 r before k.1 l (look_same tx l r looks.1 a e));
+    }
+
+-- a fact of each answer becomes another
+pub cause_ok : {E : Type 0} (z : TableView) (r : Result TxEnd E) (P Q : TxEnd → Type 0) → ((e : TxEnd) → P e → Q e) → IfOk r P → IfOk r Q
+cause_ok z (Ok e) P Q f h = f e h
+cause_ok z (Err w) P Q f h = tt
+
+pub cause_err : {A B : Type 0} (z : TableView) (r : Result A (B × TxWait)) (P Q : TxWait → Type 0) → ((w : TxWait) → P w → Q w) → IfErr r (λ w. P w.1) → IfErr r (λ w. Q w.1)
+cause_err z (Ok e) P Q f h = tt
+cause_err z (Err w) P Q f h = f w.1 h

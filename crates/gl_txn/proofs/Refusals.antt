@@ -62,7 +62,7 @@ in_place (x ∷ xs) zero r e = (0, omega arith, (let same : x ≡ r = cc in same
 in_place (x ∷ xs) (suc i) r e = let c = in_place xs i r e in (suc c.0, (let l = c.1 in omega arith), c.2)
 
 -- of rising variables a lower one stands before
-lower_before : (rows : List TakenRow) → Rises (vars_of rows) → (i k : ℕ) (r u : TakenRow) → slice_get rows i ≡ Some r → slice_get rows k ≡ Some u → u.var < r.var → k < i
+pub lower_before : (rows : List TakenRow) → Rises (vars_of rows) → (i k : ℕ) (r u : TakenRow) → slice_get rows i ≡ Some r → slice_get rows k ≡ Some u → u.var < r.var → k < i
 lower_before [] rises i k r u e f less = absurd (cc)
 lower_before (q ∷ rs) rises zero zero r u e f less = let a : q ≡ r = cc in let b : q ≡ u = cc in let x = ap (λ (z : TakenRow). z.var) a in let y = ap (λ (z : TakenRow). z.var) b in absurd (omega arith)
 lower_before (q ∷ rs) rises zero (suc k) r u e f less = let far = above_in q.var (vars_of rs) u.var rises.0 (in_vars rs k u f) in let a : q ≡ r = cc in let x = ap (λ (z : TakenRow). z.var) a in absurd (omega arith)

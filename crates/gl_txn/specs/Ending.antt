@@ -18,8 +18,8 @@ use Rattle.gl_rule.specs.View.{Shelf, Read, Busy, Taken, Hold}
 use Rattle.gl_state.specs.ListView.{ListView}
 use Rattle.gl_table.specs.PassView.{Own, PassView, view_of, shelf_of}
 use Rattle.gl_table.specs.TableView.{TableView}
-use Rattle.gl_txn.specs.Attempts.{Attempting, variables_at, writes_at}
-use Rattle.gl_txn.specs.Holding.{takes, vars_of}
+use Rattle.gl_txn.specs.Attempts.{Attempting, variables_in, writes_at}
+use Rattle.gl_txn.specs.Holding.{takes, vars_of, WereBusy}
 use Rattle.gl_txn.specs.declared.taken.TakenRow.{TakenRow}
 use Rattle.gl_txn.specs.declared.stops.TxEnd.{TxEnd}
 use Rattle.gl_txn.specs.declared.stops.TxEnd.TheVariants as end
@@ -45,12 +45,11 @@ pub record HasEnded (a : Attempting) (keep : Bool) (end : TxEnd) (old new : Own)
   pub whole : IsEndOf a keep tx
   pub own : new ≡ ended (entry_of end tx) old
 
--- the pass, which was p and is q, took the row of each variable of the attempt's end, and then read this
-pub record HasTaken (a : Attempting) (keep : Bool) (p q : PassView) (rows : List TakenRow) (further : List Read) : Type 0 where
-  pub of : vars_of rows ≡ variables_at a keep
-  pub reads : q.reads ≡ (p.reads ++ takes rows) ++ further
+-- what of an attempt is to be committed: its looks, and its writes where they are kept
+abbrev pub kept_of : Bool → Attempting → Attempting
+kept_of keep a = record { looks = a.looks; writes = writes_at a keep }
 
--- each word that was looked at, of a variable below n, is that of its row
+-- the row has the word that was looked at, if it was
 abbrev pub AreUnchangedBelow : ℕ → Attempting → List TakenRow → Type 0
 AreUnchangedBelow n a rows = (l : Look) (r : TakenRow) → Contains a.looks l → Contains rows r → r.var ≡ l.var → l.var < n → r.row.value ≡ l.value
 
@@ -58,52 +57,46 @@ abbrev pub AreUnchanged : Attempting → List TakenRow → Type 0
 AreUnchanged a rows = (l : Look) (r : TakenRow) → Contains a.looks l → Contains rows r → r.var ≡ l.var → r.row.value ≡ l.value
 
 -- the next access of y by the attempt's commit, made by thread t
-abbrev pub asked : ℕ → Attempting → Bool → ℕ → Question
-asked t a keep y = record { thread = t; write = is_in y (map (λ w. w.var) (writes_at a keep)); commit = Some (variables_at a keep); held = [] }
+abbrev pub asked : ℕ → Attempting → ℕ → Question
+asked t a y = record { thread = t; write = is_in y (map (λ w. w.var) a.writes); commit = Some (variables_in a.looks a.writes); held = [] }
 
--- over each list of n events that the pass, which was p, cannot tell from the table's by all that it knows as q, and in which the rows' Infos
+-- over each list of n events that the pass of these entries, which knows these events, cannot tell from the table's, and in which the rows' Infos
 -- stand for accesses
-abbrev pub OverEach : Setting → ℕ → PassView → PassView → List TakenRow → (List Stamp → Type 0) → Type 0
-OverEach setting n p q rows P = (l : List Stamp) → IsFitting setting (shelf_of p) n q.known l → ((r : TakenRow) → Contains rows r → InfosStand setting l r.row) → P l
+abbrev pub OverEach : Setting → Shelf → ℕ → List (ℕ × Stamp) → List TakenRow → (List Stamp → Type 0) → Type 0
+OverEach setting s n known rows P = (l : List Stamp) → IsFitting setting s n known l → ((r : TakenRow) → Contains rows r → InfosStand setting l r.row) → P l
 
--- the commit completes a race on the variable of some row below n
-abbrev pub RacesBelow : ℕ → ℕ → Attempting → Bool → List TakenRow → List Stamp → Type 0
-RacesBelow n t a keep rows l = (r : TakenRow) × Contains rows r × (r.var < n) × SomeFails l r.row (asked t a keep r.var)
+-- the commit completes a race on the row
+abbrev pub RacesAt : ℕ → Attempting → List Stamp → TakenRow → Type 0
+RacesAt t a l r = SomeFails l r.row (asked t a r.var)
 
-abbrev pub RacesOn : ℕ → ℕ → Attempting → Bool → List TakenRow → List Stamp → Type 0
-RacesOn x t a keep rows l = (r : TakenRow) × Contains rows r × (r.var ≡ x) × SomeFails l r.row (asked t a keep r.var)
-
-abbrev pub Races : ℕ → Attempting → Bool → List TakenRow → List Stamp → Type 0
-Races t a keep rows l = (r : TakenRow) × Contains rows r × SomeFails l r.row (asked t a keep r.var)
-
--- no word was changed, and the commit completes no race, judged up to the tail that was loaded after the rows were taken
-pub record IsClear (z : TableView) (a : Attempting) (keep : Bool) (p q : PassView) (rows : List TakenRow) : Type 0 where
+-- no word was changed, and the commit completes no race, judged up to a tail that was loaded after the rows were taken: s is the pass's list before, and
+-- from what it had seen then
+pub record IsClear (setting : Setting) (a : Attempting) (s : Shelf) (from : ℕ) (rows : List TakenRow) (q : PassView) : Type 0 where
   pub unchanged : AreUnchanged a rows
   pub upto : ℕ
-  pub later : p.seen ≤ upto
+  pub later : from ≤ upto
   pub within : upto ≤ q.seen
-  pub unraced : OverEach z.key.setting upto p q rows (λ l. Races p.own.id a keep rows l → ⊥)
+  pub unraced : OverEach setting s upto q.known rows (λ l. (r : TakenRow) → Contains rows r → RacesAt s.thread a l r → ⊥)
 
 -- there is room for an event at this tail, where the ring begins with the segment low
 abbrev pub HasRoomAt : TableView → ℕ → ℕ → Type 0
 HasRoomAt z low tail = tail < low * z.key.cells + capacity z.key
 
--- why the attempt was committed: nothing speaks against it, the list was free and had room. It stands at or behind the tail that was loaded then
-pub record WasDone (z : TableView) (a : Attempting) (keep : Bool) (at : ℕ) (p q : PassView) : Type 0 where
-  pub rows : List TakenRow
+-- why the attempt was committed: nothing speaks against it, and the list was free and had room. It stands at or behind the tail that was loaded then. What was
+-- read before is what its rows' turns gave
+pub record WasDone (z : TableView) (a : Attempting) (at : ℕ) (s : Shelf) (from : ℕ) (before : List Read) (rows : List TakenRow) (q : PassView) : Type 0 where
+  pub clear : IsClear z.key.setting a s from rows q
   pub list : ListView
   pub low : ℕ
   pub tail : ℕ
-  pub taken : HasTaken a keep p q rows (Taken 0 (slot.List list) ∷ Hold 0 low ∷ [])
-  pub clear : IsClear z a keep p q rows
+  pub reads : q.reads ≡ before ++ (Taken 0 (slot.List list) ∷ Hold 0 low ∷ [])
   pub room : HasRoomAt z low tail
   pub behind : tail ≤ at
   pub seen : q.seen ≡ suc at
 
 -- why it was dropped as changed: at the least such variable its look has another word than the row
-pub record WasChanged (a : Attempting) (keep : Bool) (var : ℕ) (read found : ℤ) (p q : PassView) : Type 0 where
-  pub rows : List TakenRow
-  pub taken : HasTaken a keep p q rows []
+pub record WasChanged (a : Attempting) (var : ℕ) (read found : ℤ) (before : List Read) (rows : List TakenRow) (q : PassView) : Type 0 where
+  pub reads : q.reads ≡ before
   pub look : Look
   pub looked : Contains a.looks look
   pub at : look.var ≡ var
@@ -116,44 +109,52 @@ pub record WasChanged (a : Attempting) (keep : Bool) (var : ℕ) (read found : �
   pub least : AreUnchangedBelow var a rows
 
 -- why it was dropped as racy: no word was changed, and at the least such variable the commit completes a race
-pub record WasRaised (z : TableView) (a : Attempting) (keep : Bool) (var : ℕ) (p q : PassView) : Type 0 where
-  pub rows : List TakenRow
-  pub taken : HasTaken a keep p q rows []
+pub record WasRaised (setting : Setting) (a : Attempting) (var : ℕ) (s : Shelf) (from : ℕ) (before : List Read) (rows : List TakenRow) (q : PassView) : Type 0 where
+  pub reads : q.reads ≡ before
   pub unchanged : AreUnchanged a rows
-  pub one : Contains (variables_at a keep) var
-  pub later : p.seen ≤ q.seen
-  pub races : OverEach z.key.setting q.seen p q rows (RacesOn var p.own.id a keep rows)
-  pub least : OverEach z.key.setting q.seen p q rows (λ l. RacesBelow var p.own.id a keep rows l → ⊥)
+  pub later : from ≤ q.seen
+  pub row : TakenRow
+  pub of : Contains rows row
+  pub here : row.var ≡ var
+  pub races : OverEach setting s q.seen q.known rows (λ l. RacesAt s.thread a l row)
+  pub least : OverEach setting s q.seen q.known rows (λ l. (r : TakenRow) → Contains rows r → r.var < var → RacesAt s.thread a l r → ⊥)
 
-abbrev pub IsCause : TableView → Attempting → Bool → TxEnd → PassView → PassView → Type 0
-IsCause z a keep (end.Done at) p q = WasDone z a keep at p q
-IsCause z a keep (end.Raised var) p q = WasRaised z a keep var p q
-IsCause z a keep (end.Changed var read found) p q = WasChanged a keep var read found p q
+abbrev pub IsCauseBy : TableView → Attempting → TxEnd → Shelf → ℕ → List Read → List TakenRow → PassView → Type 0
+IsCauseBy z a (end.Done at) s from before rows q = WasDone z a at s from before rows q
+IsCauseBy z a (end.Raised var) s from before rows q = WasRaised z.key.setting a var s from before rows q
+IsCauseBy z a (end.Changed var read found) s from before rows q = WasChanged a var read found before rows q
 
--- some of its rows, the first ones, were taken, and the turn of the next one was read as held
-pub record RowWasBusy (a : Attempting) (keep : Bool) (by : ℕ) (p q : PassView) : Type 0 where
-  pub rows : List TakenRow
-  pub var : ℕ
-  pub rest : List ℕ
-  pub of : variables_at a keep ≡ vars_of rows ++ var ∷ rest
-  pub reads : q.reads ≡ (p.reads ++ takes rows) ++ Busy (suc var) by ∷ []
+-- the pass, which was p and is q, took the row of each variable, and this is why it ended so
+abbrev pub IsCause : TableView → Attempting → TxEnd → PassView → PassView → Type 0
+IsCause z a e p q = (rows : List TakenRow) × (vars_of rows ≡ variables_in a.looks a.writes) × IsCauseBy z a e (shelf_of p) p.seen (p.reads ++ takes rows) rows q
 
 -- nothing speaks against the commit, and the list's turn was read as held
-pub record ListWasBusy (z : TableView) (a : Attempting) (keep : Bool) (by : ℕ) (p q : PassView) : Type 0 where
-  pub rows : List TakenRow
-  pub taken : HasTaken a keep p q rows (Busy 0 by ∷ [])
-  pub clear : IsClear z a keep p q rows
+pub record ListWasBusy (z : TableView) (a : Attempting) (by : ℕ) (s : Shelf) (from : ℕ) (before : List Read) (rows : List TakenRow) (q : PassView) : Type 0 where
+  pub near : by < THREADS
+  pub clear : IsClear z.key.setting a s from rows q
+  pub reads : q.reads ≡ before ++ Busy 0 by ∷ []
 
 -- nothing speaks against the commit, and the list had no room
-pub record RingWasFull (z : TableView) (a : Attempting) (keep : Bool) (low tail : ℕ) (p q : PassView) : Type 0 where
-  pub rows : List TakenRow
+pub record RingWasFull (z : TableView) (a : Attempting) (low tail : ℕ) (s : Shelf) (from : ℕ) (before : List Read) (rows : List TakenRow) (q : PassView) : Type 0 where
+  pub clear : IsClear z.key.setting a s from rows q
   pub list : ListView
-  pub taken : HasTaken a keep p q rows (Taken 0 (slot.List list) ∷ Hold 0 low ∷ [])
-  pub clear : IsClear z a keep p q rows
+  pub reads : q.reads ≡ before ++ (Taken 0 (slot.List list) ∷ Hold 0 low ∷ [])
   pub seen : q.seen ≡ tail
   pub full : HasRoomAt z low tail → ⊥
 
+abbrev pub IsWaitBy : TableView → Attempting → TxWait → Shelf → ℕ → List Read → List TakenRow → PassView → Type 0
+IsWaitBy z a (wait.Busy by) s from before rows q = ListWasBusy z a by s from before rows q
+IsWaitBy z a (wait.RingFull low tail) s from before rows q = RingWasFull z a low tail s from before rows q
+
+-- all rows were taken, and then it had to wait
+abbrev pub WaitsWithAll : TableView → Attempting → TxWait → PassView → PassView → Type 0
+WaitsWithAll z a w p q = (rows : List TakenRow) × (vars_of rows ≡ variables_in a.looks a.writes) × IsWaitBy z a w (shelf_of p) p.seen (p.reads ++ takes rows) rows q
+
+-- some of its rows, the first ones, were taken, and the turn of the next one was read as held
+abbrev pub RowWasBusy : Attempting → TxWait → PassView → PassView → Type 0
+RowWasBusy a (wait.Busy by) p q = WereBusy (variables_in a.looks a.writes) by p q
+RowWasBusy a (wait.RingFull low tail) p q = ⊥
+
 -- why the attempt has to wait
-abbrev pub IsWaitCause : TableView → Attempting → Bool → TxWait → PassView → PassView → Type 0
-IsWaitCause z a keep (wait.Busy by) p q = (by < THREADS) × (RowWasBusy a keep by p q ⊎ ListWasBusy z a keep by p q)
-IsWaitCause z a keep (wait.RingFull low tail) p q = RingWasFull z a keep low tail p q
+abbrev pub IsWaitCause : TableView → Attempting → TxWait → PassView → PassView → Type 0
+IsWaitCause z a w p q = RowWasBusy a w p q ⊎ WaitsWithAll z a w p q

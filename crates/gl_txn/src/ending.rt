@@ -6,9 +6,10 @@ ghost use Rattle.gl_rule.specs.Objects.{capacity};
 ghost use Rattle.gl_txn.specs.Changing.{AreUnchangedIn};
 ghost use Rattle.gl_txn.specs.Drawing.{attempt_in};
 ghost use Rattle.gl_txn.specs.Publishing.{IsReady};
-ghost use Rattle.gl_txn.specs.Stages.{HoldsRows, EndsAs, IsPutBack};
+ghost use Rattle.gl_txn.specs.Stages.{HoldsRows, EndsAs, IsPutBack, ReachedEnd, ReachedWait};
+ghost use Rattle.gl_table.specs.PassView.{shelf_of};
 ghost use Rattle.gl_txn.specs.Trying.{MayTry};
-ghost use Rattle.gl_txn.specs.Ending.{HasEnded};
+ghost use Rattle.gl_txn.specs.Ending.{HasEnded, IsCause, IsCauseBy, IsWaitCause, IsWaitBy, kept_of};
 
 use crate::attempt::Txn;
 use crate::changing::first_change;
@@ -37,6 +38,8 @@ fn end_clear(
     requires none { tx.value.numbers ≡ [] }
     requires vars { vars.now ≡ variables_of tx.value }
     ensures done { IfOk result (λ e. EndsAs tx.value e pass.old pass.new) }
+    ensures cause { IfOk result (λ e. ReachedEnd shared.now e pass.old pass.new) }
+    ensures wait { IfErr result (λ w. ReachedWait shared.now w.1 pass.old pass.new) }
     ensures stop { IfErr result (λ w. w.0.value ≡ tx.value) }
     ensures back { OnErr result (IsPutBack pass.old pass.new) }
     ensures rows { OnErr result (rows.new.items ≡ []) }
@@ -71,6 +74,8 @@ fn end_unchanged(
     requires vars { vars.now ≡ variables_of tx.value }
     requires window { capacity shared.now.key ≤ window.old }
     ensures done { IfOk result (λ e. EndsAs tx.value e pass.old pass.new) }
+    ensures cause { IfOk result (λ e. IsCauseBy shared.now (attempt_in tx.value) e (shelf_of pass.old) pass.old.seen pass.old.reads rows.old.items pass.new) }
+    ensures wait { IfErr result (λ w. IsWaitBy shared.now (attempt_in tx.value) w.1 (shelf_of pass.old) pass.old.seen pass.old.reads rows.old.items pass.new) }
     ensures stop { IfErr result (λ w. w.0.value ≡ tx.value) }
     ensures back { OnErr result (IsPutBack pass.old pass.new) }
     ensures rows { OnErr result (rows.new.items ≡ []) }
@@ -116,12 +121,15 @@ fn end_taken(
     requires vars { vars.now ≡ variables_of tx.value }
     requires window { capacity shared.now.key ≤ window.old }
     ensures done { IfOk result (λ e. EndsAs tx.value e pass.old pass.new) }
+    ensures cause { IfOk result (λ e. IsCauseBy shared.now (attempt_in tx.value) e (shelf_of pass.old) pass.old.seen pass.old.reads rows.old.items pass.new) }
+    ensures wait { IfErr result (λ w. IsWaitBy shared.now (attempt_in tx.value) w.1 (shelf_of pass.old) pass.old.seen pass.old.reads rows.old.items pass.new) }
     ensures stop { IfErr result (λ w. w.0.value ≡ tx.value) }
     ensures back { OnErr result (IsPutBack pass.old pass.new) }
     ensures rows { OnErr result (rows.new.items ≡ []) }
     ensures room { OnErr result (vec_capacity rows.new ≡ vec_capacity rows.old) }
     ensures window { window.new ≡ window.old }
 {
+    tx.looks.keeps();
     match first_change(rows.as_slice(), &tx.looks) {
         Some(change) => Ok(drop_changed(shared, pass, tx, rows, &change)),
         None => end_unchanged(shared, pass, tx, vars, rows, cuts, window),
@@ -146,6 +154,8 @@ fn end_attempt(
     requires vars { vars.now ≡ variables_of tx.value }
     requires window { capacity shared.now.key ≤ window.old }
     ensures done { IfOk result (λ e. EndsAs tx.value e pass.old pass.new) }
+    ensures cause { IfOk result (λ e. IsCause shared.now (attempt_in tx.value) e pass.old pass.new) }
+    ensures wait { IfErr result (λ w. IsWaitCause shared.now (attempt_in tx.value) w.1 pass.old pass.new) }
     ensures stop { IfErr result (λ w. w.0.value ≡ tx.value) }
     ensures back { OnErr result (IsPutBack pass.old pass.new) }
     ensures rows { OnErr result (rows.new.items ≡ []) }
@@ -174,6 +184,8 @@ impl Txn {
         requires spare { 0 < pass.old.spare }
         requires window { capacity shared.now.key ≤ window.old }
         ensures done { IfOk result (λ e. HasEnded self keep e pass.old.own pass.new.own) }
+        ensures cause { IfOk result (λ e. IsCause shared.now (kept_of keep self) e pass.old pass.new) }
+        ensures wait { IfErr result (λ w. IsWaitCause shared.now (kept_of keep self) w.1 pass.old pass.new) }
         ensures stop { IfErr result (λ w. w.0 ≡ self) }
         ensures kept { OnErr result (pass.new.own ≡ pass.old.own) }
         ensures quiet { pass.new.quiet ≡ pass.old.quiet }

@@ -256,5 +256,7 @@ returns-clause-later c =
         (c.draw_numbers.ensures.drawn (Some lh) tails (subst (λ (rows : List TakenRow). AreHeld p.own.held (Some lh) rows tails undrawn) (sym e) there)) in
     let all : numbered numbers ≡ vars_of rows = subst (λ (rows : List TakenRow). numbered numbers ≡ vars_of rows) e c.draw_numbers.ensures.all in
     let dp : HasDrawn (with_room m.first l low tail) q (Some lh) rows tails numbers = subst (λ (p : PassView). HasDrawn p q (Some lh) rows tails numbers) m.reached.is d in
-    subst (λ (z : PassView). z.seen ≤ c.publish_commit-at.result) d.is c.publish_commit-at.ensures.later
+    let at = c.publish_commit-at.ensures.here in
+    let s = ap (λ (z : PassView). z.seen) d.is in
+    omega arith
 
