@@ -46,56 +46,56 @@ module _ (kept : List Kept) (next : Told) (sound : AreSound (lines_of (told_of k
   pub culprits : (x i : ℕ) → IsUnknown kept next x known i ↔ IsCulprit before next x i
   culprits x i = (
     λ w. (let k = w.0 in
-    let marked = are.marked i k w.1 in
-    let placed = are.placed i k w.1 in
-    let mark = marked.mark w.2.0.performed in
-    let law = ordered (access_at (take i lines) (line_of k.told)) (placed.access w.2.0.performed) in
-    record {
-      told = k.told;
-      there = map_there told kept i k w.1;
-      conflicts = w.2.0;
-      unordered = λ hb. (let less = w.2.1 in let passed = law.1 (subst (λ ls. HappensBeforeNext (history lines) (access_at ls (line_of k.told)) next.thread (commit_of next.item)) (sym (front i)) hb) in omega arith);
-    }),
+        let marked = are.marked i k w.1 in
+        let placed = are.placed i k w.1 in
+        let mark = marked.mark w.2.0.performed in
+        let law = ordered (access_at (take i lines) (line_of k.told)) (placed.access w.2.0.performed) in
+        record {
+          told = k.told;
+          there = map_there told kept i k w.1;
+          conflicts = w.2.0;
+          unordered = λ hb. (let less = w.2.1 in let passed = law.1 (subst (λ ls. HappensBeforeNext (history lines) (access_at ls (line_of k.told)) next.thread (commit_of next.item)) (sym (front i)) hb) in omega arith);
+        }),
     λ c. (let m = map_at told kept i c.told c.there in
-    let k = m.0 in
-    let conflicts = subst (λ t. Conflicts t next x) (sym m.2) c.conflicts in
-    let marked = are.marked i k m.1 in
-    let placed = are.placed i k m.1 in
-    let mark = marked.mark conflicts.performed in
-    let a : Access = access_at (take i lines) (line_of k.told) in
-    let law = ordered a (placed.access conflicts.performed) in
-    let unknown : at known k.told.thread < k.mark = elim (cases_lt (tick a) (at known k.told.thread)) [
-      | inl passed ↦ absurd (c.unordered (subst (λ ls. HappensBeforeNext (history lines) (access_at ls (line_of c.told)) next.thread (commit_of next.item)) (front i) (subst (λ t. HappensBeforeNext (history lines) (access_at (take i lines) (line_of t)) next.thread (commit_of next.item)) m.2 (law.0 passed))))
-      | inr over ↦ omega arith
-    ] in
-    (k, m.1, (conflicts, unknown))),
+        let k = m.0 in
+        let conflicts = subst (λ t. Conflicts t next x) (sym m.2) c.conflicts in
+        let marked = are.marked i k m.1 in
+        let placed = are.placed i k m.1 in
+        let mark = marked.mark conflicts.performed in
+        let a : Access = access_at (take i lines) (line_of k.told) in
+        let law = ordered a (placed.access conflicts.performed) in
+        let unknown : at known k.told.thread < k.mark = elim (cases_lt (tick a) (at known k.told.thread)) [
+          | inl passed ↦ absurd (c.unordered (subst (λ ls. HappensBeforeNext (history lines) (access_at ls (line_of c.told)) next.thread (commit_of next.item)) (front i) (subst (λ t. HappensBeforeNext (history lines) (access_at (take i lines) (line_of t)) next.thread (commit_of next.item)) m.2 (law.0 passed))))
+          | inr over ↦ omega arith
+        ] in
+        (k, m.1, (conflicts, unknown))),
   )
 
   pub learnts : (t i : ℕ) → IsPassed kept t (at known t) i ↔ IsLearnt before next t i
   learnts t i = (
     λ w. (let k = w.0 in
-    let marked = are.marked i k w.1 in
-    let placed = are.placed i k w.1 in
-    let own = marked.own in
-    let P : ℕ → Type 0 = λ u. k.own ≤ at known u in
-    let less = subst P (sym w.2.0) w.2.1 in
-    let hb = (ordered (plain_behind (take i lines) k.told.thread) placed.plain).0 (omega arith) in
-    record {
-      told = k.told;
-      there = map_there told kept i k w.1;
-      own = w.2.0;
-      ordered = subst (λ u. HappensBeforeNext (history lines) (plain_behind (lines_of (take i before)) u) next.thread (commit_of next.item)) w.2.0 (subst (λ ls. HappensBeforeNext (history lines) (plain_behind ls k.told.thread) next.thread (commit_of next.item)) (front i) hb);
-    }),
+        let marked = are.marked i k w.1 in
+        let placed = are.placed i k w.1 in
+        let own = marked.own in
+        let P : ℕ → Type 0 = λ u. k.own ≤ at known u in
+        let less = subst P (sym w.2.0) w.2.1 in
+        let hb = (ordered (plain_behind (take i lines) k.told.thread) placed.plain).0 (omega arith) in
+        record {
+          told = k.told;
+          there = map_there told kept i k w.1;
+          own = w.2.0;
+          ordered = subst (λ u. HappensBeforeNext (history lines) (plain_behind (lines_of (take i before)) u) next.thread (commit_of next.item)) w.2.0 (subst (λ ls. HappensBeforeNext (history lines) (plain_behind ls k.told.thread) next.thread (commit_of next.item)) (front i) hb);
+        }),
     λ c. (let m = map_at told kept i c.told c.there in
-    let k = m.0 in
-    let marked = are.marked i k m.1 in
-    let placed = are.placed i k m.1 in
-    let own = marked.own in
-    let mine : k.told.thread ≡ t = ap (λ (z : Told). z.thread) m.2 ∙ c.own in
-    let hb = subst (λ u. HappensBeforeNext (history lines) (plain_behind (lines_of (take i before)) u) next.thread (commit_of next.item)) (sym mine) c.ordered in
-    let passed = (ordered (plain_behind (take i lines) k.told.thread) placed.plain).1 (subst (λ ls. HappensBeforeNext (history lines) (plain_behind ls k.told.thread) next.thread (commit_of next.item)) (sym (front i)) hb) in
-    let P : ℕ → Type 0 = λ u. k.own ≤ at known u in
-    (k, m.1, (mine, subst P mine (omega arith)))),
+        let k = m.0 in
+        let marked = are.marked i k m.1 in
+        let placed = are.placed i k m.1 in
+        let own = marked.own in
+        let mine : k.told.thread ≡ t = ap (λ (z : Told). z.thread) m.2 ∙ c.own in
+        let hb = subst (λ u. HappensBeforeNext (history lines) (plain_behind (lines_of (take i before)) u) next.thread (commit_of next.item)) (sym mine) c.ordered in
+        let passed = (ordered (plain_behind (take i lines) k.told.thread) placed.plain).1 (subst (λ ls. HappensBeforeNext (history lines) (plain_behind ls k.told.thread) next.thread (commit_of next.item)) (sym (front i)) hb) in
+        let P : ℕ → Type 0 = λ u. k.own ≤ at known u in
+        (k, m.1, (mine, subst P mine (omega arith)))),
   )
 
   pub tells : Tells kept next known

@@ -97,8 +97,7 @@ culprit_there before next x sound right drawn raised =
     let r = found.1 in
     let o = drawn x r.earlier r.entry r.among r.made r.performed in
     let m = map_at line_of before o.place o.line o.there in
-    let thread : r.earlier.thread ≡ o.line.thread = ap (λ (a : Access). a.thread) o.access in
-    (
+    let thread : r.earlier.thread ≡ o.line.thread = ap (λ (a : Access). a.thread) o.access in (
       o.place,
       record {
         told = m.0;

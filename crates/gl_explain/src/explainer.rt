@@ -20,8 +20,8 @@ ghost use Rattle.gl_explain.specs.declared.told.Kept.{Kept as AKept};
 ghost use Rattle.gl_explain.specs.Told.{line_of, told_of};
 
 use crate::explained::explained;
-use crate::races::tick_of;
 use crate::page::Page;
+use crate::races::tick_of;
 use crate::text::{push_ending, push_explanation};
 use crate::told::{Kept, Told};
 use gl_core::Detector;

@@ -136,8 +136,8 @@ module _ (p q : PassView) (list : Option Held) (rows : List TakenRow) (tails : L
       | inl old ↦ drawn.above y k m look c old
       | inr new ↦ (let s = number_same (record { var = x; nth = n }) (record { var = y; nth = m }) new in
           let among : Contains q.own.drawn (record { var = x; nth = k; look = look }) =
-              subst (λ (l : List Drawn). Contains l (record { var = x; nth = k; look = look })) (sym (ap (λ (z : PassView). z.own.drawn) drawn.is))
-              (Rattle.std.proofs.lemmas.List.Elements.Contains-append_left p.own.drawn (map end_of numbers) (record { var = x; nth = k; look = look }) (subst (λ v. Contains p.own.drawn (record { var = v; nth = k; look = look })) (sym s.0) c)) in
+          subst (λ (l : List Drawn). Contains l (record { var = x; nth = k; look = look })) (sym (ap (λ (z : PassView). z.own.drawn) drawn.is))
+          (Rattle.std.proofs.lemmas.List.Elements.Contains-append_left p.own.drawn (map end_of numbers) (record { var = x; nth = k; look = look }) (subst (λ v. Contains p.own.drawn (record { var = v; nth = k; look = look })) (sym s.0) c)) in
           let l = above k look among in let e = s.1 in omega arith)
     ];
   }

@@ -70,11 +70,13 @@ module _ (a : Attempting) (writes : List Pair) (p : PassView) (rows : List Taken
   may_change q n d =
       let ns : List Number = record { var = c.var; nth = n } ∷ [] in
       let names = Rattle.gl_txn.proofs.EndFacts.names_one a writes p q.own.held None rows [] ns (c.var ∷ []) draws refl (tt, tt) d.held d.above in_rows m.runs in
-      subst (λ (z : PassView). MayAbort z (record { looks = a.looks; writes = writes; numbers = record { var = c.var; nth = n } ∷ [] }) (Changed c.var c.read c.found)) (sym d.is)
-      (block_of p.own.mine, record {
-        drop = may_drop a writes p q.own.held None rows [] ns (c.var ∷ []) draws refl (tt, tt) d.held d.above in_rows m.runs (Changed c.var c.read c.found) (formed n names);
-        word = λ b. f.is.found;
-      })
+      subst (λ (z : PassView). MayAbort z (record { looks = a.looks; writes = writes; numbers = record { var = c.var; nth = n } ∷ [] }) (Changed c.var c.read c.found)) (sym d.is) (
+        block_of p.own.mine,
+        record {
+          drop = may_drop a writes p q.own.held None rows [] ns (c.var ∷ []) draws refl (tt, tt) d.held d.above in_rows m.runs (Changed c.var c.read c.found) (formed n names);
+          word = λ b. f.is.found;
+        },
+      )
 
 -- once the entry is stored, no access was drawn on the rows, and they may go back
 module _ (p q : PassView) (rows : List TakenRow) (tails : List ℕ) (numbers : List Number) (zs : List ℕ) (are : numbered numbers ≡ zs) (d : HasDrawn p q None rows tails numbers) (tx : Tx) where

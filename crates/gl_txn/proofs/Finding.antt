@@ -63,9 +63,9 @@ found_still j k [] ne = refl
 found_still j k (h ∷ hs) ne = elim (ℕ_discrete h.object j) [
   | yes e ↦ ap (found k) (without_here h hs j e) ∙ found_still j k hs ne ∙ sym (found_past h hs k (λ z. ne (sym z ∙ e)))
   | no past ↦ ap (found k) (without_past h hs j past) ∙ elim (ℕ_discrete h.object k) [
-      | yes here ↦ found_here h (without j hs) k here ∙ sym (found_here h hs k here)
-      | no there ↦ found_past h (without j hs) k there ∙ found_still j k hs ne ∙ sym (found_past h hs k there)
-    ]
+    | yes here ↦ found_here h (without j hs) k here ∙ sym (found_here h hs k here)
+    | no there ↦ found_past h (without j hs) k there ∙ found_still j k hs ne ∙ sym (found_past h hs k there)
+  ]
 ]
 
 -- each object is held once
@@ -98,9 +98,9 @@ in_without_from j [] g c = absurd (let l = c.1 in omega arith)
 in_without_from j (h ∷ hs) g c = elim (ℕ_discrete h.object j) [
   | yes e ↦ (let r = in_without_from j hs g (subst (λ l. Contains l g) (without_here h hs j e) c) in let d = r.0 in ((suc d.0, (let l = d.1 in omega arith), d.2), r.1))
   | no ne ↦ elim (in_first h (without j hs) g (subst (λ l. Contains l g) (without_past h hs j ne) c)) [
-      | inl is ↦ ((0, omega arith, is), λ z. ne (ap (λ (u : Held). u.object) is ∙ z))
-      | inr there ↦ (let r = in_without_from j hs g there in let d = r.0 in ((suc d.0, (let l = d.1 in omega arith), d.2), r.1))
-    ]
+    | inl is ↦ ((0, omega arith, is), λ z. ne (ap (λ (u : Held). u.object) is ∙ z))
+    | inr there ↦ (let r = in_without_from j hs g there in let d = r.0 in ((suc d.0, (let l = d.1 in omega arith), d.2), r.1))
+  ]
 ]
 
 pub once_without : (j : ℕ) (held : List Held) → IsOnce held → IsOnce (without j held)

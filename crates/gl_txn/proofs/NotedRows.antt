@@ -154,9 +154,9 @@ module _ (setting : Setting) (p : PassView) (rows : List TakenRow) (base : Quest
       let is : read_of (set r.row.reads base.thread (Some noted.info)) u ≡ Some i = sym (ap (λ xs. read_of xs u) k.1) ∙ e in
       elim (ℕ_discrete u base.thread) [
         | yes same ↦ elim (cases_lt u (length r.row.reads)) [
-            | inl near ↦ above_new i noted.info (some_info noted.info i (sym (get_or-set_same r.row.reads base.thread (Some noted.info) None (let z = same in omega arith)) ∙ ap (read_of (set r.row.reads base.thread (Some noted.info))) (sym same) ∙ is)) noted.is.pos
-            | inr past ↦ absurd (let none : read_of (set r.row.reads base.thread (Some noted.info)) u ≡ None = get_or_past (set r.row.reads base.thread (Some noted.info)) u None (let z = length-set r.row.reads base.thread (Some noted.info) in omega arith) in let z : None ≡ Some i = sym none ∙ is in cc)
-          ]
+          | inl near ↦ above_new i noted.info (some_info noted.info i (sym (get_or-set_same r.row.reads base.thread (Some noted.info) None (let z = same in omega arith)) ∙ ap (read_of (set r.row.reads base.thread (Some noted.info))) (sym same) ∙ is)) noted.is.pos
+          | inr past ↦ absurd (let none : read_of (set r.row.reads base.thread (Some noted.info)) u ≡ None = get_or_past (set r.row.reads base.thread (Some noted.info)) u None (let z = length-set r.row.reads base.thread (Some noted.info) in omega arith) in let z : None ≡ Some i = sym none ∙ is in cc)
+        ]
         | no other ↦ inr (i, inr (u, sym (get_or-set_other r.row.reads base.thread u (Some noted.info) None other) ∙ is), omega arith)
       ]
   above_by (Some v) noted i (inl e) = let mid = noted.1 in let k = mid.write refl in above_new i mid.info (some_info mid.info i (sym k.0 ∙ sym (ap (λ (z : Row). z.last_write) noted.2) ∙ e)) mid.is.pos

@@ -114,20 +114,25 @@ module _ (tx : Tx) (p q : PassView) (rows : List TakenRow) (x : ℕ) (numbers : 
   row_x b = some_row (in_rows x b).0 races.row (sym (in_rows x b).1 ∙ ap (row_at rows) races.var ∙ row_found rows races.place races.row races.held.are.1 races.there)
 
   pub may_refuse : MayAbort q (record { looks = tx.looks; writes = tx.writes; numbers = numbers }) (Raised x)
-  may_refuse = subst (λ (z : PassView). MayAbort z (record { looks = tx.looks; writes = tx.writes; numbers = numbers }) (Raised x)) (sym drawn.is) (block_of p.own.mine, p.seen, asked_of p.own.id tx, λ setting. record {
-    drop = may_drop (attempt_in tx) tx.writes p q.own.held None rows (p.seen ∷ []) numbers (variables_of tx) draws are rises held drawn.above in_rows runs (Raised x) names;
-    below = races.below;
-    saw = λ y b. (0, omega arith, refl);
-    asks = λ y. (refl, refl, (λ b. is_in-contains y (map (λ w. w.var) tx.writes) b, λ c. contains-is_in y (map (λ w. w.var) tx.writes) c));
-    touches = subst (λ ys. is_in x ys ≡ true) races.of (contains-is_in x (vars_of rows) (subst (λ k. Contains (vars_of rows) k) (sym races.var) (in_vars rows races.place races.row races.there)));
-    judged = λ l fits stand b. subst (λ (u : TakenRow). SomeFails l u.row (asked_of p.own.id tx x)) (sym (row_x b)) (races.races setting l fits (stand_all setting l stand));
-    least = λ l fits stand y b less fails.
-        (let r = (in_rows y b).0 in
-        let at = (row_among rows y r (in_rows y b).1).1 in
-        let k = place_of rows y r (in_rows y b).1 in
-        let before = lower_before rows races.held.are.1 races.place k.0 races.row r races.there k.1 (let z = races.var in omega arith) in
-        races.least k.0 r before k.1 setting l fits (stand_all setting l stand) (subst (λ n. SomeFails l r.row (asked_of p.own.id tx n)) (sym at) fails));
-  })
+  may_refuse = subst (λ (z : PassView). MayAbort z (record { looks = tx.looks; writes = tx.writes; numbers = numbers }) (Raised x)) (sym drawn.is) (
+    block_of p.own.mine,
+    p.seen,
+    asked_of p.own.id tx,
+    λ setting. record {
+      drop = may_drop (attempt_in tx) tx.writes p q.own.held None rows (p.seen ∷ []) numbers (variables_of tx) draws are rises held drawn.above in_rows runs (Raised x) names;
+      below = races.below;
+      saw = λ y b. (0, omega arith, refl);
+      asks = λ y. (refl, refl, (λ b. is_in-contains y (map (λ w. w.var) tx.writes) b, λ c. contains-is_in y (map (λ w. w.var) tx.writes) c));
+      touches = subst (λ ys. is_in x ys ≡ true) races.of (contains-is_in x (vars_of rows) (subst (λ k. Contains (vars_of rows) k) (sym races.var) (in_vars rows races.place races.row races.there)));
+      judged = λ l fits stand b. subst (λ (u : TakenRow). SomeFails l u.row (asked_of p.own.id tx x)) (sym (row_x b)) (races.races setting l fits (stand_all setting l stand));
+      least = λ l fits stand y b less fails.
+          (let r = (in_rows y b).0 in
+          let at = (row_among rows y r (in_rows y b).1).1 in
+          let k = place_of rows y r (in_rows y b).1 in
+          let before = lower_before rows races.held.are.1 races.place k.0 races.row r races.there k.1 (let z = races.var in omega arith) in
+          races.least k.0 r before k.1 setting l fits (stand_all setting l stand) (subst (λ n. SomeFails l r.row (asked_of p.own.id tx n)) (sym at) fails));
+    },
+  )
     where
       names : Rattle.gl_model.specs.Form.NumbersName (record { looks = tx.looks; writes = tx.writes; numbers = numbers }) (variables_of tx)
       names = names_one (attempt_in tx) tx.writes p q.own.held None rows (p.seen ∷ []) numbers (variables_of tx) draws are rises held drawn.above in_rows runs

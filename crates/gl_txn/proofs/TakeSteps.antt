@@ -83,9 +83,9 @@ were_busy p q r s ids i by rows none near t few is put = record {
 -- the first of them are variables as all are
 pub take_are : (ids : List ℕ) (i : ℕ) → AreVariables ids → i < length ids → AreVariables (take i ids ++ get_or ids i 0 ∷ [])
 take_are ids i a near = subst AreVariables (take_more ids i 0 near) (
-    (let few = a.0 in let l = Rattle.std.proofs.lemmas.List.length-take-le (i + 1) ids (omega arith) in omega arith),
-    Rises-take (i + 1) ids a.1,
-    All-take (λ x. x < Rattle.gl_model.specs.declared.limits.TheConstants.VARIABLES) (i + 1) ids a.2,
+  (let few = a.0 in let l = Rattle.std.proofs.lemmas.List.length-take-le (i + 1) ids (omega arith) in omega arith),
+  Rises-take (i + 1) ids a.1,
+  All-take (λ x. x < Rattle.gl_model.specs.declared.limits.TheConstants.VARIABLES) (i + 1) ids a.2,
 )
 
 pub empty_of : {A : Type 0} (xs : List A) → length xs ≡ 0 → xs ≡ []

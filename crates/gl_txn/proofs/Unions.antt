@@ -13,16 +13,16 @@ pub one_one : (x y : ℕ) (zs : List ℕ) → x < y → with_one x (with_one y z
 one_one x y [] l = with_one-above x y [] l ∙ sym (with_one-below y x [] l)
 one_one x y (z ∷ zs) l = elim (cases_lt x z) [
   | inl below ↦ ap (λ t. t) (elim (cases_lt y z) [
-      | inl near ↦ ap (with_one x) (with_one-above y z zs near) ∙ with_one-above x y (z ∷ zs) l ∙ ap (λ t. x ∷ t) (sym (with_one-above y z zs near)) ∙ sym (with_one-below y x (z ∷ zs) l) ∙ ap (with_one y) (sym (with_one-above x z zs below))
-      | inr ge ↦ elim (eq-or-lt_of_le ge) [
-          | inl same ↦ ap (with_one x) (with_one-same y z zs same) ∙ with_one-above x z zs below ∙ ap (λ t. x ∷ t) (sym (with_one-same y z zs same)) ∙ sym (with_one-below y x (z ∷ zs) l) ∙ ap (with_one y) (sym (with_one-above x z zs below))
-          | inr far ↦ ap (with_one x) (with_one-below y z zs far) ∙ with_one-above x z (with_one y zs) below ∙ ap (λ t. x ∷ t) (sym (with_one-below y z zs far)) ∙ sym (with_one-below y x (z ∷ zs) l) ∙ ap (with_one y) (sym (with_one-above x z zs below))
-        ]
-    ])
+    | inl near ↦ ap (with_one x) (with_one-above y z zs near) ∙ with_one-above x y (z ∷ zs) l ∙ ap (λ t. x ∷ t) (sym (with_one-above y z zs near)) ∙ sym (with_one-below y x (z ∷ zs) l) ∙ ap (with_one y) (sym (with_one-above x z zs below))
+    | inr ge ↦ elim (eq-or-lt_of_le ge) [
+      | inl same ↦ ap (with_one x) (with_one-same y z zs same) ∙ with_one-above x z zs below ∙ ap (λ t. x ∷ t) (sym (with_one-same y z zs same)) ∙ sym (with_one-below y x (z ∷ zs) l) ∙ ap (with_one y) (sym (with_one-above x z zs below))
+      | inr far ↦ ap (with_one x) (with_one-below y z zs far) ∙ with_one-above x z (with_one y zs) below ∙ ap (λ t. x ∷ t) (sym (with_one-below y z zs far)) ∙ sym (with_one-below y x (z ∷ zs) l) ∙ ap (with_one y) (sym (with_one-above x z zs below))
+    ]
+  ])
   | inr ge ↦ (let far : z < y = omega arith in elim (eq-or-lt_of_le ge) [
-      | inl same ↦ ap (with_one x) (with_one-below y z zs far) ∙ with_one-same x z (with_one y zs) same ∙ sym (with_one-below y z zs far) ∙ ap (with_one y) (sym (with_one-same x z zs same))
-      | inr past ↦ ap (with_one x) (with_one-below y z zs far) ∙ with_one-below x z (with_one y zs) past ∙ ap (λ t. z ∷ t) (one_one x y zs l) ∙ sym (with_one-below y z (with_one x zs) far) ∙ ap (with_one y) (sym (with_one-below x z zs past))
-    ])
+    | inl same ↦ ap (with_one x) (with_one-below y z zs far) ∙ with_one-same x z (with_one y zs) same ∙ sym (with_one-below y z zs far) ∙ ap (with_one y) (sym (with_one-same x z zs same))
+    | inr past ↦ ap (with_one x) (with_one-below y z zs far) ∙ with_one-below x z (with_one y zs) past ∙ ap (λ t. z ∷ t) (one_one x y zs l) ∙ sym (with_one-below y z (with_one x zs) far) ∙ ap (with_one y) (sym (with_one-below x z zs past))
+  ])
 ]
 
 pub either_order : (x y : ℕ) (zs : List ℕ) → with_one x (with_one y zs) ≡ with_one y (with_one x zs)
@@ -37,9 +37,9 @@ one_again x [] = with_one-same x x [] refl
 one_again x (z ∷ zs) = elim (cases_lt x z) [
   | inl below ↦ ap (with_one x) (with_one-above x z zs below) ∙ with_one-same x x (z ∷ zs) refl ∙ sym (with_one-above x z zs below)
   | inr ge ↦ elim (eq-or-lt_of_le ge) [
-      | inl same ↦ ap (with_one x) (with_one-same x z zs same)
-      | inr past ↦ ap (with_one x) (with_one-below x z zs past) ∙ with_one-below x z (with_one x zs) past ∙ ap (λ t. z ∷ t) (one_again x zs) ∙ sym (with_one-below x z zs past)
-    ]
+    | inl same ↦ ap (with_one x) (with_one-same x z zs same)
+    | inr past ↦ ap (with_one x) (with_one-below x z zs past) ∙ with_one-below x z (with_one x zs) past ∙ ap (λ t. z ∷ t) (one_again x zs) ∙ sym (with_one-below x z zs past)
+  ]
 ]
 
 -- one more on the right, and on the left
@@ -52,9 +52,9 @@ one_all x [] zs = refl
 one_all x (w ∷ ws) zs = elim (cases_lt x w) [
   | inl below ↦ ap (λ l. with_all l zs) (with_one-above x w ws below) ∙ all_one (w ∷ ws) x zs
   | inr ge ↦ elim (eq-or-lt_of_le ge) [
-      | inl same ↦ ap (λ l. with_all l zs) (with_one-same x w ws same) ∙ all_one ws w zs ∙ sym (one_again w (with_all ws zs)) ∙ ap (with_one w) (sym (all_one ws w zs)) ∙ ap (λ k. with_one k (with_all ws (with_one w zs))) same
-      | inr past ↦ ap (λ l. with_all l zs) (with_one-below x w ws past) ∙ one_all x ws (with_one w zs)
-    ]
+    | inl same ↦ ap (λ l. with_all l zs) (with_one-same x w ws same) ∙ all_one ws w zs ∙ sym (one_again w (with_all ws zs)) ∙ ap (with_one w) (sym (all_one ws w zs)) ∙ ap (λ k. with_one k (with_all ws (with_one w zs))) same
+    | inr past ↦ ap (λ l. with_all l zs) (with_one-below x w ws past) ∙ one_all x ws (with_one w zs)
+  ]
 ]
 
 -- one is as many or one more
@@ -107,9 +107,9 @@ one_still x [] y c = absurd (let l = c.1 in omega arith)
 one_still x (z ∷ zs) y c = elim (cases_lt x z) [
   | inl below ↦ rw (with_one-above x z zs below) (in_next x (z ∷ zs) y c)
   | inr ge ↦ elim (eq-or-lt_of_le ge) [
-      | inl same ↦ rw (with_one-same x z zs same) c
-      | inr past ↦ rw (with_one-below x z zs past) (elim (in_cases z zs y c) [ inl e ↦ (0, omega arith, e) | inr there ↦ in_next z (with_one x zs) y (one_still x zs y there) ])
-    ]
+    | inl same ↦ rw (with_one-same x z zs same) c
+    | inr past ↦ rw (with_one-below x z zs past) (elim (in_cases z zs y c) [ inl e ↦ (0, omega arith, e) | inr there ↦ in_next z (with_one x zs) y (one_still x zs y there) ])
+  ]
 ]
 
 pub one_from : (x : ℕ) (zs : List ℕ) (y : ℕ) → Contains (with_one x zs) y → (x ≡ y) ⊎ Contains zs y
@@ -117,12 +117,12 @@ one_from x [] y c = in_cases x [] y c
 one_from x (z ∷ zs) y c = elim (cases_lt x z) [
   | inl below ↦ in_cases x (z ∷ zs) y (rw (with_one-above x z zs below) at c)
   | inr ge ↦ elim (eq-or-lt_of_le ge) [
-      | inl same ↦ inr (rw (with_one-same x z zs same) at c)
-      | inr past ↦ elim (in_cases z (with_one x zs) y (rw (with_one-below x z zs past) at c)) [
-          | inl e ↦ inr (0, omega arith, e)
-          | inr there ↦ elim (one_from x zs y there) [ inl e ↦ inl e | inr rest ↦ inr (in_next z zs y rest) ]
-        ]
+    | inl same ↦ inr (rw (with_one-same x z zs same) at c)
+    | inr past ↦ elim (in_cases z (with_one x zs) y (rw (with_one-below x z zs past) at c)) [
+      | inl e ↦ inr (0, omega arith, e)
+      | inr there ↦ elim (one_from x zs y there) [ inl e ↦ inl e | inr rest ↦ inr (in_next z zs y rest) ]
     ]
+  ]
 ]
 
 pub all_right : (xs zs : List ℕ) (y : ℕ) → Contains zs y → Contains (with_all xs zs) y
@@ -157,9 +157,9 @@ module _ {A : Type 0} (key : A → ℕ) where
   not_found x (q ∷ ps) e c = elim (cases_Bool (key q == x)) [
     | inl b ↦ absurd (let z = rw b at e in cc)
     | inr b ↦ elim (in_cases (key q) (map key ps) x c) [
-        | inl same ↦ absurd (let t : (key q == x) ≡ true = eq-eqb (key q) x same in let z : true ≡ false = sym t ∙ b in cc)
-        | inr there ↦ not_found x ps (rw b at e) there
-      ]
+      | inl same ↦ absurd (let t : (key q == x) ≡ true = eq-eqb (key q) x same in let z : true ≡ false = sym t ∙ b in cc)
+      | inr there ↦ not_found x ps (rw b at e) there
+    ]
   ]
 
   key_in : (ps : List A) (p : A) → Contains ps p → Contains (map key ps) (key p)
@@ -228,9 +228,9 @@ one_new x [] out = refl
 one_new x (y ∷ ys) out = elim (cases_lt x y) [
   | inl l ↦ (let e = ap length (with_one-above x y ys l) in omega arith)
   | inr ge ↦ elim (eq-or-lt_of_le ge) [
-      | inl same ↦ absurd (out (0, omega arith, same))
-      | inr l ↦ (let e = ap length (with_one-below x y ys l) in let r = one_new x ys (λ d. out (in_next y ys x d)) in omega arith)
-    ]
+    | inl same ↦ absurd (out (0, omega arith, same))
+    | inr l ↦ (let e = ap length (with_one-below x y ys l) in let r = one_new x ys (λ d. out (in_next y ys x d)) in omega arith)
+  ]
 ]
 
 -- where the union with one more is not too long, there is room for one more

@@ -41,13 +41,7 @@ fn store(kept: &mut KeptRow, base: &Question, write: Option<i64>, at: u64)
 }
 
 // Puts the last row back as it is after the commit.
-fn put_noted(
-    shared: &Shared,
-    pass: &mut Pass,
-    rows: &mut Vec<TakenRow>,
-    base: &Question,
-    at: u64,
-)
+fn put_noted(shared: &Shared, pass: &mut Pass, rows: &mut Vec<TakenRow>, base: &Question, at: u64)
     requires table { pass.old.own.table ≡ shared.now.id }
     requires held { AreCommitted pass.old rows.old.items base.now at }
     requires some { 0 < vec_len rows.old }
@@ -58,7 +52,11 @@ fn put_noted(
     let Some(taken) = rows.pop() else {
         unreachable!()
     };
-    let TakenRow { var, write, mut row } = taken;
+    let TakenRow {
+        var,
+        write,
+        mut row,
+    } = taken;
     store(&mut row, base, write, at);
     shared.put_row(pass, var, row);
 }

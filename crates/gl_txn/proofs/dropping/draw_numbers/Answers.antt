@@ -44,8 +44,7 @@ loop-taken-preserved c =
     let at = at_item c.args.rows.now c.loop-taken.taken-index c.taken-item.result c.loop-taken-test.true c.taken-item.is in
     let there = found_there c.args.rows.now c.loop-taken.taken-index r at m.held.are c.loop-taken.numbers c.loop-taken.invariant.1 in
     let out = not_numbered c.args.rows.now c.loop-taken.taken-index r at m.held.are c.loop-taken.numbers c.loop-taken.invariant.1 in
-    let is = c.add.ensures in
-    (
+    let is = c.add.ensures in (
       (λ list tails a. subst (λ (l : List Number). HasDrawn c.args.pass.now c.mark_open-nth.new.pass list c.args.rows.now tails l) (sym is)
           (number_more c.args.pass.now c.loop-taken.pass list c.args.rows.now tails c.loop-taken.numbers m (c.loop-taken.invariant.0 list tails a) r.var r there out c.mark_open-nth.new.pass n c.mark_open-nth.ensures.opened c.mark_open-nth.ensures.above)),
       ap numbered is ∙ numbered_on c.args.rows.now c.loop-taken.taken-index r at m.held.are c.loop-taken.numbers c.loop-taken.invariant.1 n,

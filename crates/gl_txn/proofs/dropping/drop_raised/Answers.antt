@@ -22,7 +22,7 @@ abort-requires-clause-may c =
     let e = c.as_slice.ensures.value in
     let races = c.requires.raised in
     let d : HasDrawn p q None rows (p.seen ∷ []) numbers = subst (λ (rows : List TakenRow). HasDrawn p q None rows (p.seen ∷ []) numbers) e
-        (c.draw_numbers.ensures.drawn None (p.seen ∷ []) (subst (λ (rows : List TakenRow). AreHeld p.own.held None rows (p.seen ∷ []) undrawn) (sym e) races.held)) in
+    (c.draw_numbers.ensures.drawn None (p.seen ∷ []) (subst (λ (rows : List TakenRow). AreHeld p.own.held None rows (p.seen ∷ []) undrawn) (sym e) races.held)) in
     let all : numbered numbers ≡ vars_of rows = subst (λ (rows : List TakenRow). numbered numbers ≡ vars_of rows) e c.draw_numbers.ensures.all in
     let t = c.deref_mut.ensures.value in
     subst (λ (t : Tx). MayAbort q (record { looks = t.looks; writes = t.writes; numbers = numbers }) (Raised c.args.var)) (sym t)
@@ -37,7 +37,7 @@ abort-requires-clause-spare c =
     let e = c.as_slice.ensures.value in
     let races = c.requires.raised in
     let d : HasDrawn p q None rows (p.seen ∷ []) numbers = subst (λ (rows : List TakenRow). HasDrawn p q None rows (p.seen ∷ []) numbers) e
-        (c.draw_numbers.ensures.drawn None (p.seen ∷ []) (subst (λ (rows : List TakenRow). AreHeld p.own.held None rows (p.seen ∷ []) undrawn) (sym e) races.held)) in
+    (c.draw_numbers.ensures.drawn None (p.seen ∷ []) (subst (λ (rows : List TakenRow). AreHeld p.own.held None rows (p.seen ∷ []) undrawn) (sym e) races.held)) in
     let all : numbered numbers ≡ vars_of rows = subst (λ (rows : List TakenRow). numbered numbers ≡ vars_of rows) e c.draw_numbers.ensures.all in
     let t = c.deref_mut.ensures.value in
     subst (λ (z : PassView). 0 < z.spare) (sym d.is) c.requires.spare
@@ -51,7 +51,7 @@ put_rows-requires-clause-table c =
     let e = c.as_slice.ensures.value in
     let races = c.requires.raised in
     let d : HasDrawn p q None rows (p.seen ∷ []) numbers = subst (λ (rows : List TakenRow). HasDrawn p q None rows (p.seen ∷ []) numbers) e
-        (c.draw_numbers.ensures.drawn None (p.seen ∷ []) (subst (λ (rows : List TakenRow). AreHeld p.own.held None rows (p.seen ∷ []) undrawn) (sym e) races.held)) in
+    (c.draw_numbers.ensures.drawn None (p.seen ∷ []) (subst (λ (rows : List TakenRow). AreHeld p.own.held None rows (p.seen ∷ []) undrawn) (sym e) races.held)) in
     let all : numbered numbers ≡ vars_of rows = subst (λ (rows : List TakenRow). numbered numbers ≡ vars_of rows) e c.draw_numbers.ensures.all in
     let t = c.deref_mut.ensures.value in
     ap (λ (z : PassView). z.own.table) c.abort.ensures ∙ ap (λ (z : PassView). z.own.table) d.is ∙ c.requires.table
@@ -65,7 +65,7 @@ put_rows-requires-clause-held c =
     let e = c.as_slice.ensures.value in
     let races = c.requires.raised in
     let d : HasDrawn p q None rows (p.seen ∷ []) numbers = subst (λ (rows : List TakenRow). HasDrawn p q None rows (p.seen ∷ []) numbers) e
-        (c.draw_numbers.ensures.drawn None (p.seen ∷ []) (subst (λ (rows : List TakenRow). AreHeld p.own.held None rows (p.seen ∷ []) undrawn) (sym e) races.held)) in
+    (c.draw_numbers.ensures.drawn None (p.seen ∷ []) (subst (λ (rows : List TakenRow). AreHeld p.own.held None rows (p.seen ∷ []) undrawn) (sym e) races.held)) in
     let all : numbered numbers ≡ vars_of rows = subst (λ (rows : List TakenRow). numbered numbers ≡ vars_of rows) e c.draw_numbers.ensures.all in
     let t = c.deref_mut.ensures.value in
     let tx : Tx = record { looks = c.deref_mut.result.now.looks; writes = c.deref_mut.result.now.writes; numbers = numbers } in
@@ -81,7 +81,7 @@ returns-clause-dropped c =
     let e = c.as_slice.ensures.value in
     let races = c.requires.raised in
     let d : HasDrawn p q None rows (p.seen ∷ []) numbers = subst (λ (rows : List TakenRow). HasDrawn p q None rows (p.seen ∷ []) numbers) e
-        (c.draw_numbers.ensures.drawn None (p.seen ∷ []) (subst (λ (rows : List TakenRow). AreHeld p.own.held None rows (p.seen ∷ []) undrawn) (sym e) races.held)) in
+    (c.draw_numbers.ensures.drawn None (p.seen ∷ []) (subst (λ (rows : List TakenRow). AreHeld p.own.held None rows (p.seen ∷ []) undrawn) (sym e) races.held)) in
     let all : numbered numbers ≡ vars_of rows = subst (λ (rows : List TakenRow). numbered numbers ≡ vars_of rows) e c.draw_numbers.ensures.all in
     let t = c.deref_mut.ensures.value in
     let tx : Tx = record { looks = c.deref_mut.result.now.looks; writes = c.deref_mut.result.now.writes; numbers = numbers } in
@@ -92,4 +92,3 @@ returns-clause-dropped c =
       writes = ap (λ (t : Tx). t.writes) t;
       is = raise_stored p q rows (p.seen ∷ []) numbers (variables_of tx) are d tx c.args.var c.abort.new.self c.put_rows.new.pass c.abort.ensures c.put_rows.ensures.pass;
     }
-

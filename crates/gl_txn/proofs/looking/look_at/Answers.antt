@@ -23,5 +23,5 @@ returns-clause-look c =
     let fits : FitsSigned w64 c.row.result.now.value = search rules in
     let is : c.mark_open-nth.new.pass ≡ opened c.take_row.new.pass c.args.var c.mark_open-nth.result (Some c.row.result.now.value) = simp to_z-of_z at c.mark_open-nth.ensures.opened in
     let whole = after_look c.args.pass.now c.args.var c.in-Ok.kept c.mark_open-nth.result c.row.result.now.value c.requires.held c.mark_open-nth.new.pass c.put_row.new.pass
-        (is ∙ ap (λ (p : PassView). opened p c.args.var c.mark_open-nth.result (Some c.row.result.now.value)) c.in-Ok.ensures.ok) c.put_row.ensures in
+    (is ∙ ap (λ (p : PassView). opened p c.args.var c.mark_open-nth.result (Some c.row.result.now.value)) c.in-Ok.ensures.ok) c.put_row.ensures in
     (c.in-Ok.kept, refl, simp to_z-of_z (sym (ap (λ (r : Row). r.value) c.row.ensures)), simp to_z-of_z whole)

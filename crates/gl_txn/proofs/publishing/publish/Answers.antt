@@ -46,7 +46,7 @@ publish_commit-at-requires-clause-table c =
     let tails : List ℕ = tail ∷ m.first.seen ∷ [] in
     let there : AreHeld p.own.held (Some lh) rows tails undrawn = subst (λ (p : PassView). AreHeld p.own.held (Some lh) rows tails undrawn) (sym m.reached.is) (held_there z m.first rows tx0 l m.ready m.told low tail m.reached.later m.reached.room) in
     let d : HasDrawn p q (Some lh) rows tails numbers = subst (λ (rows : List TakenRow). HasDrawn p q (Some lh) rows tails numbers) e
-        (c.draw_numbers.ensures.drawn (Some lh) tails (subst (λ (rows : List TakenRow). AreHeld p.own.held (Some lh) rows tails undrawn) (sym e) there)) in
+    (c.draw_numbers.ensures.drawn (Some lh) tails (subst (λ (rows : List TakenRow). AreHeld p.own.held (Some lh) rows tails undrawn) (sym e) there)) in
     let all : numbered numbers ≡ vars_of rows = subst (λ (rows : List TakenRow). numbered numbers ≡ vars_of rows) e c.draw_numbers.ensures.all in
     let dp : HasDrawn (with_room m.first l low tail) q (Some lh) rows tails numbers = subst (λ (p : PassView). HasDrawn p q (Some lh) rows tails numbers) m.reached.is d in
     ap (λ (z : PassView). z.own.table) d.is ∙ c.requires.table
@@ -69,7 +69,7 @@ publish_commit-at-requires-clause-spare c =
     let tails : List ℕ = tail ∷ m.first.seen ∷ [] in
     let there : AreHeld p.own.held (Some lh) rows tails undrawn = subst (λ (p : PassView). AreHeld p.own.held (Some lh) rows tails undrawn) (sym m.reached.is) (held_there z m.first rows tx0 l m.ready m.told low tail m.reached.later m.reached.room) in
     let d : HasDrawn p q (Some lh) rows tails numbers = subst (λ (rows : List TakenRow). HasDrawn p q (Some lh) rows tails numbers) e
-        (c.draw_numbers.ensures.drawn (Some lh) tails (subst (λ (rows : List TakenRow). AreHeld p.own.held (Some lh) rows tails undrawn) (sym e) there)) in
+    (c.draw_numbers.ensures.drawn (Some lh) tails (subst (λ (rows : List TakenRow). AreHeld p.own.held (Some lh) rows tails undrawn) (sym e) there)) in
     let all : numbered numbers ≡ vars_of rows = subst (λ (rows : List TakenRow). numbered numbers ≡ vars_of rows) e c.draw_numbers.ensures.all in
     let dp : HasDrawn (with_room m.first l low tail) q (Some lh) rows tails numbers = subst (λ (p : PassView). HasDrawn p q (Some lh) rows tails numbers) m.reached.is d in
     subst (λ (z : PassView). 0 < z.spare) (sym d.is) c.requires.spare
@@ -92,7 +92,7 @@ publish_commit-at-requires-clause-may c =
     let tails : List ℕ = tail ∷ m.first.seen ∷ [] in
     let there : AreHeld p.own.held (Some lh) rows tails undrawn = subst (λ (p : PassView). AreHeld p.own.held (Some lh) rows tails undrawn) (sym m.reached.is) (held_there z m.first rows tx0 l m.ready m.told low tail m.reached.later m.reached.room) in
     let d : HasDrawn p q (Some lh) rows tails numbers = subst (λ (rows : List TakenRow). HasDrawn p q (Some lh) rows tails numbers) e
-        (c.draw_numbers.ensures.drawn (Some lh) tails (subst (λ (rows : List TakenRow). AreHeld p.own.held (Some lh) rows tails undrawn) (sym e) there)) in
+    (c.draw_numbers.ensures.drawn (Some lh) tails (subst (λ (rows : List TakenRow). AreHeld p.own.held (Some lh) rows tails undrawn) (sym e) there)) in
     let all : numbered numbers ≡ vars_of rows = subst (λ (rows : List TakenRow). numbered numbers ≡ vars_of rows) e c.draw_numbers.ensures.all in
     let dp : HasDrawn (with_room m.first l low tail) q (Some lh) rows tails numbers = subst (λ (p : PassView). HasDrawn p q (Some lh) rows tails numbers) m.reached.is d in
     subst (λ (t : Tx). MayPublishTx z.key q (record { looks = t.looks; writes = t.writes; numbers = numbers }) l) (sym t)
@@ -117,7 +117,7 @@ put_list-requires-clause-table c =
     let tails : List ℕ = tail ∷ m.first.seen ∷ [] in
     let there : AreHeld p.own.held (Some lh) rows tails undrawn = subst (λ (p : PassView). AreHeld p.own.held (Some lh) rows tails undrawn) (sym m.reached.is) (held_there z m.first rows tx0 l m.ready m.told low tail m.reached.later m.reached.room) in
     let d : HasDrawn p q (Some lh) rows tails numbers = subst (λ (rows : List TakenRow). HasDrawn p q (Some lh) rows tails numbers) e
-        (c.draw_numbers.ensures.drawn (Some lh) tails (subst (λ (rows : List TakenRow). AreHeld p.own.held (Some lh) rows tails undrawn) (sym e) there)) in
+    (c.draw_numbers.ensures.drawn (Some lh) tails (subst (λ (rows : List TakenRow). AreHeld p.own.held (Some lh) rows tails undrawn) (sym e) there)) in
     let all : numbered numbers ≡ vars_of rows = subst (λ (rows : List TakenRow). numbered numbers ≡ vars_of rows) e c.draw_numbers.ensures.all in
     let dp : HasDrawn (with_room m.first l low tail) q (Some lh) rows tails numbers = subst (λ (p : PassView). HasDrawn p q (Some lh) rows tails numbers) m.reached.is d in
     ap (λ (z : PassView). z.own.table) c.publish_commit-at.ensures.published ∙ ap (λ (z : PassView). z.own.table) d.is ∙ c.requires.table
@@ -140,7 +140,7 @@ put_list-requires-clause-may c =
     let tails : List ℕ = tail ∷ m.first.seen ∷ [] in
     let there : AreHeld p.own.held (Some lh) rows tails undrawn = subst (λ (p : PassView). AreHeld p.own.held (Some lh) rows tails undrawn) (sym m.reached.is) (held_there z m.first rows tx0 l m.ready m.told low tail m.reached.later m.reached.room) in
     let d : HasDrawn p q (Some lh) rows tails numbers = subst (λ (rows : List TakenRow). HasDrawn p q (Some lh) rows tails numbers) e
-        (c.draw_numbers.ensures.drawn (Some lh) tails (subst (λ (rows : List TakenRow). AreHeld p.own.held (Some lh) rows tails undrawn) (sym e) there)) in
+    (c.draw_numbers.ensures.drawn (Some lh) tails (subst (λ (rows : List TakenRow). AreHeld p.own.held (Some lh) rows tails undrawn) (sym e) there)) in
     let all : numbered numbers ≡ vars_of rows = subst (λ (rows : List TakenRow). numbered numbers ≡ vars_of rows) e c.draw_numbers.ensures.all in
     let dp : HasDrawn (with_room m.first l low tail) q (Some lh) rows tails numbers = subst (λ (p : PassView). HasDrawn p q (Some lh) rows tails numbers) m.reached.is d in
     let tx : Tx = record { looks = c.deref_mut.result.now.looks; writes = c.deref_mut.result.now.writes; numbers = numbers } in
@@ -167,7 +167,7 @@ put_all_noted-requires-clause-table c =
     let tails : List ℕ = tail ∷ m.first.seen ∷ [] in
     let there : AreHeld p.own.held (Some lh) rows tails undrawn = subst (λ (p : PassView). AreHeld p.own.held (Some lh) rows tails undrawn) (sym m.reached.is) (held_there z m.first rows tx0 l m.ready m.told low tail m.reached.later m.reached.room) in
     let d : HasDrawn p q (Some lh) rows tails numbers = subst (λ (rows : List TakenRow). HasDrawn p q (Some lh) rows tails numbers) e
-        (c.draw_numbers.ensures.drawn (Some lh) tails (subst (λ (rows : List TakenRow). AreHeld p.own.held (Some lh) rows tails undrawn) (sym e) there)) in
+    (c.draw_numbers.ensures.drawn (Some lh) tails (subst (λ (rows : List TakenRow). AreHeld p.own.held (Some lh) rows tails undrawn) (sym e) there)) in
     let all : numbered numbers ≡ vars_of rows = subst (λ (rows : List TakenRow). numbered numbers ≡ vars_of rows) e c.draw_numbers.ensures.all in
     let dp : HasDrawn (with_room m.first l low tail) q (Some lh) rows tails numbers = subst (λ (p : PassView). HasDrawn p q (Some lh) rows tails numbers) m.reached.is d in
     ap (λ (z : PassView). z.own.table) c.put_list.ensures ∙ ap (λ (z : PassView). z.own.table) c.publish_commit-at.ensures.published ∙ ap (λ (z : PassView). z.own.table) d.is ∙ c.requires.table
@@ -190,7 +190,7 @@ put_all_noted-requires-clause-held c =
     let tails : List ℕ = tail ∷ m.first.seen ∷ [] in
     let there : AreHeld p.own.held (Some lh) rows tails undrawn = subst (λ (p : PassView). AreHeld p.own.held (Some lh) rows tails undrawn) (sym m.reached.is) (held_there z m.first rows tx0 l m.ready m.told low tail m.reached.later m.reached.room) in
     let d : HasDrawn p q (Some lh) rows tails numbers = subst (λ (rows : List TakenRow). HasDrawn p q (Some lh) rows tails numbers) e
-        (c.draw_numbers.ensures.drawn (Some lh) tails (subst (λ (rows : List TakenRow). AreHeld p.own.held (Some lh) rows tails undrawn) (sym e) there)) in
+    (c.draw_numbers.ensures.drawn (Some lh) tails (subst (λ (rows : List TakenRow). AreHeld p.own.held (Some lh) rows tails undrawn) (sym e) there)) in
     let all : numbered numbers ≡ vars_of rows = subst (λ (rows : List TakenRow). numbered numbers ≡ vars_of rows) e c.draw_numbers.ensures.all in
     let dp : HasDrawn (with_room m.first l low tail) q (Some lh) rows tails numbers = subst (λ (p : PassView). HasDrawn p q (Some lh) rows tails numbers) m.reached.is d in
     let tx : Tx = record { looks = c.deref_mut.result.now.looks; writes = c.deref_mut.result.now.writes; numbers = numbers } in
@@ -198,9 +198,9 @@ put_all_noted-requires-clause-held c =
     let r = c.publish_commit-at.new.pass in
     let are : vars_of rows ≡ variables_of tx = m.ready.of ∙ ap (λ (t : Tx). variables_of t) (sym t) in
     let done = committed z.key.setting q r l lh refl rows tails (drew_on p (numbered numbers)) d.held tx n are c.publish_commit-at.ensures.published c.put_list.new.pass c.put_list.ensures
-        (subst (λ (t : Tx). Rattle.gl_txn.specs.Holding.HaveWrites t.writes rows) (sym t) m.ready.writes)
-        (record { thread = c.id.result; write = Rattle.std.proofs.Common.false; commit = Some c.args.vars.now; held = c.monitors.result }) c.id.ensures.is c.id.ensures.near
-        (ap (λ (ys : List ℕ). Some ys) (c.requires.vars ∙ ap (λ (t : Tx). variables_of t) (sym t))) c.monitors.ensures.owned in
+    (subst (λ (t : Tx). Rattle.gl_txn.specs.Holding.HaveWrites t.writes rows) (sym t) m.ready.writes)
+    (record { thread = c.id.result; write = Rattle.std.proofs.Common.false; commit = Some c.args.vars.now; held = c.monitors.result }) c.id.ensures.is c.id.ensures.near
+    (ap (λ (ys : List ℕ). Some ys) (c.requires.vars ∙ ap (λ (t : Tx). variables_of t) (sym t))) c.monitors.ensures.owned in
     subst (λ k. AreCommitted c.put_list.new.pass rows (record { thread = c.id.result; write = Rattle.std.proofs.Common.false; commit = Some c.args.vars.now; held = c.monitors.result }) k) (sym (c.seen-behind.ensures ∙ done.seen)) done
 
 pub returns-clause-published : goal.returns-clause-published
@@ -221,7 +221,7 @@ returns-clause-published c =
     let tails : List ℕ = tail ∷ m.first.seen ∷ [] in
     let there : AreHeld p.own.held (Some lh) rows tails undrawn = subst (λ (p : PassView). AreHeld p.own.held (Some lh) rows tails undrawn) (sym m.reached.is) (held_there z m.first rows tx0 l m.ready m.told low tail m.reached.later m.reached.room) in
     let d : HasDrawn p q (Some lh) rows tails numbers = subst (λ (rows : List TakenRow). HasDrawn p q (Some lh) rows tails numbers) e
-        (c.draw_numbers.ensures.drawn (Some lh) tails (subst (λ (rows : List TakenRow). AreHeld p.own.held (Some lh) rows tails undrawn) (sym e) there)) in
+    (c.draw_numbers.ensures.drawn (Some lh) tails (subst (λ (rows : List TakenRow). AreHeld p.own.held (Some lh) rows tails undrawn) (sym e) there)) in
     let all : numbered numbers ≡ vars_of rows = subst (λ (rows : List TakenRow). numbered numbers ≡ vars_of rows) e c.draw_numbers.ensures.all in
     let dp : HasDrawn (with_room m.first l low tail) q (Some lh) rows tails numbers = subst (λ (p : PassView). HasDrawn p q (Some lh) rows tails numbers) m.reached.is d in
     let tx : Tx = record { looks = c.deref_mut.result.now.looks; writes = c.deref_mut.result.now.writes; numbers = numbers } in
@@ -253,10 +253,9 @@ returns-clause-later c =
     let tails : List ℕ = tail ∷ m.first.seen ∷ [] in
     let there : AreHeld p.own.held (Some lh) rows tails undrawn = subst (λ (p : PassView). AreHeld p.own.held (Some lh) rows tails undrawn) (sym m.reached.is) (held_there z m.first rows tx0 l m.ready m.told low tail m.reached.later m.reached.room) in
     let d : HasDrawn p q (Some lh) rows tails numbers = subst (λ (rows : List TakenRow). HasDrawn p q (Some lh) rows tails numbers) e
-        (c.draw_numbers.ensures.drawn (Some lh) tails (subst (λ (rows : List TakenRow). AreHeld p.own.held (Some lh) rows tails undrawn) (sym e) there)) in
+    (c.draw_numbers.ensures.drawn (Some lh) tails (subst (λ (rows : List TakenRow). AreHeld p.own.held (Some lh) rows tails undrawn) (sym e) there)) in
     let all : numbered numbers ≡ vars_of rows = subst (λ (rows : List TakenRow). numbered numbers ≡ vars_of rows) e c.draw_numbers.ensures.all in
     let dp : HasDrawn (with_room m.first l low tail) q (Some lh) rows tails numbers = subst (λ (p : PassView). HasDrawn p q (Some lh) rows tails numbers) m.reached.is d in
     let at = c.publish_commit-at.ensures.here in
     let s = ap (λ (z : PassView). z.seen) d.is in
     omega arith
-

@@ -25,11 +25,10 @@ loop-taken-preserved g c =
     let at = at_item c.args.rows.now c.loop-taken.taken-index c.taken-item.result c.loop-taken-test.true c.taken-item.is in
     let r = c.taken-item.result in
     let w = subst (λ (row : Row). HasWalked row c.loop-taken.pass c.check.new.pass) c.row.ensures c.check.ensures.pass in
-    let says = says_same c.check.new.pass c.row.result.now r.row c.question-q.result (asked_on c.args.base.now c.args.writes.now r.var) c.check.result c.row.ensures c.question-q.ensures c.check.ensures.race in
-    (
+    let says = says_same c.check.new.pass c.row.result.now r.row c.question-q.result (asked_on c.args.base.now c.args.writes.now r.var) c.check.result c.row.ensures c.question-q.ensures c.check.ensures.race in (
       knows_more r.row c.args.pass.now c.loop-taken.pass c.check.new.pass c.loop-taken.invariant.0 w,
       clear_next c.args.pass.now c.loop-taken.pass c.args.rows.now c.args.base.now c.args.writes.now c.requires.may c.loop-taken.invariant.0 c.loop-taken.taken-index r at c.check.new.pass w c.check.result says
-      (λ race. (let z : true ≡ false = sym (c.is_race.ensures.1 race) ∙ c.if-is_race.false in cc)) c.loop-taken.invariant.1,
+          (λ race. (let z : true ≡ false = sym (c.is_race.ensures.1 race) ∙ c.if-is_race.false in cc)) c.loop-taken.invariant.1,
       c.check.ensures.window ∙ c.loop-taken.invariant.2,
     )
 

@@ -18,10 +18,9 @@ loop-var-preserved c =
     let ids = c.ids-ids.result.now in
     let i = c.loop-var.var-index in
     let are = take_are ids i (subst AreVariables (sym c.ids-ids.ensures.same) c.keeps.ensures) c.loop-var-test.true in
-    let t = taken_more c.args.pass.now c.loop-var.pass c.take_row.new.pass (take i ids) c.loop-var.rows.items (get_or ids i 0) c.word_of.result c.in-Ok.row c.loop-var.invariant.0 are c.in-Ok.ensures.ok in
-    (
+    let t = taken_more c.args.pass.now c.loop-var.pass c.take_row.new.pass (take i ids) c.loop-var.rows.items (get_or ids i 0) c.word_of.result c.in-Ok.row c.loop-var.invariant.0 are c.in-Ok.ensures.ok in (
       subst (λ (l : List TakenRow). HaveTaken c.args.pass.now c.take_row.new.pass (take (i + 1) ids) l) (sym c.keep.ensures.items)
-      (subst (λ (ys : List ℕ). HaveTaken c.args.pass.now c.take_row.new.pass ys (c.loop-var.rows.items ++ record { var = get_or ids i 0; write = c.word_of.result; row = c.in-Ok.row } ∷ [])) (sym (take_more ids i 0 c.loop-var-test.true)) t),
+          (subst (λ (ys : List ℕ). HaveTaken c.args.pass.now c.take_row.new.pass ys (c.loop-var.rows.items ++ record { var = get_or ids i 0; write = c.word_of.result; row = c.in-Ok.row } ∷ [])) (sym (take_more ids i 0 c.loop-var-test.true)) t),
       subst (λ (l : List TakenRow). HaveWrites c.args.writes.now l) (sym c.keep.ensures.items) (writes_more c.args.writes.now c.loop-var.rows.items (record { var = get_or ids i 0; write = c.word_of.result; row = c.in-Ok.row }) c.loop-var.invariant.1 c.word_of.ensures),
       c.keep.ensures.room ∙ c.loop-var.invariant.2,
     )

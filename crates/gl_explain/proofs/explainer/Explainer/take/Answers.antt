@@ -46,10 +46,9 @@ returns g c = record {
       let items : c.push.new.self.items ≡ c.args.self.now.kept.items ++ k ∷ [] = search rules in
       let was : IsWritten (told_of c.deref.result.now) (string_bytes c.args.self.now.text) =
       subst (λ ks. IsWritten (told_of ks) (string_bytes c.args.self.now.text)) (sym c.deref.ensures.value) (subst (λ ds. IsWritten ds (string_bytes c.args.self.now.text)) (sym x.kept) x.written) in
-      let written : IsWritten (told_of kept ++ t ∷ []) (string_bytes c.explain.new.text) = subst (λ ks. IsWritten (told_of ks ++ t ∷ []) (string_bytes c.explain.new.text)) c.deref.ensures.value (c.in_ok-explain.ensures was) in
-      (
+      let written : IsWritten (told_of kept ++ t ∷ []) (string_bytes c.explain.new.text) = subst (λ ks. IsWritten (told_of ks ++ t ∷ []) (string_bytes c.explain.new.text)) c.deref.ensures.value (c.in_ok-explain.ensures was) in (
         c.in_ok-judged.judged,
         told_on kept done t c.known_at-known.result c.own_at-own.result c.mark_of-mark.result c.args.self.now.detector (record { detector = c.step.new.self; kept = c.push.new.self; text = c.explain.new.text })
-        x.kept x.follows x.are_kept f c.in_ok-judged.ensures.ready items c.own_at-own.ensures c.mark_of-mark.ensures written,
+            x.kept x.follows x.are_kept f c.in_ok-judged.ensures.ready items c.own_at-own.ensures c.mark_of-mark.ensures written,
       );
 }
