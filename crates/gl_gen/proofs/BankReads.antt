@@ -212,18 +212,18 @@ module _ (n : ℕ) (push : SaysPush n (codes "  push " ++ decimal n)) where
   all_add : built empty [] (read_from table none_yet 1 0 (bank_lines n)) ≡ Ok (draft_of (bank_program n), [])
   all_add =
       let D = fold added empty head_additions in
-      let D0 = with_transfer n 0 D in
-      let D1 = with_transfer n 1 D0 in
-      let D2 = with_transfer n 2 D1 in
-      let D3 = with_transfer n 3 D2 in
-      let D4 = with_transfer n 4 D3 in
-      let D5 = with_transfer n 5 D4 in
-      let D6 = with_transfer n 6 D5 in
+      let draft_0 = with_transfer n 0 D in
+      let draft_1 = with_transfer n 1 draft_0 in
+      let draft_2 = with_transfer n 2 draft_1 in
+      let draft_3 = with_transfer n 3 draft_2 in
+      let draft_4 = with_transfer n 4 draft_3 in
+      let draft_5 = with_transfer n 5 draft_4 in
+      let draft_6 = with_transfer n 6 draft_5 in
       lines_more table empty none_yet 1 head (lines_of 0 8) head_additions head_adds refl
       ∙ ap (λ c. built D [] (read_from table c (1 + length head) 0 (lines_of 0 8))) head_counts
-      ∙ adds_on 0 91 says_0 (lines_of 1 7) D ∙ adds_on 1 21 says_1 (lines_of 2 6) D0 ∙ adds_on 2 21 says_2 (lines_of 3 5) D1
-      ∙ adds_on 3 21 says_3 (lines_of 4 4) D2 ∙ adds_on 4 21 says_4 (lines_of 5 3) D3 ∙ adds_on 5 21 says_5 (lines_of 6 2) D4
-      ∙ adds_on 6 21 says_6 (lines_of 7 1) D5 ∙ adds_on 7 21 says_7 [] D6
+      ∙ adds_on 0 91 says_0 (lines_of 1 7) D ∙ adds_on 1 21 says_1 (lines_of 2 6) draft_0 ∙ adds_on 2 21 says_2 (lines_of 3 5) draft_1
+      ∙ adds_on 3 21 says_3 (lines_of 4 4) draft_2 ∙ adds_on 4 21 says_4 (lines_of 5 3) draft_3 ∙ adds_on 5 21 says_5 (lines_of 6 2) draft_4
+      ∙ adds_on 6 21 says_6 (lines_of 7 1) draft_5 ∙ adds_on 7 21 says_7 [] draft_6
 
   pub lines_say : lines_read (bank_lines n) ≡ Ok (draft_of (bank_program n), [])
   lines_say =
