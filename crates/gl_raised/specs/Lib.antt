@@ -1,2 +1,6 @@
 pub mod Accesses
+pub mod Earlier
+pub mod Judged
+pub mod Lasts
 pub mod RaceFaults
+pub mod Rows

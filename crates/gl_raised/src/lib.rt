@@ -2,5 +2,10 @@
 #![tactic(auto)]
 
 mod access;
+mod gather;
+mod judge;
+mod lasts;
+mod learn;
+mod rows;
 
 pub use access::{Access, Claim};

@@ -1,0 +1,87 @@
+// On which variables the entries are racy.
+ghost use Rattle.std.specs.Prelude.{◌≡◌, ℕ, ◌<◌, ◌+◌, All, List, IfOk, OnOk, Option, length, slice_get, slice_index_or, Some, None};
+ghost use Rattle.gl_model.specs.declared.limits.TheConstants.{VARIABLES};
+ghost use Rattle.gl_raised.specs.Accesses.{IsWithin};
+ghost use Rattle.gl_raised.specs.Judged.{AreLasts, AreLeast, least_of};
+ghost use Rattle.gl_raised.specs.declared.access.Access.{Access as AnAccess};
+
+use crate::access::Access;
+use crate::lasts::Lasts;
+use crate::rows::ALL;
+use gl_model::VARIABLES;
+use std::alloc::{AllocError, Global};
+
+// What is kept of each variable before the first access.
+fn no_lasts(alloc: Global) -> Result<Vec<Lasts>, AllocError>
+    ensures long { IfOk result (λ lasts. length lasts.items ≡ VARIABLES) }
+    ensures none { IfOk result (λ lasts. (us : List AnAccess) → AreLasts us 0 lasts.items) }
+{
+    let mut lasts = Vec::new(alloc);
+    for _ in 0..VARIABLES {
+        lasts.push(Lasts::none())?;
+    }
+    Ok(lasts)
+}
+
+// So many claims of which none is racy.
+fn no_races(alloc: Global, count: usize) -> Result<Vec<Option<u16>>, AllocError>
+    ensures long { IfOk result (λ least. length least.items ≡ count) }
+    ensures none { IfOk result (λ least. (known : List (List ℕ)) (us : List AnAccess) → AreLeast known us 0 least.items) }
+{
+    let mut least = Vec::new(alloc);
+    for _ in 0..count {
+        least.push(None)?;
+    }
+    Ok(least)
+}
+
+// The least of the variables so far and of this one.
+fn least_of(least: Option<u16>, var: u16) -> Option<u16>
+    ensures { result ≡ least_of least var }
+{
+    match least {
+        Some(before) => Some(before.min(var)),
+        None => Some(var),
+    }
+}
+
+// Takes one access more: it is judged by what is kept of its variable, and then noted there if it was performed.
+fn judge_one(
+    lasts: &mut [Lasts],
+    least: &mut [Option<u16>],
+    known: &[[u32; ALL]],
+    access: &Access,
+)
+    requires within { IsWithin (length least.old) access.now }
+    requires claims { length known.now ≡ length least.old }
+    requires variables { length lasts.old ≡ VARIABLES }
+    ensures long { (length lasts.new ≡ length lasts.old) × (length least.new ≡ length least.old) }
+    ensures lasts { (us : List AnAccess) (i : ℕ) → slice_get us i ≡ Some access.now → AreLasts us i lasts.old → AreLasts us (i + 1) lasts.new }
+    ensures least { (us : List AnAccess) (i : ℕ) → slice_get us i ≡ Some access.now → AreLasts us i lasts.old → AreLeast known.now us i least.old → AreLeast known.now us (i + 1) least.new }
+{
+    let kept = &mut lasts[access.var as usize];
+    if kept.fails(&known[access.claim], access) {
+        least[access.claim] = least_of(least[access.claim], access.var);
+    }
+    if access.performed {
+        kept.note(access);
+    }
+}
+
+/// The least variable on which each claim's entry is racy, where these are the accesses in the order of their numbers.
+pub(crate) fn least_races(
+    alloc: Global,
+    accesses: &[Access],
+    known: &[[u32; ALL]],
+) -> Result<Vec<Option<u16>>, AllocError>
+    requires within { All (λ a. IsWithin (length known.now) a) accesses.now }
+    ensures long { IfOk result (λ least. length least.items ≡ length known.now) }
+    ensures least { IfOk result (λ least. AreLeast known.now accesses.now (length accesses.now) least.items) }
+{
+    let mut lasts = no_lasts(alloc)?;
+    let mut least = no_races(alloc, known.len())?;
+    for access in accesses {
+        judge_one(&mut lasts, &mut least, known, access);
+    }
+    Ok(least)
+}
