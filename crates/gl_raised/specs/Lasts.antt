@@ -20,13 +20,16 @@ abbrev pub later : Option ℕ → ℕ → Option ℕ
 later None tick = Some tick
 later (Some before) tick = Some (max before tick)
 
-abbrev pub same_kind : Bool → Bool → Bool
-same_kind true b = b
-same_kind false b = not b
+-- the mark of a kind and a thread after the access, where it is of the kind
+abbrev pub noted_where : Access → Bool → ℕ → Option ℕ → Option ℕ
+noted_where a of_kind t last = if of_kind && (t == a.thread) then later last a.tick else last
 
 -- the mark of a kind and a thread after the access
 abbrev pub noted : Access → Bool → Bool → ℕ → Option ℕ → Option ℕ
-noted a commit write t last = if (same_kind a.commit commit && same_kind a.write write) && (t == a.thread) then later last a.tick else last
+noted a false false t last = noted_where a (not a.commit && not a.write) t last
+noted a false true t last = noted_where a (not a.commit && a.write) t last
+noted a true false t last = noted_where a (a.commit && not a.write) t last
+noted a true true t last = noted_where a (a.commit && a.write) t last
 
 -- a conflicting access of thread t is not known to who knows so much of it
 abbrev pub thread_fails : Lasts → ℕ → ℕ → Bool → Bool → Bool

@@ -1,8 +1,8 @@
 // What is kept of a variable: of each thread the last plain read, plain write, commit read and commit write.
-ghost use Rattle.std.specs.Prelude.{◌≡◌, ◌≢◌, ℕ, ◌<◌, ◌≤◌, ◌==◌, Bool, true, IsTrue, ◌↔◌, Option, None, slice_index_or, if◌then◌else◌};
+ghost use Rattle.std.specs.Prelude.{◌≡◌, ◌≢◌, ℕ, ◌<◌, ◌≤◌, Bool, true, IsTrue, ◌↔◌, Option, None, slice_index_or};
 ghost use Rattle.gl_core.specs.Cells.{at};
 ghost use Rattle.gl_model.specs.declared.limits.TheConstants.{THREADS};
-ghost use Rattle.gl_raised.specs.Lasts.{at_least, later, mark_of, noted, thread_fails};
+ghost use Rattle.gl_raised.specs.Lasts.{at_least, later, mark_of, noted, noted_where, thread_fails};
 
 use crate::access::Access;
 use crate::rows::ALL;
@@ -46,12 +46,14 @@ fn later(last: Option<u64>, tick: u64) -> Option<u64>
     }
 }
 
-// Notes an access of the thread.
-fn note_tick(ticks: &mut Ticks, thread: u8, tick: u64)
-    requires { thread < THREADS }
-    ensures { (t : ℕ) → slice_index_or ticks.new t None ≡ (if t == thread then later (slice_index_or ticks.old t None) tick else slice_index_or ticks.old t None) }
+// Notes the access, where it is of the kind.
+fn note_where(ticks: &mut Ticks, of_kind: bool, access: &Access)
+    requires { access.now.thread < THREADS }
+    ensures { (t : ℕ) → slice_index_or ticks.new t None ≡ noted_where access.now of_kind t (slice_index_or ticks.old t None) }
 {
-    ticks[thread as usize] = later(ticks[thread as usize], tick);
+    if of_kind {
+        ticks[access.thread as usize] = later(ticks[access.thread as usize], access.tick);
+    }
 }
 
 impl Lasts {
@@ -72,13 +74,11 @@ impl Lasts {
         requires { access.now.thread < THREADS }
         ensures { (commit write : Bool) (t : ℕ) → mark_of self.new commit write t ≡ noted access.now commit write t (mark_of self.old commit write t) }
     {
-        let ticks = match (access.commit, access.write) {
-            (false, false) => &mut self.plain_reads,
-            (false, true) => &mut self.plain_writes,
-            (true, false) => &mut self.commit_reads,
-            (true, true) => &mut self.commit_writes,
-        };
-        note_tick(ticks, access.thread, access.tick);
+        let Access { commit, write, .. } = *access;
+        note_where(&mut self.plain_reads, !commit & !write, access);
+        note_where(&mut self.plain_writes, !commit & write, access);
+        note_where(&mut self.commit_reads, commit & !write, access);
+        note_where(&mut self.commit_writes, commit & write, access);
     }
 
     // Whether an access that conflicts with one of thread t is not known to who knows so much of it: a commit and a commit do not

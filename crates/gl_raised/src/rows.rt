@@ -9,8 +9,7 @@ ghost use Rattle.gl_model.specs.Lists.{lists_of};
 ghost use Rattle.gl_model.specs.Records.{IsEventAt, IsEventList, event_of};
 ghost use Rattle.gl_model.specs.declared.event.Event.{Event};
 ghost use Rattle.gl_model.specs.declared.event.Stamp.{Stamp};
-ghost use Rattle.gl_model.specs.declared.limits.TheConstants.{THREADS, TX_VARIABLES, VARIABLES};
-ghost use Rattle.gl_model.specs.Rising.{with_one};
+ghost use Rattle.gl_model.specs.declared.limits.TheConstants.{THREADS};
 ghost use Rattle.gl_places.specs.Places.{AreEventPlaces, seen as seen_place};
 ghost use Rattle.gl_raised.specs.Rows.{AreBlockClocks, IsClockOfNext};
 
@@ -22,14 +21,6 @@ use std::alloc::{AllocError, Global};
 /// The threads as a length.
 pub(crate) const ALL: usize = THREADS as usize;
 
-// Puts a variable in that is greater than the others, where there is room.
-fn insert_last(all: &mut VarSet, var: u16)
-    requires { var < VARIABLES }
-    ensures { length (with_one var all.old) ≤ TX_VARIABLES → all.new ≡ with_one var all.old }
-{
-    let _ = all.insert(var);
-}
-
 // The variables that the numbers name.
 fn named(numbers: &Numbers) -> VarSet
     ensures { result ≡ map (λ n. n.var) numbers.now }
@@ -40,7 +31,10 @@ fn named(numbers: &Numbers) -> VarSet
         let Some(number) = numbers.at(i) else {
             return all;
         };
-        insert_last(&mut all, number.var);
+        match all.insert(number.var) {
+            Ok(()) => {}
+            Err(_) => unreachable!(),
+        }
     }
     all
 }
