@@ -1,3 +1,4 @@
 mod Blocks
 mod Kept
 mod Orders
+mod Walked

@@ -1,6 +1,7 @@
 -- What the judge knows after the first i accesses.
 use Rattle.std.specs.Prelude.{◌≡◌, ◌≢◌, ℕ, ◌<◌, ◌≤◌, ◌⊎◌, ◌↔◌, Bool, true, false, min, List, slice_get, Option, Some, None}
 use Rattle.gl_core.specs.Cells.{cell}
+use Rattle.gl_model.specs.declared.limits.TheConstants.{THREADS}
 use Rattle.gl_raised.specs.Earlier.{Earlier}
 use Rattle.gl_raised.specs.Lasts.{at_least, mark_of}
 use Rattle.gl_raised.specs.declared.access.Access.{Access}
@@ -42,3 +43,7 @@ AreLeast known us i least = (k : ℕ) (o : Option ℕ) → slice_get least k ≡
 abbrev pub least_of : Option ℕ → ℕ → Option ℕ
 least_of None x = Some x
 least_of (Some before) x = Some (min before x)
+
+-- each access is of a thread that there is
+abbrev pub AreOfThreads : List Access → Type 0
+AreOfThreads us = (j : ℕ) (v : Access) → slice_get us j ≡ Some v → v.thread < THREADS

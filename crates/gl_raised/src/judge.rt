@@ -1,8 +1,8 @@
 // On which variables the entries are racy.
-ghost use Rattle.std.specs.Prelude.{◌≡◌, ℕ, ◌<◌, ◌+◌, All, List, IfOk, OnOk, Option, length, slice_get, slice_index_or, Some, None};
-ghost use Rattle.gl_model.specs.declared.limits.TheConstants.{VARIABLES};
+ghost use Rattle.std.specs.Prelude.{◌≡◌, ◌↔◌, ℕ, ◌<◌, ◌+◌, true, All, List, IfOk, OnOk, Option, length, slice_get, slice_index_or, Some, None};
+ghost use Rattle.gl_model.specs.declared.limits.TheConstants.{THREADS, VARIABLES};
 ghost use Rattle.gl_raised.specs.Accesses.{IsWithin};
-ghost use Rattle.gl_raised.specs.Judged.{AreLasts, AreLeast, least_of};
+ghost use Rattle.gl_raised.specs.Judged.{AreLasts, AreLeast, AreOfThreads, IsRacyBy, least_of};
 ghost use Rattle.gl_raised.specs.declared.access.Access.{Access as AnAccess};
 
 use crate::access::Access;
@@ -45,26 +45,37 @@ fn least_of(least: Option<u16>, var: u16) -> Option<u16>
     }
 }
 
-// Takes one access more: it is judged by what is kept of its variable, and then noted there if it was performed.
-fn judge_one(
-    lasts: &mut [Lasts],
-    least: &mut [Option<u16>],
-    known: &[[u32; ALL]],
-    access: &Access,
-)
-    requires within { IsWithin (length least.old) access.now }
-    requires claims { length known.now ≡ length least.old }
-    requires variables { length lasts.old ≡ VARIABLES }
-    ensures long { (length lasts.new ≡ length lasts.old) × (length least.new ≡ length least.old) }
-    ensures lasts { (us : List AnAccess) (i : ℕ) → slice_get us i ≡ Some access.now → AreLasts us i lasts.old → AreLasts us (i + 1) lasts.new }
-    ensures least { (us : List AnAccess) (i : ℕ) → slice_get us i ≡ Some access.now → AreLasts us i lasts.old → AreLeast known.now us i least.old → AreLeast known.now us (i + 1) least.new }
+// Whether an access is racy by what is kept of its variable.
+fn is_racy(lasts: &[Lasts], known: &[[u32; ALL]], access: &Access) -> bool
+    requires variable { access.now.var < length lasts.now }
+    requires claim { access.now.claim < length known.now }
+    ensures { (us : List AnAccess) (i : ℕ) → AreOfThreads us → AreLasts us i lasts.now → (result ≡ true) ↔ IsRacyBy known.now us i access.now }
 {
-    let kept = &mut lasts[access.var as usize];
-    if kept.fails(&known[access.claim], access) {
+    lasts[access.var as usize].fails(&known[access.claim], access)
+}
+
+// Notes that the access is racy, where it is.
+fn note_racy(least: &mut [Option<u16>], access: &Access, racy: bool)
+    requires { access.now.claim < length least.old }
+    ensures long { length least.new ≡ length least.old }
+    ensures least { (known : List (List ℕ)) (us : List AnAccess) (i : ℕ) → slice_get us i ≡ Some access.now → (racy ≡ true) ↔ IsRacyBy known us i access.now → AreLeast known us i least.old → AreLeast known us (i + 1) least.new }
+{
+    if racy {
         least[access.claim] = least_of(least[access.claim], access.var);
     }
+}
+
+// Notes the access, where it was performed.
+fn note_last(lasts: &mut [Lasts], access: &Access)
+    requires thread { access.now.thread < THREADS }
+    requires variable { access.now.var < length lasts.old }
+    ensures long { length lasts.new ≡ length lasts.old }
+    ensures lasts { (us : List AnAccess) (i : ℕ) → slice_get us i ≡ Some access.now → AreLasts us i lasts.old → AreLasts us (i + 1) lasts.new }
+{
     if access.performed {
-        kept.note(access);
+        let mut last = lasts[access.var as usize];
+        last.note(access);
+        lasts[access.var as usize] = last;
     }
 }
 
@@ -81,7 +92,9 @@ pub(crate) fn least_races(
     let mut lasts = no_lasts(alloc)?;
     let mut least = no_races(alloc, known.len())?;
     for access in accesses {
-        judge_one(&mut lasts, &mut least, known, access);
+        let racy = is_racy(&lasts, known, access);
+        note_racy(&mut least, access, racy);
+        note_last(&mut lasts, access);
     }
     Ok(least)
 }

@@ -12,14 +12,12 @@ use gl_model::VARIABLES;
 use std::alloc::{AllocError, Global};
 
 // A clock that knows what both know.
-fn join(into: &[u32; ALL], from: &[u32; ALL]) -> [u32; ALL]
-    ensures { (u : ℕ) → at result u ≡ max (at into.now u) (at from.now u) }
+fn join(into: &mut [u32; ALL], from: &[u32; ALL])
+    ensures { (u : ℕ) → at into.new u ≡ max (at into.old u) (at from.now u) }
 {
-    let mut both = *into;
     for u in 0..ALL {
-        both[u] = both[u].max(from[u]);
+        into[u] = into[u].max(from[u]);
     }
-    both
 }
 
 // One clock of a table joined with a clock.
@@ -28,8 +26,9 @@ fn raise(table: &mut [[u32; ALL]], i: usize, by: &[u32; ALL])
     ensures long { length table.new ≡ length table.old }
     ensures joined { (j u : ℕ) → cell table.new j u ≡ (if j == i then max (cell table.old j u) (at by.now u) else cell table.old j u) }
 {
-    let clock = table[i];
-    table[i] = join(&clock, by);
+    let mut clock = table[i];
+    join(&mut clock, by);
+    table[i] = clock;
 }
 
 // What a commit hands on, where these are the clocks of the blocks.
@@ -65,27 +64,27 @@ fn no_clocks(alloc: Global, count: usize) -> Result<Vec<[u32; ALL]>, AllocError>
     Ok(table)
 }
 
-// Takes one access more: a commit is handed on to its variable, a refused one learns what the variable knows.
-fn learn_one(
-    rows: &[[u32; ALL]],
-    learned: &mut [[u32; ALL]],
-    known: &mut [[u32; ALL]],
-    access: &Access,
-)
-    requires within { IsWithin (length known.old) access.now }
-    requires variables { length learned.old ≡ VARIABLES }
-    ensures long { (length learned.new ≡ length learned.old) × (length known.new ≡ length known.old) }
+// A commit is handed on to its variable.
+fn hand_on(rows: &[[u32; ALL]], learned: &mut [[u32; ALL]], access: &Access)
+    requires thread { access.now.thread < THREADS }
+    requires variables { access.now.var < length learned.old }
+    ensures long { length learned.new ≡ length learned.old }
     ensures learned { (us : List AnAccess) (i : ℕ) → slice_get us i ≡ Some access.now → VariablesKnow rows.now us i learned.old → VariablesKnow rows.now us (i + 1) learned.new }
-    ensures known { (us : List AnAccess) (i : ℕ) (first : List (List ℕ)) → slice_get us i ≡ Some access.now → VariablesKnow rows.now us i learned.old → ClaimsKnow rows.now us i first known.old → ClaimsKnow rows.now us (i + 1) first known.new }
 {
-    let var = access.var as usize;
-    if access.commit {
-        if access.performed {
-            raise(learned, var, &handed_on(rows, access));
-        } else {
-            let clock = learned[var];
-            raise(known, access.claim, &clock);
-        }
+    if access.commit & access.performed {
+        raise(learned, access.var as usize, &handed_on(rows, access));
+    }
+}
+
+// A refused commit learns what its variable knows.
+fn learn_one(learned: &[[u32; ALL]], known: &mut [[u32; ALL]], access: &Access)
+    requires claim { access.now.claim < length known.old }
+    requires variables { access.now.var < length learned.now }
+    ensures long { length known.new ≡ length known.old }
+    ensures known { (rows : List (List ℕ)) (us : List AnAccess) (i : ℕ) (first : List (List ℕ)) → slice_get us i ≡ Some access.now → VariablesKnow rows us i learned.now → ClaimsKnow rows us i first known.old → ClaimsKnow rows us (i + 1) first known.new }
+{
+    if access.commit & !access.performed {
+        raise(known, access.claim, &learned[access.var as usize]);
     }
 }
 
@@ -103,7 +102,8 @@ pub(crate) fn learn(
 {
     let mut learned = no_clocks(alloc, VARIABLES as usize)?;
     for access in accesses {
-        learn_one(rows, &mut learned, known, access);
+        learn_one(&learned, known, access);
+        hand_on(rows, &mut learned, access);
     }
     Ok(())
 }
