@@ -1,4 +1,7 @@
 mod Blocks
+mod Cells
 mod Kept
+mod Lasting
+mod Numbered
 mod Orders
 mod Walked

@@ -126,3 +126,17 @@ handed_first rows us table none x u n = (λ l. absurd (let z = none x u in omega
 
 pub learned_first : (rows : List (List ℕ)) (us : List Access) (known : List (List ℕ)) → ClaimsKnow rows us 0 known known
 learned_first rows us known k u n = (λ l. inl l, λ h. elim h [ inl f ↦ f | inr w ↦ absurd (let l = w.2 in omega arith) ])
+
+pub not_true : (b : Bool) → not b ≡ true → b ≡ false
+not_true true e = cc
+not_true false e = refl
+
+pub not_false : (b : Bool) → b ≡ false → not b ≡ true
+not_false true e = cc
+not_false false e = refl
+
+-- a table raised by a clock that is this one
+pub table_raised :
+    (old new : List (List ℕ)) (i : ℕ) (clock : List ℕ) {f : ℕ → ℕ} → ((j u : ℕ) → cell new j u ≡ (if j == i then max (cell old j u) (at clock u) else cell old j u)) → ((u : ℕ) → at clock u ≡ f u) →
+    (j u : ℕ) → cell new j u ≡ (if j == i then max (cell old j u) (f u) else cell old j u)
+table_raised old new i clock {f = f} raised is j u = raised j u ∙ ap (λ z. if j == i then max (cell old j u) z else cell old j u) (is u)
