@@ -1,10 +1,12 @@
 -- What a record keeps to, entry by entry.
-use Rattle.std.proofs.Common.{◌≡◌, refl, ℕ, zero, suc, ◌<◌, ◌==◌, Bool, true, false, List, [], ◌∷◌, subst, Some, None}
-use Rattle.std.specs.Prelude.{Option, if◌then◌else◌, slice_get, unwrap_or}
+use Rattle.std.proofs.Common.{◌≡◌, refl, ap, sym, ◌∙◌, ℕ, zero, suc, ◌<◌, ◌≤◌, ◌==◌, Bool, true, false, Bor, List, [], ◌∷◌, length, map, get_or, subst, Some, None}
+use Rattle.std.specs.Prelude.{Option, IfSome, MatchOption, if◌then◌else◌, option_map, slice_get, unwrap_or}
 use Rattle.std.specs.List.{AllByRecursion}
 use Rattle.std.proofs.lemmas.Bool.{eqb-true}
 use Rattle.gl_model.specs.declared.limits.TheConstants.{THREADS}
-use Rattle.gl_model.specs.Entries.{Entry}
+use Rattle.std.proofs.lemmas.Option.{slice_get-get_or, slice_get-map, slice_get_past}
+use Rattle.gl_model.specs.Entries.{Entry, seen}
+use Rattle.gl_model.specs.declared.record.Entry.{Entry as StoredEntry}
 use Rattle.gl_model.specs.Kept.{IsEntryKept, IsListKept, IsRecord}
 use Rattle.gl_model.specs.Lists.{list_of, lists_of}
 
@@ -27,3 +29,28 @@ entry_kept ls kept t i e at = by (list_of ls t) refl at
     by : (o : Option (List Entry)) → list_of ls t ≡ o → slice_get (unwrap_or o []) i ≡ Some e → (t < THREADS) × IsEntryKept e
     by None eq at' = absurd (cc)
     by (Some es) eq at' = let k = list_kept ls kept.1 t es eq in (k.0, at_kept es k.1 i e at')
+
+-- what a look at a place of a list finds
+entry_looked :
+    (B : Bor StoredEntry → Type 0) (o : Option (Bor StoredEntry)) (es : List StoredEntry) (i : ℕ) → IfSome o (λ x. x.now ≡ get_or es i x.now) → MatchOption o (length es ≤ i) (λ x. (i < length es) × B x) →
+    MatchOption o (slice_get (map seen es) i ≡ None) (λ e. slice_get (map seen es) i ≡ Some (seen e.now))
+entry_looked B None es i is found = slice_get-map seen es i ∙ ap (option_map seen) (slice_get_past es i found)
+entry_looked B (Some x) es i is found = slice_get-map seen es i ∙ ap (option_map seen) (slice_get-get_or es i x.now found.0 ∙ ap Some (sym is))
+
+-- and at a place of a record
+pub entry_there :
+    (B : Bor StoredEntry → Type 0) (o : Option (Bor StoredEntry)) (ls : List (ℕ × List Entry)) (t i : ℕ) (es : List StoredEntry) → IsRecord ls → list_of ls t ≡ Some (map seen es) →
+    IfSome o (λ x. x.now ≡ get_or es i x.now) → MatchOption o (length es ≤ i) (λ x. (i < length es) × B x) →
+    (t < THREADS) × MatchOption o (slice_get (lists_of ls t) i ≡ None) (λ e. slice_get (lists_of ls t) i ≡ Some (seen e.now)) × IfSome o (λ e. IsEntryKept (seen e.now))
+entry_there B o ls t i es kept list is found =
+    let k = list_kept ls kept.1 t (map seen es) list in
+    let looked = entry_looked B o es i is found in
+    (k.0, there o looked, each o looked)
+  where
+    there : (o : Option (Bor StoredEntry)) → MatchOption o (slice_get (map seen es) i ≡ None) (λ e. slice_get (map seen es) i ≡ Some (seen e.now)) → MatchOption o (slice_get (lists_of ls t) i ≡ None) (λ e. slice_get (lists_of ls t) i ≡ Some (seen e.now))
+    there None e = rw list e
+    there (Some x) e = rw list e
+
+    each : (o : Option (Bor StoredEntry)) → MatchOption o (slice_get (map seen es) i ≡ None) (λ e. slice_get (map seen es) i ≡ Some (seen e.now)) → IfSome o (λ e. IsEntryKept (seen e.now))
+    each None e = tt
+    each (Some x) e = at_kept (map seen es) (list_kept ls kept.1 t (map seen es) list).1 i (seen x.now) e

@@ -1,6 +1,9 @@
 -- What is kept of a variable, with one access more, and what it tells of the next.
 use Rattle.std.proofs.Common.{rules, ◌≡◌, ◌≢◌, ℕ, zero, suc, ◌+◌, ◌-◌, ◌<◌, ◌≤◌, ◌==◌, List, [], ◌∷◌, length, Bool, true, false, not, refl, ap, sym, ◌∙◌, subst, inl, inr, arith, Some, None, eq-eqb, ne_eqb}
-use Rattle.std.specs.Prelude.{◌⊎◌, ◌↔◌, ◌&&◌, ◌||◌, if◌then◌else◌, max, min, nat_le, slice_get, slice_index_or, slice_set, Option}
+use Rattle.std.specs.Prelude.{◌⊎◌, ◌↔◌, ◌&&◌, ◌||◌, if◌then◌else◌, max, min, nat_le, slice_get, slice_index_or, slice_set, Option, All}
+use Rattle.std.proofs.lemmas.List.Elements.{All-get_or}
+use Rattle.std.proofs.lemmas.Option.{slice_get_within, get_or_from_slice_get}
+use Rattle.gl_raised.specs.Accesses.{IsWithin}
 use Rattle.std.proofs.lemmas.Bool.{cases_lt, eqb-true}
 use Rattle.gl_core.specs.Cells.{at, cell}
 use Rattle.gl_core.proofs.Marking.{or_cases, or_left, or_right, and_both, and_true}
@@ -205,6 +208,9 @@ racy_means known us i a lasts l answer there threads know is = (
 )
 
 pub least_cells :
-    (old : List (Option ℕ)) (k x : ℕ) (o : Option ℕ) → o ≡ least_of (slice_index_or old k None) x →
-    (m : ℕ) (p : Option ℕ) → slice_get (slice_set old k o) m ≡ Some p → ((m ≡ k) × (p ≡ least_of (slice_index_or old k None) x)) ⊎ ((m ≢ k) × (slice_get old m ≡ Some p))
-least_cells old k x o is m p e = elim (set_cells old k o m p e) [ inl s ↦ inl (s.0, s.1 ∙ is) | inr w ↦ inr w ]
+    (old : List (Option ℕ)) (k x : ℕ) (was o : Option ℕ) → o ≡ least_of was x →
+    (m : ℕ) (p : Option ℕ) → slice_get (slice_set old k o) m ≡ Some p → ((m ≡ k) × (p ≡ least_of was x)) ⊎ ((m ≢ k) × (slice_get old m ≡ Some p))
+least_cells old k x was o is m p e = elim (set_cells old k o m p e) [ inl s ↦ inl (s.0, s.1 ∙ is) | inr w ↦ inr w ]
+
+pub threads_of : (n : ℕ) (us : List Access) → All (λ a. IsWithin n a) us → AreOfThreads us
+threads_of n us all j v e = let w = All-get_or (λ a. IsWithin n a) us j v (slice_get_within us j v e) all in subst (λ (a : Access). a.thread < THREADS) (get_or_from_slice_get us j v v e) w.1

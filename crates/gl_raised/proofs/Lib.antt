@@ -1,3 +1,4 @@
+mod BlockRows
 mod Blocks
 mod Cells
 mod Kept

@@ -1,5 +1,6 @@
 pub mod Accesses
 pub mod Earlier
+pub mod Gathers
 pub mod Judged
 pub mod Lasts
 pub mod RaceFaults

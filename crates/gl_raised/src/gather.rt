@@ -1,6 +1,7 @@
 // The claims of a record's entries, and their accesses.
-ghost use Rattle.std.specs.Prelude.{◌≡◌, ℕ, ◌<◌, ◌++◌, All, IfOk, OnOk, map, vec_len, length};
-ghost use Rattle.gl_model.specs.Entries.{seen};
+ghost use Rattle.std.specs.Prelude.{◌≡◌, ℕ, ◌+◌, ◌++◌, List, IfOk, OnOk, map, length};
+ghost use Rattle.gl_model.specs.Entries.{Entry as AnEntry, seen};
+ghost use Rattle.gl_raised.specs.Gathers.{AreGathered};
 ghost use Rattle.gl_model.specs.Kept.{IsEntryKept, AreVariables};
 ghost use Rattle.gl_model.specs.Lists.{lists_of};
 ghost use Rattle.gl_model.specs.Records.{position_of};
@@ -149,4 +150,38 @@ impl Gathered {
         })?;
         Ok(())
     }
+}
+
+// Adds the entries of a thread's list.
+fn add_list(all: &mut Gathered, thread: u8, list: &[Entry]) -> Result<(), AllocError>
+    ensures { OnOk result ((R : ℕ → List AnEntry) → R thread ≡ map seen list.now → AreGathered R (record { thread = thread; index = 0 }) all.old.claims.items all.old.accesses.items → AreGathered R (record { thread = thread + 1; index = 0 }) all.new.claims.items all.new.accesses.items) }
+{
+    let mut block = 0;
+    for (index, entry) in list.iter().enumerate() {
+        block = block_after(block, entry);
+        let place = Place {
+            thread,
+            index: index as u64,
+        };
+        all.add_accesses(thread, block, entry)?;
+        all.add_claim(place, block, entry)?;
+    }
+    Ok(())
+}
+
+/// The claims of a record's entries, by thread and then by place, and their accesses.
+pub(crate) fn gather(alloc: Global, made: &Record) -> Result<Gathered, AllocError>
+    ensures { IfOk result (λ all. AreGathered (lists_of made.now) (record { thread = THREADS; index = 0 }) all.claims.items all.accesses.items) }
+{
+    made.keeps();
+    let mut all = Gathered {
+        claims: Vec::new(alloc),
+        accesses: Vec::new(alloc),
+    };
+    for thread in 0..THREADS {
+        if let Some(list) = made.thread(thread) {
+            add_list(&mut all, thread, list)?;
+        }
+    }
+    Ok(all)
 }

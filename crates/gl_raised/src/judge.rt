@@ -55,10 +55,10 @@ fn is_racy(lasts: &[Lasts], known: &[[u32; ALL]], access: &Access) -> bool
 }
 
 // Notes that the access is racy, where it is.
-fn note_racy(least: &mut [Option<u16>], access: &Access, racy: bool)
-    requires { access.now.claim < length least.old }
-    ensures long { length least.new ≡ length least.old }
-    ensures least { (known : List (List ℕ)) (us : List AnAccess) (i : ℕ) → slice_get us i ≡ Some access.now → (racy ≡ true) ↔ IsRacyBy known us i access.now → AreLeast known us i least.old → AreLeast known us (i + 1) least.new }
+fn note_racy(least: &mut Vec<Option<u16>>, access: &Access, racy: bool)
+    requires { access.now.claim < length least.old.items }
+    ensures long { length least.new.items ≡ length least.old.items }
+    ensures least { (known : List (List ℕ)) (us : List AnAccess) (i : ℕ) → slice_get us i ≡ Some access.now → (racy ≡ true) ↔ IsRacyBy known us i access.now → AreLeast known us i least.old.items → AreLeast known us (i + 1) least.new.items }
 {
     if racy {
         least[access.claim] = least_of(least[access.claim], access.var);
@@ -66,11 +66,11 @@ fn note_racy(least: &mut [Option<u16>], access: &Access, racy: bool)
 }
 
 // Notes the access, where it was performed.
-fn note_last(lasts: &mut [Lasts], access: &Access)
+fn note_last(lasts: &mut Vec<Lasts>, access: &Access)
     requires thread { access.now.thread < THREADS }
-    requires variable { access.now.var < length lasts.old }
-    ensures long { length lasts.new ≡ length lasts.old }
-    ensures lasts { (us : List AnAccess) (i : ℕ) → slice_get us i ≡ Some access.now → AreLasts us i lasts.old → AreLasts us (i + 1) lasts.new }
+    requires variable { access.now.var < length lasts.old.items }
+    ensures long { length lasts.new.items ≡ length lasts.old.items }
+    ensures lasts { (us : List AnAccess) (i : ℕ) → slice_get us i ≡ Some access.now → AreLasts us i lasts.old.items → AreLasts us (i + 1) lasts.new.items }
 {
     if access.performed {
         let mut last = lasts[access.var as usize];

@@ -21,10 +21,10 @@ fn join(into: &mut [u32; ALL], from: &[u32; ALL])
 }
 
 // One clock of a table joined with a clock.
-fn raise(table: &mut [[u32; ALL]], i: usize, by: &[u32; ALL])
-    requires { i < length table.old }
-    ensures long { length table.new ≡ length table.old }
-    ensures joined { (j u : ℕ) → cell table.new j u ≡ (if j == i then max (cell table.old j u) (at by.now u) else cell table.old j u) }
+fn raise(table: &mut Vec<[u32; ALL]>, i: usize, by: &[u32; ALL])
+    requires { i < length table.old.items }
+    ensures long { length table.new.items ≡ length table.old.items }
+    ensures joined { (j u : ℕ) → cell table.new.items j u ≡ (if j == i then max (cell table.old.items j u) (at by.now u) else cell table.old.items j u) }
 {
     let mut clock = table[i];
     join(&mut clock, by);
@@ -65,11 +65,11 @@ fn no_clocks(alloc: Global, count: usize) -> Result<Vec<[u32; ALL]>, AllocError>
 }
 
 // A commit is handed on to its variable.
-fn hand_on(rows: &[[u32; ALL]], learned: &mut [[u32; ALL]], access: &Access)
+fn hand_on(rows: &[[u32; ALL]], learned: &mut Vec<[u32; ALL]>, access: &Access)
     requires thread { access.now.thread < THREADS }
-    requires variables { access.now.var < length learned.old }
-    ensures long { length learned.new ≡ length learned.old }
-    ensures learned { (us : List AnAccess) (i : ℕ) → slice_get us i ≡ Some access.now → VariablesKnow rows.now us i learned.old → VariablesKnow rows.now us (i + 1) learned.new }
+    requires variables { access.now.var < length learned.old.items }
+    ensures long { length learned.new.items ≡ length learned.old.items }
+    ensures learned { (us : List AnAccess) (i : ℕ) → slice_get us i ≡ Some access.now → VariablesKnow rows.now us i learned.old.items → VariablesKnow rows.now us (i + 1) learned.new.items }
 {
     if access.commit & access.performed {
         raise(learned, access.var as usize, &handed_on(rows, access));
@@ -77,11 +77,11 @@ fn hand_on(rows: &[[u32; ALL]], learned: &mut [[u32; ALL]], access: &Access)
 }
 
 // A refused commit learns what its variable knows.
-fn learn_one(learned: &[[u32; ALL]], known: &mut [[u32; ALL]], access: &Access)
-    requires claim { access.now.claim < length known.old }
+fn learn_one(learned: &[[u32; ALL]], known: &mut Vec<[u32; ALL]>, access: &Access)
+    requires claim { access.now.claim < length known.old.items }
     requires variables { access.now.var < length learned.now }
-    ensures long { length known.new ≡ length known.old }
-    ensures known { (rows : List (List ℕ)) (us : List AnAccess) (i : ℕ) (first : List (List ℕ)) → slice_get us i ≡ Some access.now → VariablesKnow rows us i learned.now → ClaimsKnow rows us i first known.old → ClaimsKnow rows us (i + 1) first known.new }
+    ensures long { length known.new.items ≡ length known.old.items }
+    ensures known { (rows : List (List ℕ)) (us : List AnAccess) (i : ℕ) (first : List (List ℕ)) → slice_get us i ≡ Some access.now → VariablesKnow rows us i learned.now → ClaimsKnow rows us i first known.old.items → ClaimsKnow rows us (i + 1) first known.new.items }
 {
     if access.commit & !access.performed {
         raise(known, access.claim, &learned[access.var as usize]);
