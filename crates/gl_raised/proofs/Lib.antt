@@ -1,6 +1,7 @@
 mod BlockRows
 mod Blocks
 mod Cells
+mod Gathering
 mod Kept
 mod Lasting
 mod Numbered

@@ -1,4 +1,5 @@
 use Rattle.std.proofs.Common.{◌≡◌, ◌+◌, ◌∙◌, arith, length, map, subst, sym}
+use Rattle.std.proofs.lemmas.List.{length-map}
 use Rattle.gl_model.specs.Lists.{lists_of}
 use Rattle.gl_places.specs.Places.{seen as seen_place}
 use Rattle.gl_raised.proofs.BlockRows.{AreRows, all_rows, next_row, place_at}
@@ -18,4 +19,8 @@ loop-place-preserved c =
     subst (λ rows. AreRows R (i + 1) rows c.next_clock.new.tables) (sym c.in_ok-push.ensures.items) next
 
 pub returns : goal.returns
-returns c = ?
+returns c =
+    let R = lists_of c.args.made.now in
+    let places = map seen_place c.args.places.now in
+    let all : c.loop-place.place-index ≡ length places = (let a = c.loop-place-test.false in let b = c.loop-place.auto.place-index-end in let n = length-map c.args.places.now seen_place in omega arith) in
+    all_rows R places c.loop-place.rows.items c.loop-place.tables c.requires.places (subst (λ i. AreRows R i c.loop-place.rows.items c.loop-place.tables) all c.loop-place.invariant)
