@@ -1,15 +1,16 @@
 -- The claims and the accesses of a record, with one entry more.
-use Rattle.std.proofs.Common.{◌≡◌, ◌≢◌, ℕ, zero, suc, ◌+◌, ◌<◌, ◌≤◌, List, [], ◌∷◌, ◌++◌, length, map, take, Bool, true, false, refl, ap, sym, ◌∙◌, subst, inl, inr, arith, Some, None, append-nil}
-use Rattle.std.specs.Prelude.{◌⊎◌, ◌↔◌, Contains, Option, slice_get, unwrap_or, if◌then◌else◌}
+use Rattle.std.proofs.Common.{◌≡◌, ◌≢◌, ℕ, zero, suc, ◌+◌, ◌<◌, ◌≤◌, List, [], ◌∷◌, ◌++◌, length, map, take, get_or, Bool, true, false, refl, ap, sym, ◌∙◌, subst, inl, inr, arith, Some, None, append-nil}
+use Rattle.std.specs.Prelude.{◌⊎◌, ◌↔◌, Contains, Option, option_map, slice_get, unwrap_or, if◌then◌else◌}
 use Rattle.std.proofs.lemmas.Bool.{cases_lt}
 use Rattle.std.proofs.Math.Nat.{eq-or-lt_of_le}
 use Rattle.std.proofs.lemmas.List.{take_more}
 use Rattle.std.proofs.lemmas.List.Elements.{Contains-append_left, Contains-append_right, Contains-append_cases}
-use Rattle.std.proofs.lemmas.Option.{slice_get_within, get_or_from_slice_get}
+use Rattle.std.proofs.lemmas.Option.{slice_get_within, slice_get-get_or, slice_get-map, get_or_from_slice_get}
 use Rattle.gl_draws.specs.Ties.{or_else, last_position}
 use Rattle.gl_laws.proofs.Bridge.{same_place}
 use Rattle.gl_model.specs.declared.tx.Why.TheVariants.{Changed, Raised}
-use Rattle.gl_model.specs.Entries.{Entry, Sync, Commit, Plain, Abort, Trim, Over}
+use Rattle.gl_model.specs.Entries.{Entry, Sync, Commit, Plain, Abort, Trim, Over, seen as seen_entry}
+use Rattle.gl_model.specs.declared.record.Entry.{Entry as StoredEntry}
 use Rattle.gl_model.specs.Records.{Lists, Place, EntryAt, position_of}
 use Rattle.gl_places.specs.Places.{Before, seen}
 use Rattle.gl_places.specs.declared.place.Place.{Place as StoredPlace}
@@ -100,15 +101,13 @@ module _ (R : Lists) (t i b : ℕ) (p : StoredPlace) (is_place : seen p ≡ reco
     parts = so_far.parts;
   }
 
-  its : Claim
+  abbrev its : Claim
   its = record { place = p; block = b; raised = raised_on e }
 
   its_claim : IsAccess e → IsClaimOf R its e
-  unfolding its
   its_claim is = record { there = here; is_access = is; raised = refl; block = is_block ∙ ap (λ u. block_before (R u) (i + 1)) (sym of_thread) ∙ ap (λ j. block_before (R p.thread) (j + 1)) (sym of_index) }
 
   last : (a : Access) (k : ℕ) (l : Claim) (f : Entry) → k ≡ length claims → l ≡ its → EntryAt R (seen l.place) f → Contains (accesses_of k l.place.thread l.block f) a → Contains (accesses_of (length claims) t b e) a
-  unfolding its
   last a k l f at same there' c =
       let moved : EntryAt R (seen p) f = subst (λ (m : Claim). EntryAt R (seen m.place) f) same there' in
       let c1 : Contains (accesses_of k p.thread b f) a = subst (λ (m : Claim). Contains (accesses_of k m.place.thread m.block f) a) same c in
@@ -117,7 +116,6 @@ module _ (R : Lists) (t i b : ℕ) (p : StoredPlace) (is_place : seen p ≡ reco
       subst (λ j. Contains (accesses_of j t b e) a) at c3
 
   with_one : IsAccess e → AreGathered R (record { thread = t; index = i + 1 }) (claims ++ its ∷ []) (accesses ++ accesses_of (length claims) t b e)
-  unfolding its
   with_one is = record {
     claim = λ k l a. elim (claim_cases claims its l k a) [
       | inl old ↦ (next_before (seen l.place) t i (so_far.claim k l old).0, (so_far.claim k l old).1)
@@ -176,3 +174,7 @@ gathered_first R = record {
   rising = λ j k l m a b lt. absurd (cc);
   parts = λ a. (λ c. absurd (let z = c.1 in omega arith), λ w. absurd (let z = w.1.1.1 in cc));
 }
+
+-- the entry at i, where the entries are seen
+pub seen_at : (es : List StoredEntry) (i : ℕ) (d : StoredEntry) → i < length es → slice_get (map seen_entry es) i ≡ Some (seen_entry (get_or es i d))
+seen_at es i d l = slice_get-map seen_entry es i ∙ ap (option_map seen_entry) (slice_get-get_or es i d l)

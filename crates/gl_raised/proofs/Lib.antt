@@ -6,4 +6,6 @@ mod Kept
 mod Lasting
 mod Numbered
 mod Orders
+mod Parts
+mod Racing
 mod Walked
