@@ -64,3 +64,155 @@ one_thread R form numbered c d e f a b x k n m =
     let q = drawn R form d f b x k m in
     let same = (numbered x).1.once (record { thread = c.thread; index = p.0 }) (record { thread = d.thread; index = q.0 }) p.1.0 q.1.0 k p.1.1 q.1.1 (inr p.1.2) (inr q.1.2) in
     ap (λ (z : Place). z.thread) same
+
+-- a commit's block is its own position
+commit_block : (es : List Entry) (i : ℕ) (at : ℕ) (tx : Tx) → slice_get es i ≡ Some (Commit at tx) → last_position (take (suc i) es) ≡ Some at
+commit_block [] i at tx e = absurd (cc)
+commit_block (x ∷ es) zero at tx e = let z : x ≡ Commit at tx = cc in rw z refl
+commit_block (x ∷ es) (suc i) at tx e = rw (commit_block es i at tx e) refl
+
+commit_event : (R : Lists) (c : Place) (e : Entry) → EntryAt R c e → IsCommit e → (p : ℕ) × (s : Stamp) × IsEventAt R c p s × ((xs : List ℕ) × (s.event ≡ Commits xs)) × BlockAt (R c.thread) c.index p
+commit_event R c (Commit at tx) here is = (
+  at,
+  record { thread = c.thread; event = Commits (variables_of tx) },
+  record { entry = Commit at tx; there = here; position = refl; event = refl; own = refl },
+  (variables_of tx, refl),
+  commit_block (R c.thread) c.index at tx here,
+)
+commit_event R c (Sync at act value) here is = absurd is
+commit_event R c (Plain var nth cached write value raised) here is = absurd is
+commit_event R c (Abort tx why) here is = absurd is
+commit_event R c (Trim low) here is = absurd is
+commit_event R c (Over ending) here is = absurd is
+
+access_of_plain : (e : Entry) → IsPlain e → IsAccess e
+access_of_plain (Plain var nth cached write value raised) p = tt
+access_of_plain (Sync at act value) p = absurd p
+access_of_plain (Commit at tx) p = absurd p
+access_of_plain (Abort tx why) p = absurd p
+access_of_plain (Trim low) p = absurd p
+access_of_plain (Over ending) p = absurd p
+
+number_access : (e : Entry) (x k : ℕ) → NumberOn e x k → IsAccess e
+number_access (Plain var nth cached write value raised) x k n = tt
+number_access (Sync at act value) x k n = absurd n
+number_access (Commit at tx) x k n = tt
+number_access (Abort tx (Raised var)) x k n = tt
+number_access (Abort tx (Changed var read found)) x k n = absurd n
+number_access (Trim low) x k n = absurd n
+number_access (Over ending) x k n = absurd n
+
+no_two : (e : Entry) → IsCommit e → IsRefusedCommit e → ⊥
+no_two (Commit at tx) i r = r
+no_two (Sync at act value) i r = i
+no_two (Plain var nth cached write value raised) i r = i
+no_two (Abort tx why) i r = i
+no_two (Trim low) i r = i
+no_two (Over ending) i r = i
+
+not_plain_commit : (e : Entry) → IsPlain e → IsCommit e → ⊥
+not_plain_commit (Plain var nth cached write value raised) i r = r
+not_plain_commit (Commit at tx) i r = i
+not_plain_commit (Sync at act value) i r = i
+not_plain_commit (Abort tx why) i r = i
+not_plain_commit (Trim low) i r = i
+not_plain_commit (Over ending) i r = i
+
+not_plain_refused : (e : Entry) → IsPlain e → IsRefusedCommit e → ⊥
+not_plain_refused (Plain var nth cached write value raised) i r = r
+not_plain_refused (Commit at tx) i r = i
+not_plain_refused (Sync at act value) i r = i
+not_plain_refused (Abort tx why) i r = i
+not_plain_refused (Trim low) i r = i
+not_plain_refused (Over ending) i r = i
+
+-- what the code has of a record
+pub record Judging (setting : Setting) (R : Lists) (h : List Stamp) (now : State) (claims : List Claim) (us : List Access) (rows before known : List (List ℕ)) : Type 0 where
+  pub form : Form R
+  pub numbered : Numbered R
+  pub is_list : IsEventList h R
+  pub allowed : Allows setting h now
+  pub short : length h < 2 ^ 63
+  pub claim : (k : ℕ) (l : Claim) → slice_get claims k ≡ Some l → (e : Entry) × IsClaimOf R l e
+  pub all : (c : Place) (e : Entry) → EntryAt R c e → IsAccess e → (k : ℕ) × ((l : Claim) × (slice_get claims k ≡ Some l) × (seen l.place ≡ c))
+  pub one : (j k : ℕ) (l m : Claim) → slice_get claims j ≡ Some l → slice_get claims k ≡ Some m → seen l.place ≡ seen m.place → j ≡ k
+  pub parts :
+      (a : Access) →
+      Contains us a ↔ ((k : ℕ) × ((l : Claim) × ((e : Entry) × (slice_get claims k ≡ Some l) × EntryAt R (seen l.place) e × Contains (accesses_of k l.place.thread l.block e) a)))
+  pub ordered : (i j : ℕ) (v w : Access) → slice_get us i ≡ Some v → slice_get us j ≡ Some w → i ≤ j → v.nth ≤ w.nth
+  pub clocks_are : AreBlockClocks h rows
+  pub first : (k : ℕ) (l : Claim) → slice_get claims k ≡ Some l → (u : ℕ) → cell before k u ≡ cell rows l.block u
+  pub learned : ClaimsKnow rows us (length us) before known
+
+module _ (setting : Setting) (R : Lists) (h : List Stamp) (now : State) (claims : List Claim) (us : List Access) (rows before known : List (List ℕ)) (J : Judging setting R h now claims us rows before known) where
+  rise : PositionsRise R
+  rise c d p q s r a b o = (J.form.formed c.thread).positions_rise c.index d.index p q a.entry b.entry a.there (subst (λ t. slice_get (R t) d.index ≡ Some b.entry) (sym o.0) b.there) o.1 a.position b.position
+
+  -- an entry of the record with the claim that it has and one of its accesses
+  pub record IsUse (a : Access) (c : Place) (e : Entry) : Type 0 where
+    pub there : EntryAt R c e
+    pub is_access : IsAccess e
+    pub own : a.thread ≡ c.thread
+    pub block : ℕ
+    pub block_at : BlockAt (R c.thread) c.index block
+    pub claimed : Claim
+    pub at : slice_get claims a.claim ≡ Some claimed
+    pub place : seen claimed.place ≡ c
+    pub in_block : claimed.block ≡ block
+    pub part : IsPart a.claim c.thread block e a
+
+  use_of : (a : Access) → Contains us a → (c : Place) × ((e : Entry) × IsUse a c e)
+  use_of a i = (seen l.place, (e, record {
+    there = w.1.1.2;
+    is_access = is;
+    own = part.thread;
+    block = b.0;
+    block_at = b.1;
+    claimed = l;
+    at = subst (λ k. slice_get claims k ≡ Some l) (sym part.claim) w.1.1.1;
+    place = refl;
+    in_block = block;
+    part = subst (λ q. IsPart a.claim l.place.thread q e a) block (subst (λ k. IsPart k l.place.thread l.block e a) (sym part.claim) part);
+  }))
+    where
+      w : (k : ℕ) × ((l : Claim) × ((e : Entry) × (slice_get claims k ≡ Some l) × EntryAt R (seen l.place) e × Contains (accesses_of k l.place.thread l.block e) a))
+      w = (J.parts a).0 i
+
+      l : Claim
+      l = w.1.0
+
+      e : Entry
+      e = w.1.1.0
+
+      part : IsPart w.0 l.place.thread l.block e a
+      part = part_means w.0 l.place.thread l.block e a w.1.1.3
+
+      is : IsAccess e
+      is = number_access e a.var a.nth part.number
+
+      b : (q : ℕ) × BlockAt (R l.place.thread) l.place.index q
+      b = has_block R J.form (seen l.place) e w.1.1.2 is
+
+      block : l.block ≡ b.0
+      block = (J.claim w.0 l w.1.1.1).1.block ∙ ap (λ o. unwrap_or o 0) (ap (λ n. last_position (take n (R l.place.thread))) (let z : l.place.index + 1 ≡ suc l.place.index = omega arith in z) ∙ b.1)
+
+  use_there : (c : Place) (e : Entry) → EntryAt R c e → (x n : ℕ) → NumberOn e x n → (a : Access) × Contains us a × (a.var ≡ x) × (a.nth ≡ n) × IsUse a c e
+  use_there c e here x n number =
+      let is = number_access e x n number in
+      let k = J.all c e here is in
+      let l = k.1.0 in
+      let here' : EntryAt R (seen l.place) e = subst (λ z. EntryAt R z e) (sym k.1.2) here in
+      let a = part_there k.0 l.place.thread l.block e x n number in
+      let i = (J.parts a.0).1 (k.0, (l, (e, k.1.1, here', a.1))) in
+      let u = use_of a.0 i in
+      let claim_of : (J.parts a.0).0 i ≡ (J.parts a.0).0 i = refl in
+      (a.0, i, a.2, a.3, same_use a.0 k.0 l e c here k.1.1 k.1.2 (part_means k.0 l.place.thread l.block e a.0 a.1) u.0 u.1.0 u.1.1)
+    where
+      same_use : (a : Access) (k : ℕ) (l : Claim) (e : Entry) (c : Place) → EntryAt R c e → slice_get claims k ≡ Some l → seen l.place ≡ c → IsPart k l.place.thread l.block e a → (d : Place) (f : Entry) → IsUse a d f → IsUse a c e
+      same_use a k l e c here at place part d f u =
+          let at' : slice_get claims a.claim ≡ Some l = subst (λ k. slice_get claims k ≡ Some l) (sym part.claim) at in
+          let same : u.claimed ≡ l = (let y = u.at in cc) in
+          let d_is : d ≡ c = sym u.place ∙ ap (λ (m : Claim). seen m.place) same ∙ place in
+          let there : EntryAt R c f = subst (λ z. EntryAt R z f) d_is u.there in
+          let f_is : f ≡ e = (let y = here in cc) in
+          subst (IsUse a c) f_is (subst (λ z. IsUse a z f) d_is u)

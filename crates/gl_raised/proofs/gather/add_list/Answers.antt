@@ -1,4 +1,4 @@
-use Rattle.std.proofs.Common.{◌≡◌, ◌∙◌, ap, sym, subst, refl, map, arith, length}
+use Rattle.std.proofs.Common.{◌≡◌, ◌≤◌, ◌∙◌, ap, sym, subst, refl, map, arith, length}
 use Rattle.std.proofs.lemmas.List.{length-map}
 use Rattle.gl_model.specs.Entries.{seen}
 use Rattle.gl_raised.proofs.Gathering.{block_more, gathered_more, next_thread, seen_at}
@@ -6,13 +6,12 @@ use Rattle.gl_raised.proofs.gather.add_list.Goals as goal
 
 pub loop-index-preserved : goal.loop-index-preserved
 loop-index-preserved c =
-    let list = c.args.list.now in
-    let i = c.loop-index.index in
-    let there = seen_at list i _ c.loop-index-test.true in
-    let block = c.block_after-block.ensures ∙ block_more (map seen list) i c.loop-index.block _ there c.loop-index.invariant.block in record {
-      block = block;
-      gathered = λ R same start. ?;
-    }
+    let z = c.index-list-index.is in
+    let y = c.block_after-block.ensures in
+    let x = c.in_ok-add_claim.ensures.claims in
+    let w = c.in_ok-add_accesses.ensures.accesses in
+    let v = c.in_ok-add_claim.ensures.accesses in
+    let u = c.in_ok-add_accesses.ensures.claims in ?
 
 pub returns : goal.returns
 returns c R same start =
