@@ -3,7 +3,7 @@ use Rattle.std.proofs.Common.{◌≡◌, ◌≢◌, ℕ, zero, suc, ◌+◌, ◌
 use Rattle.std.specs.Prelude.{◌⊎◌, ◌↔◌, Contains, Option, if◌then◌else◌, min, slice_get, unwrap_or}
 use Rattle.std.proofs.lemmas.Bool.{cases_lt}
 use Rattle.std.proofs.Math.Nat.{eq-or-lt_of_le}
-use Rattle.std.proofs.lemmas.Option.{slice_get_within}
+use Rattle.std.proofs.lemmas.Option.{slice_get_within, slice_get-get_or, get_or_from_slice_get}
 use native.Mathlib.Decide.{ℕ_discrete}
 use Rattle.gl_clocks.specs.Clocks.{clocks, tick, tick_of}
 use Rattle.gl_clocks.proofs.Own.{own_law}
@@ -216,3 +216,119 @@ module _ (setting : Setting) (R : Lists) (h : List Stamp) (now : State) (claims 
           let there : EntryAt R c f = subst (λ z. EntryAt R z f) d_is u.there in
           let f_is : f ≡ e = (let y = here in cc) in
           subst (IsUse a c) f_is (subst (λ z. IsUse a z f) d_is u)
+
+  in_list : (a : Access) → Contains us a → (i : ℕ) × (slice_get us i ≡ Some a)
+  in_list a (i, l, e) = (i, slice_get-get_or us i a l ∙ ap Some e)
+
+  of_list : (i : ℕ) (a : Access) → slice_get us i ≡ Some a → Contains us a
+  of_list i a e = (i, slice_get_within us i a e, get_or_from_slice_get us i a a e)
+
+  same_claim : (a b : Access) (c d : Place) (e f : Entry) → IsUse a c e → IsUse b d f → a.claim ≡ b.claim → (c ≡ d) × (f ≡ e)
+  same_claim a b c d e f u v same =
+      let at' : slice_get claims a.claim ≡ Some v.claimed = subst (λ k. slice_get claims k ≡ Some v.claimed) (sym same) v.at in
+      let one : u.claimed ≡ v.claimed = (let y = u.at in cc) in
+      let place : c ≡ d = sym u.place ∙ ap (λ (m : Claim). seen m.place) one ∙ v.place in
+      let there : EntryAt R c f = subst (λ z. EntryAt R z f) (sym place) v.there in
+      (place, let y = u.there in cc)
+
+  -- the block of a use
+  block_is : (a : Access) (c : Place) (e : Entry) → (u : IsUse a c e) → IsBlockOf R c u.block
+  block_is a c e u = block_of_place R c.thread c.index u.block u.block_at
+
+  block_event : (a : Access) (c : Place) (e : Entry) → (u : IsUse a c e) → EventAt h u.block (block_is a c e u).event
+  block_event a c e u = let b = block_is a c e u in J.is_list.listed (record { thread = c.thread; index = b.index }) u.block b.event b.made
+
+  block_goes_on : (a : Access) (c : Place) (e : Entry) → (u : IsUse a c e) → (block_is a c e u).event.event ≢ Does End
+  block_goes_on a c e u = goes_on R J.form c e u.there u.is_access u.block (block_is a c e u)
+
+  -- the access that a performed entry is
+  pub record Stood (a : Access) (c : Place) (e : Entry) : Type 0 where
+    pub access : AnAccess
+    pub stands : StandsFor R c access
+    pub same_tick : tick access ≡ a.tick
+    pub plain : IsPlain e → access.variables ≡ None
+
+  stood_plain : (a : Access) (c : Place) (e : Entry) → IsUse a c e → IsPlain e → Stood a c e
+  stood_plain a c e u plain = record {
+    access = record { thread = c.thread; block = u.block; variables = None };
+    stands = record { thread = refl; block = block_is a c e u; goes_on = block_goes_on a c e u; kind = inl (e, u.there, plain, refl) };
+    same_tick = sym its_tick;
+    plain = λ p. refl;
+  }
+    where
+      its_tick : a.tick ≡ u.block + 1
+      its_tick = elim u.part.kind [
+        | inl p ↦ (let z = p.2 in let l = slice_get_within h u.block (block_is a c e u).event (block_event a c e u) in let s = J.short in omega arith)
+        | inr (inl k) ↦ absurd (not_plain_commit e plain k.0)
+        | inr (inr k) ↦ absurd (not_plain_refused e plain k.0)
+      ]
+
+  stood_commit : (a : Access) (c : Place) (e : Entry) → IsUse a c e → IsCommit e → Stood a c e
+  stood_commit a c e u is =
+      let v = commit_event R c e u.there is in
+      let same : u.block ≡ v.0 = (let x = u.block_at in let y = v.4 in cc) in record {
+        access = record { thread = c.thread; block = u.block; variables = Some v.3.0 };
+        stands = record { thread = refl; block = block_is a c e u; goes_on = block_goes_on a c e u; kind = inr (v.3.0, refl, (v.1, subst (λ p. IsEventAt R c p v.1) (sym same) v.2, v.3.1)) };
+        same_tick = sym its_tick;
+        plain = λ p. absurd (not_plain_commit e p is);
+      }
+    where
+      its_tick : a.tick ≡ u.block
+      its_tick = elim u.part.kind [
+        | inl p ↦ absurd (not_plain_commit e p.0 is)
+        | inr (inl k) ↦ k.3
+        | inr (inr k) ↦ absurd (no_two e is k.0)
+      ]
+
+  stood : (a : Access) (c : Place) (e : Entry) → IsUse a c e → IsPlain e ⊎ IsCommit e → Stood a c e
+  stood a c e u (inl p) = stood_plain a c e u p
+  stood a c e u (inr k) = stood_commit a c e u k
+
+  -- the clock of a block tells what precedes it
+  row_told : (v : Access) (c : Place) (e : Entry) → (s : Stood v c e) → (u : Access) (d : Place) (f : Entry) → (w : IsUse u d f) → c.thread ≢ d.thread → (v.tick < cell rows w.block c.thread) ↔ Precedes h s.access d.thread w.block
+  row_told v c e s u d f w apart =
+      let b = block_is u d f w in
+      let m = block_told setting R h now J.is_list rise J.allowed c s.access s.stands d w.block b (block_goes_on u d f w) apart in
+      let row : cell rows w.block c.thread ≡ clocks (take (w.block + 1) h) (Thread d.thread) c.thread = J.clocks_are.known w.block c.thread b.event (block_event u d f w) ∙ ap (λ t. clocks (take (w.block + 1) h) (Thread t) c.thread) b.made.own in
+      let same : s.access.thread ≡ c.thread = s.stands.thread in
+      let m' : (tick s.access < clocks (take (w.block + 1) h) (Thread d.thread) c.thread) ↔ Precedes h s.access d.thread w.block = subst (λ t. (tick s.access < clocks (take (w.block + 1) h) (Thread d.thread) t) ↔ Precedes h s.access d.thread w.block) same m in
+      (λ l. m'.0 (let x = s.same_tick in omega arith), λ p. let y = m'.1 p in let x = s.same_tick in omega arith)
+
+  first_row : (u : Access) (d : Place) (f : Entry) → (w : IsUse u d f) → (t : ℕ) → cell before u.claim t ≡ cell rows w.block t
+  first_row u d f w t = J.first u.claim w.claimed w.at t ∙ ap (λ q. cell rows q t) w.in_block
+
+  -- only a refused commit learns
+  not_learned : (u : Access) (d : Place) (f : Entry) → IsUse u d f → (IsRefusedCommit f → ⊥) → (t n : ℕ) → IsLearned rows us (length us) u.claim t n → ⊥
+  not_learned u d f w none t n (j, a, l, at, of, commit, refused, rest) =
+      let x = use_of a (of_list j a at) in
+      let same = same_claim u a d x.0 f x.1.0 w x.1.1 (sym of) in
+      elim x.1.1.part.kind [
+        | inl p ↦ (let z = p.1 in cc)
+        | inr (inl k) ↦ (let z = k.2 in cc)
+        | inr (inr k) ↦ none (subst IsRefusedCommit same.1 k.0)
+      ]
+
+  -- what an access of another thread precedes, where the later one is no refused commit
+  told_unrefused :
+      (v : Access) (c : Place) (e : Entry) → (s : Stood v c e) → (u : Access) (d : Place) (f : Entry) → (w : IsUse u d f) → (IsRefusedCommit f → ⊥) → c.thread ≢ d.thread →
+      Precedes h s.access d.thread w.block ↔ HappensBefore R c d → (v.tick < cell known u.claim c.thread) ↔ HappensBefore R c d
+  told_unrefused v c e s u d f w none apart order =
+      let k = J.learned u.claim c.thread v.tick in
+      let row = row_told v c e s u d f w apart in
+      let first = first_row u d f w c.thread in (
+        λ l. elim (k.0 l) [
+          | inl b ↦ order.0 (row.0 (rw first at b))
+          | inr x ↦ absurd (not_learned u d f w none c.thread v.tick x)
+        ],
+        λ b. k.1 (inl (subst (λ z. v.tick < z) (sym first) (row.1 (order.1 b)))),
+      )
+
+  told_plain : (v : Access) (c : Place) (e : Entry) → Stood v c e → (u : Access) (d : Place) (f : Entry) → IsUse u d f → IsPlain f → c.thread ≢ d.thread → (v.tick < cell known u.claim c.thread) ↔ HappensBefore R c d
+  told_plain v c e s u d f w plain apart =
+      told_unrefused v c e s u d f w (λ r. not_plain_refused f plain r) apart (plain_told setting R h now J.is_list rise J.allowed c s.access s.stands d f w.there plain w.block (block_is u d f w) apart)
+
+  told_commit : (v : Access) (c : Place) (e : Entry) → Stood v c e → (u : Access) (d : Place) (f : Entry) → IsUse u d f → IsCommit f → c.thread ≢ d.thread → (v.tick < cell known u.claim c.thread) ↔ HappensBefore R c d
+  told_commit v c e s u d f w is apart =
+      let m = commit_event R d f w.there is in
+      let same : m.0 ≡ w.block = (let x = w.block_at in let y = m.4 in cc) in
+      told_unrefused v c e s u d f w (λ r. no_two f is r) apart (commit_told setting R h now J.is_list rise J.allowed c s.access s.stands d f w.there is w.block m.1 (subst (λ p. IsEventAt R d p m.1) same m.2))
