@@ -1,6 +1,7 @@
 mod BlockRows
 mod Blocks
 mod Cells
+mod Faulting
 mod Gathering
 mod Kept
 mod Lasting

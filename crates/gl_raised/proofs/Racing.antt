@@ -1,7 +1,10 @@
 -- The accesses, in the order of their numbers, tell the races of a record.
-use Rattle.std.proofs.Common.{◌≡◌, ◌≢◌, ℕ, zero, suc, ◌+◌, ◌-◌, ◌^◌, ◌<◌, ◌≤◌, ◌==◌, List, [], ◌∷◌, length, take, Bool, true, false, refl, ap, sym, ◌∙◌, subst, inl, inr, arith, Some, None, eq-eqb, ne_eqb}
+use Rattle.std.proofs.Common.{◌≡◌, ◌≢◌, ℕ, zero, suc, ◌+◌, ◌-◌, ◌^◌, ◌<◌, ◌≤◌, ◌==◌, List, [], ◌∷◌, length, take, drop, Bool, true, false, refl, ap, sym, ◌∙◌, subst, inl, inr, arith, Some, None, eq-eqb, ne_eqb}
 use Rattle.std.specs.Prelude.{◌⊎◌, ◌↔◌, Contains, Option, if◌then◌else◌, min, slice_get, unwrap_or}
-use Rattle.std.proofs.lemmas.Bool.{cases_lt}
+use Rattle.std.proofs.lemmas.Bool.{cases_lt, eqb-true}
+use Rattle.std.proofs.lemmas.List.{length-take-le, take-append-drop}
+use Rattle.gl_draws.proofs.Reaching.{event_back}
+use Rattle.gl_model.specs.Next.{Reaches}
 use Rattle.std.proofs.Math.Nat.{eq-or-lt_of_le}
 use Rattle.std.proofs.lemmas.Option.{slice_get_within, slice_get-get_or, get_or_from_slice_get}
 use native.Mathlib.Decide.{ℕ_discrete}
@@ -125,6 +128,32 @@ not_plain_refused (Sync at act value) i r = i
 not_plain_refused (Abort tx why) i r = i
 not_plain_refused (Trim low) i r = i
 not_plain_refused (Over ending) i r = i
+
+-- a commit, or a refused one, drew its numbers itself
+draws_itself : (e : Entry) (x k : ℕ) → IsCommit e ⊎ IsRefusedCommit e → NumberOn e x k → NumberDraws e x k
+draws_itself (Commit at tx) x k w n = n
+draws_itself (Abort tx (Raised var)) x k w n = n
+draws_itself (Abort tx (Changed var read found)) x k w n = absurd n
+draws_itself (Plain var nth cached write value raised) x k w n = absurd (elim w [ inl z ↦ z | inr z ↦ z ])
+draws_itself (Sync at act value) x k w n = absurd n
+draws_itself (Trim low) x k w n = absurd n
+draws_itself (Over ending) x k w n = absurd n
+
+commit_done : (e : Entry) → IsCommit e → IsPerformed e
+commit_done (Commit at tx) i = tt
+commit_done (Sync at act value) i = absurd i
+commit_done (Plain var nth cached write value raised) i = absurd i
+commit_done (Abort tx why) i = absurd i
+commit_done (Trim low) i = absurd i
+commit_done (Over ending) i = absurd i
+
+refused_not_done : (e : Entry) → IsRefusedCommit e → IsPerformed e → ⊥
+refused_not_done (Abort tx why) i p = p
+refused_not_done (Commit at tx) i p = i
+refused_not_done (Sync at act value) i p = i
+refused_not_done (Plain var nth cached write value raised) i p = i
+refused_not_done (Trim low) i p = i
+refused_not_done (Over ending) i p = i
 
 -- what the code has of a record
 pub record Judging (setting : Setting) (R : Lists) (h : List Stamp) (now : State) (claims : List Claim) (us : List Access) (rows before known : List (List ℕ)) : Type 0 where
@@ -332,3 +361,242 @@ module _ (setting : Setting) (R : Lists) (h : List Stamp) (now : State) (claims 
       let m = commit_event R d f w.there is in
       let same : m.0 ≡ w.block = (let x = w.block_at in let y = m.4 in cc) in
       told_unrefused v c e s u d f w (λ r. no_two f is r) apart (commit_told setting R h now J.is_list rise J.allowed c s.access s.stands d f w.there is w.block m.1 (subst (λ p. IsEventAt R d p m.1) same m.2))
+
+  commit_kind : (b : Access) (m : Place) (g : Entry) → IsUse b m g → b.commit ≡ true → b.performed ≡ true → IsCommit g
+  commit_kind b m g u commit done = elim u.part.kind [
+    | inl k ↦ absurd (let z = k.1 in cc)
+    | inr (inl k) ↦ k.0
+    | inr (inr k) ↦ absurd (let z = k.2 in cc)
+  ]
+
+  commit_flags : (b : Access) (m : Place) (g : Entry) → IsUse b m g → IsCommit g → (b.commit ≡ true) × (b.performed ≡ true)
+  commit_flags b m g u is = elim u.part.kind [
+    | inl k ↦ absurd (not_plain_commit g k.0 is)
+    | inr (inl k) ↦ (k.1, k.2)
+    | inr (inr k) ↦ absurd (no_two g is k.0)
+  ]
+
+  refused_flags : (b : Access) (m : Place) (g : Entry) → IsUse b m g → IsRefusedCommit g → (b.commit ≡ true) × (b.performed ≡ false)
+  refused_flags b m g u is = elim u.part.kind [
+    | inl k ↦ absurd (not_plain_refused g k.0 is)
+    | inr (inl k) ↦ absurd (no_two g k.0 is)
+    | inr (inr k) ↦ (k.1, k.2)
+  ]
+
+  -- a commit hands on what reaches it
+  handed_reaches :
+      (v : Access) (c : Place) (e : Entry) → (s : Stood v c e) → IsPlain e → (b : Access) (m : Place) (g : Entry) → IsUse b m g → IsCommit g → (p : ℕ) (r : Stamp) → IsEventAt R m p r →
+      (v.tick < handed_on rows b c.thread) ↔ Reaches h s.access p
+  handed_reaches v c e s plain b m g u is p r made = by (c.thread == b.thread) refl
+    where
+      ev : (q : ℕ) × (t : Stamp) × IsEventAt R m q t × ((xs : List ℕ) × (t.event ≡ Commits xs)) × BlockAt (R m.thread) m.index q
+      ev = commit_event R m g u.there is
+
+      block_p : u.block ≡ p
+      block_p = let x = u.block_at in let y = ev.4 in let z : u.block ≡ ev.0 = cc in z ∙ one_position ev.2 made
+
+      tick_p : b.tick ≡ p
+      tick_p = elim u.part.kind [
+        | inl k ↦ absurd (not_plain_commit g k.0 is)
+        | inr (inl k) ↦ k.3 ∙ block_p
+        | inr (inr k) ↦ absurd (no_two g is k.0)
+      ]
+
+      there : EventAt h p r
+      there = J.is_list.listed m p r made
+
+      goes : r.event ≢ Does End
+      goes end =
+          let x : EventAt h p ev.1 = J.is_list.listed m p ev.1 (subst (λ q. IsEventAt R m q ev.1) (one_position ev.2 made) ev.2) in
+          let y : EventAt h p r = J.is_list.listed m p r made in
+          let same : ev.1 ≡ r = cc in
+          let z : Does End ≡ Commits ev.3.0 = sym end ∙ ap (λ (w : Stamp). w.event) (sym same) ∙ ev.3.1 in cc
+
+      row : cell rows b.tick c.thread ≡ clocks (take (p + 1) h) (Thread m.thread) c.thread
+      row = ap (λ q. cell rows q c.thread) tick_p ∙ J.clocks_are.known p c.thread r there ∙ ap (λ t. clocks (take (p + 1) h) (Thread t) c.thread) made.own
+
+      by : (o : Bool) → (c.thread == b.thread) ≡ o → (v.tick < handed_on rows b c.thread) ↔ Reaches h s.access p
+      by true same =
+          let own : c.thread ≡ m.thread = eqb-true c.thread b.thread same ∙ u.own in
+          let near : p < length h = slice_get_within h p r there in
+          let long : length (take (p + 1) h) ≡ p + 1 = length-take-le (p + 1) h (omega arith) in
+          let there' : EventAt (take (p + 1) h) p r = event_back (take (p + 1) h) (drop (p + 1) h) p r (omega arith) (subst (λ l. EventAt l p r) (sym (take-append-drop (p + 1) h)) there) in
+          let clock : clocks (take (p + 1) h) (Thread m.thread) m.thread ≡ p + 2 = own_law (take (p + 1) h) m.thread p r there' made.own (λ q t x y. let l = slice_get_within (take (p + 1) h) q t x in omega arith) in
+          let is : handed_on rows b c.thread ≡ p + 1 =
+          ap (λ o. if o then cell rows b.tick c.thread - 1 else cell rows b.tick c.thread) same
+          ∙ (let z : cell rows b.tick c.thread ≡ p + 2 = row ∙ ap (λ t. clocks (take (p + 1) h) (Thread m.thread) t) own ∙ clock in omega arith) in
+          let k = own_reaches setting R h now J.is_list rise J.allowed c s.access s.stands m p r made own (s.plain plain) in
+          (λ l. k.0 (let x = s.same_tick in omega arith), λ w. let y = k.1 w in let x = s.same_tick in omega arith)
+      by false other =
+          let apart : c.thread ≢ m.thread = (λ x. let z : (c.thread == b.thread) ≡ true = eq-eqb c.thread b.thread (x ∙ sym u.own) in cc) in
+          let is : handed_on rows b c.thread ≡ clocks (take (p + 1) h) (Thread m.thread) c.thread = ap (λ o. if o then cell rows b.tick c.thread - 1 else cell rows b.tick c.thread) other ∙ row in
+          let k = other_reaches setting R h now J.is_list rise J.allowed c s.access s.stands m p r made goes (subst (IsBlockOf R m) block_p (block_is b m g u)) apart in
+          let same : s.access.thread ≡ c.thread = s.stands.thread in
+          let k' : (tick s.access < clocks (take (p + 1) h) (Thread m.thread) c.thread) ↔ Reaches h s.access p = subst (λ t. (tick s.access < clocks (take (p + 1) h) (Thread m.thread) t) ↔ Reaches h s.access p) same k in
+          (λ l. k'.0 (let x = s.same_tick in omega arith), λ w. let y = k'.1 w in let x = s.same_tick in omega arith)
+
+  -- a commit and a refused commit have no number in common
+  numbers_apart : (m d : Place) (g f : Entry) → EntryAt R m g → EntryAt R d f → IsCommit g → IsRefusedCommit f → (x k : ℕ) → NumberOn g x k → NumberOn f x k → ⊥
+  numbers_apart m d g f a b is refused x k n o =
+      let same : m ≡ d = (J.numbered x).1.once m d g f k a b (inr (draws_itself g x k (inl is) n)) (inr (draws_itself f x k (inr refused) o)) in
+      let a' : EntryAt R d g = subst (λ z. EntryAt R z g) same a in
+      let one : f ≡ g = cc in no_two g is (subst IsRefusedCommit one refused)
+
+  module _ (v : Access) (c : Place) (e : Entry) (vu : IsUse v c e) (plain : IsPlain e) (u : Access) (d : Place) (f : Entry) (w : IsUse u d f) (refused : IsRefusedCommit f) (apart : c.thread ≢ d.thread) where
+    its : Stood v c e
+    its = stood_plain v c e vu plain
+
+    abbrev Commits' : Type 0
+    Commits' = ByCommit setting R h now J.is_list rise J.allowed c its.access its.stands d
+
+    learn_out : IsLearned rows us (length us) u.claim c.thread v.tick → Commits'
+    learn_out (j, a, l, at, of, commit, not_done, (b, (jb, lb, eb), on, bc, bp, less)) =
+        let x = use_of a (of_list j a at) in
+        let same = same_claim u a d x.0 f x.1.0 w x.1.1 (sym of) in
+        let here : EntryAt R d f = w.there in
+        let number : NumberOn f a.var a.nth = subst (λ z. NumberOn z a.var a.nth) same.1 x.1.1.part.number in
+        let y = use_of b (of_list jb b eb) in
+        let g = y.1.0 in
+        let is : IsCommit g = commit_kind b y.0 g y.1.1 bc bp in
+        let given : NumberOn g a.var b.nth = subst (λ z. NumberOn g z b.nth) on y.1.1.part.number in
+        let le = J.ordered jb j b a eb at (omega arith) in
+        let lt : b.nth < a.nth = elim (eq-or-lt_of_le le) [ inl z ↦ absurd (numbers_apart y.0 d g f y.1.1.there here is refused a.var a.nth (subst (NumberOn g a.var) z given) number) | inr z ↦ z ] in
+        let m = commit_event R y.0 g y.1.1.there is in record {
+          commit = y.0;
+          edge = record {
+            made = g;
+            refused = f;
+            there = y.1.1.there;
+            here = here;
+            is_commit = is;
+            is_refused = refused;
+            var = a.var;
+            before = record { first = g; second = f; there = y.1.1.there; here = here; number = b.nth; later = a.nth; numbered = given; also_numbered = number; order = inl lt };
+          };
+          position = m.0;
+          event = m.1;
+          made = m.2;
+          reached = (handed_reaches v c e its plain b y.0 g y.1.1 is m.0 m.1 m.2).0 less;
+        }
+
+    learn_in : Commits' → IsLearned rows us (length us) u.claim c.thread v.tick
+    learn_in k =
+        let o = k.edge.before in
+        let x = k.edge.var in
+        let first : k.edge.made ≡ o.first = same_entry R k.commit k.edge.made o.first k.edge.there o.there in
+        let second : f ≡ o.second = same_entry R d f o.second w.there o.here in
+        let is : IsCommit o.first = subst IsCommit first k.edge.is_commit in
+        let is_refused : IsRefusedCommit o.second = subst IsRefusedCommit second refused in
+        let b = use_there k.commit o.first o.there x o.number o.numbered in
+        let a = use_there d o.second o.here x o.later o.also_numbered in
+        let lt : o.number < o.later = elim o.order [ inl z ↦ z | inr z ↦ absurd (numbers_apart k.commit d o.first o.second o.there o.here is is_refused x o.later (subst (NumberOn o.first x) z.0 o.numbered) o.also_numbered) ] in
+        let jb = in_list b.0 b.1 in
+        let ja = in_list a.0 a.1 in
+        let near : jb.0 < ja.0 = elim (cases_lt jb.0 ja.0) [ inl z ↦ z | inr z ↦ absurd (let q = J.ordered ja.0 jb.0 a.0 b.0 ja.1 jb.1 z in let y1 = b.3 in let y2 = a.3 in omega arith) ] in
+        let bk = commit_flags b.0 k.commit o.first b.4 is in
+        let ak = refused_flags a.0 d o.second a.4 is_refused in
+        let of : a.0.claim ≡ u.claim = J.one a.0.claim u.claim a.4.claimed w.claimed a.4.at w.at (a.4.place ∙ sym w.place) in
+        let m = (handed_reaches v c e its plain b.0 k.commit o.first b.4 is k.position k.event k.made).1 k.reached in
+        (ja.0, a.0, slice_get_within us ja.0 a.0 ja.1, ja.1, of, ak.0, ak.1, (b.0, (jb.0, near, jb.1), b.2 ∙ sym a.2, bk.0, bk.1, m))
+
+    told_refused : (v.tick < cell known u.claim c.thread) ↔ HappensBefore R c d
+    told_refused =
+        let t = refused_told setting R h now J.is_list rise J.allowed c its.access its.stands d f w.there refused w.block (block_is u d f w) apart e vu.there plain (λ b g here is. let m = commit_event R b g here is in (m.0, m.1, m.2)) in
+        let k = J.learned u.claim c.thread v.tick in
+        let row = row_told v c e its u d f w apart in
+        let first = first_row u d f w c.thread in (
+          λ l. t.0 (elim (k.0 l) [ inl b ↦ inl (row.0 (rw first at b)) | inr x ↦ inr (learn_out x) ]),
+          λ b. elim (t.1 b) [ inl p ↦ k.1 (inl (subst (λ z. v.tick < z) (sym first) (row.1 p))) | inr x ↦ k.1 (inr (learn_in x)) ],
+        )
+
+  -- what an access of another thread happens before is told by the clock of the later one's claim
+  told :
+      (v : Access) (c : Place) (e : Entry) → IsUse v c e → (u : Access) (d : Place) (f : Entry) → IsUse u d f → IsPlain e ⊎ IsCommit e → IsPlain e ⊎ IsPlain f → c.thread ≢ d.thread →
+      (v.tick < cell known u.claim c.thread) ↔ HappensBefore R c d
+  told v c e vu u d f w done one apart = elim w.part.kind [
+    | inl k ↦ told_plain v c e (stood v c e vu done) u d f w k.0 apart
+    | inr (inl k) ↦ told_commit v c e (stood v c e vu done) u d f w k.0 apart
+    | inr (inr k) ↦ told_refused v c e vu (elim one [ inl p ↦ p | inr p ↦ absurd (not_plain_refused f p k.0) ]) u d f w k.0 apart
+  ]
+
+  plain_kind : (v : Access) (c : Place) (e : Entry) → IsUse v c e → v.commit ≡ false → IsPlain e
+  plain_kind v c e vu other = elim vu.part.kind [
+    | inl k ↦ k.0
+    | inr (inl k) ↦ absurd (let z = k.1 in cc)
+    | inr (inr k) ↦ absurd (let z = k.1 in cc)
+  ]
+
+  plain_flag : (v : Access) (c : Place) (e : Entry) → IsUse v c e → IsPlain e → v.commit ≡ false
+  plain_flag v c e vu plain = elim vu.part.kind [
+    | inl k ↦ k.1
+    | inr (inl k) ↦ absurd (not_plain_commit e plain k.0)
+    | inr (inr k) ↦ absurd (not_plain_refused e plain k.0)
+  ]
+
+  done_kind : (v : Access) (c : Place) (e : Entry) → IsUse v c e → v.performed ≡ true → (IsPlain e ⊎ IsCommit e) × IsPerformed e
+  done_kind v c e vu done = elim vu.part.kind [
+    | inl k ↦ (inl k.0, k.3.0 done)
+    | inr (inl k) ↦ (inr k.0, commit_done e k.0)
+    | inr (inr k) ↦ absurd (let z = k.2 in cc)
+  ]
+
+  done_flag : (v : Access) (c : Place) (e : Entry) → IsUse v c e → IsPerformed e → (IsPlain e ⊎ IsCommit e) × (v.performed ≡ true)
+  done_flag v c e vu done = elim vu.part.kind [
+    | inl k ↦ (inl k.0, k.3.1 done)
+    | inr (inl k) ↦ (inr k.0, k.2)
+    | inr (inr k) ↦ absurd (refused_not_done e k.0 done)
+  ]
+
+  module _ (k : ℕ) (l : Claim) (at : slice_get claims k ≡ Some l) (x : ℕ) where
+    racy_in : IsRacyClaim known us (length us) k x → IsRacy R (seen l.place) x
+    racy_in (j, u, near, here, of, on, (v, (i, lt, there), same_var, apart, done, conflict, least)) =
+        let uu = use_of u (of_list j u here) in
+        let vv = use_of v (of_list i v there) in
+        let d = uu.0 in
+        let f = uu.1.0 in
+        let w = uu.1.1 in
+        let e = vv.1.0 in
+        let vu = vv.1.1 in
+        let one : w.claimed ≡ l = (let y : slice_get claims k ≡ Some w.claimed = subst (λ m. slice_get claims m ≡ Some w.claimed) of w.at in cc) in
+        let place : d ≡ seen l.place = sym w.place ∙ ap (λ (m : Claim). seen m.place) one in
+        let others : vv.0.thread ≢ d.thread = (λ z. apart (vu.own ∙ z ∙ sym w.own)) in
+        let n : NumberOn e x v.nth = subst (λ y. NumberOn e y v.nth) (same_var ∙ on) vu.part.number in
+        let m : NumberOn f x u.nth = subst (λ y. NumberOn f y u.nth) on w.part.number in
+        let le = J.ordered i j v u there here (omega arith) in
+        let less : v.nth < u.nth = elim (eq-or-lt_of_le le) [ inl z ↦ absurd (others (one_thread R J.form J.numbered vv.0 d e f vu.there w.there x u.nth (subst (NumberOn e x) z n) m)) | inr z ↦ z ] in
+        let is = done_kind v vv.0 e vu done in
+        let one_plain : IsPlain e ⊎ IsPlain f = elim conflict.1 [ inl z ↦ inl (plain_kind v vv.0 e vu z) | inr z ↦ inr (plain_kind u d f w z) ] in
+        let order = told v vv.0 e vu u d f w is.0 one_plain others in
+        let writes : Writes e x ⊎ Writes f x = elim conflict.0 [ inl z ↦ inl (subst (Writes e) (same_var ∙ on) (vu.part.writes.0 z)) | inr z ↦ inr (subst (Writes f) on (w.part.writes.0 z)) ] in
+        subst (λ z. IsRacy R z x) place (record {
+          other = vv.0;
+          another = others;
+          before = record { first = e; second = f; there = vu.there; here = w.there; number = v.nth; later = u.nth; numbered = n; also_numbered = m; order = inl less };
+          performed = is.1;
+          conflict = (writes, one_plain);
+          unordered = λ b. let z = order.1 b in let y : cell known u.claim vv.0.thread ≤ v.tick = subst (λ t. cell known u.claim t ≤ v.tick) vu.own least in omega arith;
+        })
+
+    racy_out : IsRacy R (seen l.place) x → IsRacyClaim known us (length us) k x
+    racy_out r =
+        let o = r.before in
+        let d = seen l.place in
+        let vv = use_there r.other o.first o.there x o.number o.numbered in
+        let uu = use_there d o.second o.here x o.later o.also_numbered in
+        let v = vv.0 in
+        let u = uu.0 in
+        let of : u.claim ≡ k = J.one u.claim k uu.4.claimed l uu.4.at at uu.4.place in
+        let lt : o.number < o.later = elim o.order [ inl z ↦ z | inr z ↦ absurd (r.another z.1.0) ] in
+        let jv = in_list v vv.1 in
+        let ju = in_list u uu.1 in
+        let near : jv.0 < ju.0 = elim (cases_lt jv.0 ju.0) [ inl z ↦ z | inr z ↦ absurd (let q = J.ordered ju.0 jv.0 u v ju.1 jv.1 z in let y1 = vv.3 in let y2 = uu.3 in omega arith) ] in
+        let is = done_flag v r.other o.first vv.4 r.performed in
+        let order = told v r.other o.first vv.4 u d o.second uu.4 is.0 r.conflict.1 r.another in
+        let least : cell known u.claim v.thread ≤ v.tick = elim (cases_lt v.tick (cell known u.claim r.other.thread)) [ inl z ↦ absurd (r.unordered (order.0 z)) | inr z ↦ subst (λ t. cell known u.claim t ≤ v.tick) (sym vv.4.own) z ] in
+        let writes : (v.write ≡ true) ⊎ (u.write ≡ true) = elim r.conflict.0 [ inl z ↦ inl (vv.4.part.writes.1 (subst (Writes o.first) (sym vv.2) z)) | inr z ↦ inr (uu.4.part.writes.1 (subst (Writes o.second) (sym uu.2) z)) ] in
+        let plain : (v.commit ≡ false) ⊎ (u.commit ≡ false) = elim r.conflict.1 [ inl z ↦ inl (plain_flag v r.other o.first vv.4 z) | inr z ↦ inr (plain_flag u d o.second uu.4 z) ] in
+        (ju.0, u, slice_get_within us ju.0 u ju.1, ju.1, of, uu.2, (v, (jv.0, near, jv.1), vv.2 ∙ sym uu.2, (λ z. r.another (sym vv.4.own ∙ z ∙ uu.4.own)), is.1, (writes, plain), least))
+
+    -- the claims are racy just where their entries are
+    pub racy_told : IsRacyClaim known us (length us) k x ↔ IsRacy R (seen l.place) x
+    racy_told = (λ r. racy_in r, λ r. racy_out r)

@@ -5,3 +5,4 @@ pub mod Judged
 pub mod Lasts
 pub mod RaceFaults
 pub mod Rows
+pub mod Sorted

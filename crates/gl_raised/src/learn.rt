@@ -46,7 +46,7 @@ fn handed_on(rows: &[[u32; ALL]], by: &Access) -> [u32; ALL]
 }
 
 // A clock that knows nothing.
-fn no_clock() -> [u32; ALL]
+pub(crate) fn no_clock() -> [u32; ALL]
     ensures { (u : ℕ) → at result u ≡ 0 }
 {
     [0; ALL]

@@ -2,6 +2,7 @@
 #![tactic(auto)]
 
 mod access;
+mod fault;
 mod gather;
 mod judge;
 mod lasts;
@@ -9,3 +10,4 @@ mod learn;
 mod rows;
 
 pub use access::{Access, Claim};
+pub use fault::race_fault;
