@@ -1,14 +1,14 @@
 -- From what was found of each claim to the race law of the record.
-use Rattle.std.proofs.Common.{◌≡◌, ◌≢◌, ℕ, ℤ, zero, suc, ◌+◌, ◌^◌, ◌<◌, ◌≤◌, List, [], ◌∷◌, length, Bool, true, false, refl, ap, sym, ◌∙◌, subst, inl, inr, arith, Some, None}
-use Rattle.std.specs.Prelude.{◌⊎◌, ◌↔◌, Contains, Option, MatchOption, slice_get, if◌then◌else◌}
+use Rattle.std.proofs.Common.{◌≡◌, ◌≢◌, ℕ, ℤ, zero, suc, ◌+◌, ◌^◌, ◌<◌, ◌≤◌, List, [], ◌∷◌, length, map, get_or, Bool, true, false, refl, ap, sym, ◌∙◌, subst, inl, inr, arith, Some, None}
+use Rattle.std.specs.Prelude.{◌⊎◌, ◌↔◌, All, Contains, Option, MatchOption, slice_get, if◌then◌else◌}
 use Rattle.std.proofs.lemmas.Bool.{cases_lt}
-use Rattle.std.proofs.lemmas.Option.{slice_get_within, slice_get_cases}
+use Rattle.std.proofs.lemmas.Option.{slice_get_within, slice_get-get_or, slice_get_cases, get_or_from_slice_get}
 use Rattle.std.proofs.Math.Nat.{eq-or-lt_of_le}
 use Rattle.gl_core.specs.Cells.{cell}
 use Rattle.gl_laws.proofs.Bridge.{same_entry}
 use Rattle.gl_model.specs.declared.event.Stamp.{Stamp}
 use Rattle.gl_model.specs.declared.tx.Why.TheVariants.{Changed, Raised}
-use Rattle.gl_model.specs.declared.limits.TheConstants.{THREADS}
+use Rattle.gl_model.specs.declared.limits.TheConstants.{THREADS, VARIABLES}
 use Rattle.gl_model.specs.Edges.{EventAt}
 use Rattle.gl_model.specs.Entries.{Entry, Sync, Commit, Plain, Abort, Trim, Over}
 use Rattle.gl_model.specs.Form.{Form, Numbered, IsMachineRun, value_of}
@@ -17,7 +17,15 @@ use Rattle.gl_model.specs.Machine.{Setting, State, Step, Run, Allows, start}
 use Rattle.gl_model.specs.Records.{Lists, Place, EntryAt, IsEventAt, IsEventList, NumberOn}
 use Rattle.gl_places.specs.Places.{Before, IsFirstBy, seen}
 use Rattle.gl_places.specs.declared.place.Place.{Place as StoredPlace}
-use Rattle.gl_raised.specs.Accesses.{IsAccess, raised_on}
+use Rattle.std.specs.List.{AllByRecursion}
+use Rattle.std.specs.List.Sorted.{IsNonDecreasingBy, IsPermutation}
+use Rattle.std.proofs.lemmas.List.Elements.{Contains-get_or}
+use Rattle.std.proofs.lemmas.List.Sorted.{Contains-permutation, IsPermutation-sym}
+use Rattle.gl_model.specs.Kept.{IsEntryKept}
+use Rattle.gl_model.specs.declared.tx.Number.{Number}
+use Rattle.gl_raised.proofs.Numbered.{all_at}
+use Rattle.gl_raised.proofs.Parts.{part_means}
+use Rattle.gl_raised.specs.Accesses.{IsAccess, IsWithin, raised_on}
 use Rattle.gl_raised.specs.Earlier.{ClaimsKnow}
 use Rattle.gl_raised.specs.Gathers.{AreGathered, IsClaimOf}
 use Rattle.gl_raised.specs.Judged.{AreLeast, IsLeast, IsRacyClaim}
@@ -91,13 +99,13 @@ not_before c d (inl l) (inr m) = let z = m.0 in omega arith
 not_before c d (inr l) (inl m) = let z = l.0 in omega arith
 not_before c d (inr l) (inr m) = let z = l.1 in let y = m.1 in omega arith
 
-module _ (R : Lists) (claims : List Claim) (old us : List Access) (rows before known : List (List ℕ)) (least : List (Option ℕ)) (form : Form R) (numbered : Numbered R) (run : AreSteps R) (gathered : AreGathered R (record { thread = THREADS; index = 0 }) claims old) (within : (c : Place) (e : Entry) → EntryAt R c e → c.thread < THREADS) (sorted : AreSorted old us) (short : length rows < 2 ^ 63) (clocks : (h : List Stamp) → IsEventList h R → AreBlockClocks h rows) (first : (k : ℕ) (l : Claim) → slice_get claims k ≡ Some l → (u : ℕ) → cell before k u ≡ cell rows l.block u) (learned : ClaimsKnow rows us (length us) before known) (long : length least ≡ length claims) (found : AreLeast known us (length us) least) where
+module _ (R : Lists) (claims : List Claim) (old us : List Access) (rows before known : List (List ℕ)) (least : List (Option ℕ)) (form : Form R) (numbered : Numbered R) (run : AreSteps R) (gathered : AreGathered R (record { thread = THREADS; index = 0 }) claims old) (within : (c : Place) (e : Entry) → EntryAt R c e → c.thread < THREADS) (sorted : AreSorted old us) (short : length rows < 2 ^ 64) (clocks : (h : List Stamp) → IsEventList h R → AreBlockClocks h rows) (first : (k : ℕ) (l : Claim) → slice_get claims k ≡ Some l → (u : ℕ) → cell before k u ≡ cell rows l.block u) (learned : ClaimsKnow rows us (length us) before known) (long : length least ≡ length claims) (found : AreLeast known us (length us) least) where
   one : (j k : ℕ) (l m : Claim) → slice_get claims j ≡ Some l → slice_get claims k ≡ Some m → seen l.place ≡ seen m.place → j ≡ k
   one j k l m a b same = elim (cases_lt j k) [
     | inl lt ↦ absurd (let w = gathered.rising j k l m a b lt in not_before (seen l.place) (seen m.place) w (subst (λ c. Before c (seen l.place)) same (subst (λ c. Before (seen l.place) c) (sym same) w)))
     | inr ge ↦ elim (eq-or-lt_of_le ge) [
       | inl z ↦ sym z
-      | inr lt ↦ absurd (let w = gathered.rising k j m l b a lt in not_before (seen m.place) (seen l.place) w (subst (λ c. Before (seen l.place) c) same (subst (λ c. Before (seen l.place) c) (sym same) (subst (λ c. Before c (seen l.place)) (sym same) w))))
+      | inr lt ↦ absurd (let w = gathered.rising k j m l b a lt in not_before (seen m.place) (seen l.place) w (subst (λ c. Before (seen l.place) c) same (subst (λ c. Before c (seen l.place)) (sym same) w)))
     ]
   ]
 
@@ -176,3 +184,57 @@ module _ (R : Lists) (claims : List Claim) (old us : List Access) (rows before k
               fails.2 (subst (λ z. IsRaisedRightly R z fails.0) j.1.2 ((claim_right j.0 m q.0 fails.0 j.1.1 q.1 here').0 (w.1.1.5 j.0 m q.0 near j.1.1 q.1))))
         ],
       )
+
+map_all : (ns : List Number) → AllByRecursion (λ x. x < VARIABLES) (map (λ n. n.var) ns) → (x n : ℕ) → Contains ns (record { var = x; nth = n }) → x < VARIABLES
+map_all ns all x n (i, l, e) = all_at (λ y. y < VARIABLES) (λ (m : Number). m.var) ns all i (record { var = x; nth = n }) (slice_get-get_or ns i (record { var = x; nth = n }) l ∙ ap Some e)
+
+-- the numbers of an entry that is kept are on variables that there are
+number_kept : (e : Entry) (x n : ℕ) → IsEntryKept e → NumberOn e x n → x < VARIABLES
+number_kept (Plain var nth cached write value raised) x n kept i = subst (λ y. y < VARIABLES) i.0 kept
+number_kept (Commit at tx) x n kept i = map_all tx.numbers kept.2.2 x n i
+number_kept (Abort tx (Raised var)) x n kept i = map_all tx.numbers kept.0.2.2 x n i
+number_kept (Abort tx (Changed var read found)) x n kept i = absurd i
+number_kept (Sync at act value) x n kept i = absurd i
+number_kept (Trim low) x n kept i = absurd i
+number_kept (Over ending) x n kept i = absurd i
+
+-- each access is of a variable and a thread that there are, and of a claim
+pub all_within :
+    (R : Lists) (d : Place) (claims : List Claim) (old us : List Access) → AreGathered R d claims old → AreSorted old us → ((c : Place) (e : Entry) → EntryAt R c e → (c.thread < THREADS) × IsEntryKept e) → (n : ℕ) → n ≡ length claims →
+    All (λ a. IsWithin n a) us
+all_within R d claims old us gathered sorted kept n same = λ k a l. one (get_or us k a) (Contains-get_or us k a l)
+  where
+    one : (a : Access) → Contains us a → IsWithin n a
+    one a i =
+        let w = (gathered.parts a).0 ((sorted.same a).0 i) in
+        let m = w.1.0 in
+        let e = w.1.1.0 in
+        let part = part_means w.0 m.place.thread m.block e a w.1.1.3 in
+        let k = kept (seen m.place) e w.1.1.2 in
+        let near = slice_get_within claims w.0 m w.1.1.1 in
+        (number_kept e a.var a.nth k.1 part.number, subst (λ t. t < THREADS) (sym part.thread) k.0, let z = part.claim in omega arith)
+
+-- the accesses put in order
+pub sorted_of : (old new : List Access) → IsPermutation old new → IsNonDecreasingBy (λ (a : Access). a.nth) new → AreSorted old new
+sorted_of old new moved rising = record {
+  same = λ a. (λ i. Contains-permutation new old a (IsPermutation-sym old new moved) i, λ i. Contains-permutation old new a moved i);
+  ordered = λ i j v w a b le.
+      let m = rising i j v le (slice_get_within new j w b) in
+      let x = get_or_from_slice_get new i v v a in
+      let y = get_or_from_slice_get new j w v b in
+      subst (λ (z : Access). v.nth ≤ z.nth) y (subst (λ (z : Access). z.nth ≤ (get_or new j v).nth) x m);
+}
+
+-- what was found of a record, put together
+pub finish :
+    (R : Lists) (claims : List Claim) (old us : List Access) (rows before known : List (List ℕ)) (least : List (Option ℕ)) (result : Option StoredPlace) → Form R → Numbered R → AreSteps R →
+    AreGathered R (record { thread = THREADS; index = 0 }) claims old → ((c : Place) (e : Entry) → EntryAt R c e → (c.thread < THREADS) × IsEntryKept e) → AreSorted old us → length rows < 2 ^ 64 → ((h : List Stamp) → IsEventList h R → AreBlockClocks h rows) →
+    (r1 r3 k6 : List (List ℕ)) (c2 c7 : List Claim) (a4 a5 : List Access) (l8 : List (Option ℕ)) → r1 ≡ rows → c2 ≡ claims → r3 ≡ rows → a4 ≡ us → a5 ≡ us → k6 ≡ known → c7 ≡ claims → l8 ≡ least →
+    ((k : ℕ) (l : Claim) → slice_get c2 k ≡ Some l → (u : ℕ) → cell before k u ≡ cell r1 l.block u) → ClaimsKnow r3 a4 (length a4) before known → length least ≡ length claims → AreLeast k6 a5 (length a5) least →
+    IsFirstOther c7 l8 result → MatchOption result (Races R) (λ c. IsFirstBy Before (RaceFailsAt R) (seen c))
+finish R claims old us rows before known least result form numbered run gathered kept sorted short clocks r1 r3 k6 c2 c7 a4 a5 l8 e1 e2 e3 e4 e5 e6 e7 e8 first learned long found other =
+    answer R claims old us rows before known least form numbered run gathered (λ c e a. (kept c e a).0) sorted short clocks
+      (λ k l a u. subst (λ r. cell before k u ≡ cell r l.block u) e1 (first k l (subst (λ cs. slice_get cs k ≡ Some l) (sym e2) a) u))
+      (subst (λ r. ClaimsKnow r us (length us) before known) e3 (subst (λ a. ClaimsKnow r3 a (length a) before known) e4 learned)) long
+      (subst (λ k. AreLeast k us (length us) least) e6 (subst (λ a. AreLeast k6 a (length a) least) e5 found)) result
+      (subst (λ cs. IsFirstOther cs least result) e7 (subst (λ ls. IsFirstOther c7 ls result) e8 other))

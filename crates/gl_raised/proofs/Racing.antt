@@ -161,7 +161,7 @@ pub record Judging (setting : Setting) (R : Lists) (h : List Stamp) (now : State
   pub numbered : Numbered R
   pub is_list : IsEventList h R
   pub allowed : Allows setting h now
-  pub short : length h < 2 ^ 63
+  pub short : length h < 2 ^ 64
   pub claim : (k : ℕ) (l : Claim) → slice_get claims k ≡ Some l → (e : Entry) × IsClaimOf R l e
   pub all : (c : Place) (e : Entry) → EntryAt R c e → IsAccess e → (k : ℕ) × ((l : Claim) × (slice_get claims k ≡ Some l) × (seen l.place ≡ c))
   pub one : (j k : ℕ) (l m : Claim) → slice_get claims j ≡ Some l → slice_get claims k ≡ Some m → seen l.place ≡ seen m.place → j ≡ k

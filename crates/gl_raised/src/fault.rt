@@ -22,7 +22,8 @@ use std::alloc::{AllocError, Global};
 fn put_in_order(accesses: &mut Vec<Access>) -> Result<(), AllocError>
     ensures { OnOk result (AreSorted accesses.old.items accesses.new.items) }
 {
-    accesses.sort_by_key(|access| access.nth)
+    accesses.sort_by_key(|access| access.nth)?;
+    Ok(())
 }
 
 // The clock of each claim's block.
