@@ -1,0 +1,5 @@
+pub mod FlatOrder
+pub mod LastWords
+pub mod Walked
+pub mod Blocks
+pub mod FlatList
