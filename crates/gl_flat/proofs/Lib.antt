@@ -6,3 +6,5 @@ pub mod FlatList
 pub mod FlatWords
 pub mod FlatRuns
 pub mod KeptEntries
+pub mod Tables
+pub mod Passing

@@ -61,13 +61,14 @@ module _ (R : Lists) (h : List Stamp) (is_list : IsEventList h R) (rise : Positi
   walked_on p i j le d (q, e, inr w) = (q, e, inr (w.0, let z = w.1 in omega arith))
 
   -- from the end of a block to the next
-  pub walked_end : (p i : ℕ) (d : Place) → (IsBlockOf R d p → d.index < i) → IsWalked R p i d ↔ IsWalked R (p + 1) 0 d
-  walked_end p i d short = (to, from)
-    where
-      to : IsWalked R p i d → IsWalked R (p + 1) 0 d
-      to (q, e, inl lt) = (q, e, inl (omega arith))
-      to (q, e, inr w) = (q, e, inl (let z = w.0 in omega arith))
+  pub walked_out : (p i : ℕ) (d : Place) → IsWalked R p i d → IsWalked R (p + 1) 0 d
+  walked_out p i d (q, e, inl lt) = (q, e, inl (omega arith))
+  walked_out p i d (q, e, inr w) = (q, e, inl (let z = w.0 in omega arith))
 
+  -- where all of the block stands before that place
+  pub walked_end : (p i : ℕ) (d : Place) → (IsBlockOf R d p → d.index < i) → IsWalked R p i d ↔ IsWalked R (p + 1) 0 d
+  walked_end p i d short = (walked_out p i d, from)
+    where
       from : IsWalked R (p + 1) 0 d → IsWalked R p i d
       from (q, e, inr w) = absurd (let z = w.1 in omega arith)
       from (q, e, inl lt) = elim (ℕ_discrete q p) [

@@ -37,13 +37,23 @@ FlatFailsAt R c = (e : Entry) × EntryAt R c e × ((x : ℕ) × ((v : ℤ) × Re
 abbrev pub LookFailsAt : Lists → Place → Type 0
 LookFailsAt R c = (e : Entry) × EntryAt R c e × (ReadsRight R e → ⊥)
 
--- each performed read, and each look of a commit, has the word where it is laid out; and each look, and what each changed attempt found, is
--- the word below its own number
+-- each performed read, and each look of a commit, has the word where it is laid out
+abbrev pub FlatHolds : Lists → Type 0
+FlatHolds R = (c : Place) (e : Entry) → EntryAt R c e → (x : ℕ) (v : ℤ) → ReadsValue e x v → IsWordAt R c x v
+
+-- each look, and what each changed attempt found, is the word below its own number
+abbrev pub LooksHold : Lists → Type 0
+LooksHold R = (c : Place) (e : Entry) → EntryAt R c e → ReadsRight R e
+
+-- both
 pub record WordsHold (R : Lists) : Type 0 where
-  pub flat : (c : Place) (e : Entry) → EntryAt R c e → (x : ℕ) (v : ℤ) → ReadsValue e x v → IsWordAt R c x v
-  pub looks : (c : Place) (e : Entry) → EntryAt R c e → ReadsRight R e
+  pub flat : FlatHolds R
+  pub looks : LooksHold R
+
+-- the first place of the flat history where a read is wrong
+abbrev pub IsFirstInFlatOrder : Lists → Place → Type 0
+IsFirstInFlatOrder R c = IsFirstBy (InFlatOrder R) (FlatFailsAt R) c
 
 -- the first place where a word is wrong: first along the flat history, then the looks and what was found, by thread and place
 abbrev pub WordFailsFirst : Lists → Place → Type 0
-WordFailsFirst R c =
-    IsFirstBy (InFlatOrder R) (FlatFailsAt R) c ⊎ (((d : Place) → FlatFailsAt R d → ⊥) × IsFirstBy Before (LookFailsAt R) c)
+WordFailsFirst R c = IsFirstInFlatOrder R c ⊎ (((d : Place) → FlatFailsAt R d → ⊥) × IsFirstBy Before (LookFailsAt R) c)
