@@ -8,3 +8,6 @@ pub mod FlatRuns
 pub mod KeptEntries
 pub mod Tables
 pub mod Passing
+pub mod Members
+pub mod Gathering
+pub mod Search

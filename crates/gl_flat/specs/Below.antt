@@ -1,10 +1,10 @@
 -- The performed writes of a record, and the word below a number among them.
-use Rattle.std.specs.Prelude.{◌≡◌, ℕ, ◌<◌, ◌==◌, true, false, List, [], ◌∷◌, ◌++◌, Option, Some, None, MatchOption, ◌↔◌, Contains}
+use Rattle.std.specs.Prelude.{◌≡◌, ℕ, ℤ, ◌<◌, ◌==◌, true, false, List, [], ◌∷◌, ◌++◌, Option, Some, None, MatchOption, ◌↔◌, Contains}
 use Rattle.std.specs.List.{find}
 use Rattle.gl_model.specs.declared.tx.Number.{Number}
 use Rattle.gl_model.specs.declared.tx.Pair.{Pair}
 use Rattle.gl_model.specs.Entries.{Entry, Sync, Commit, Plain, Abort, Trim, Over}
-use Rattle.gl_model.specs.Flat.{IsWritten, ReadsRight}
+use Rattle.gl_model.specs.Flat.{IsWordBelow, IsWritten, ReadsRight}
 use Rattle.gl_model.specs.Form.{At}
 use Rattle.gl_model.specs.Records.{Lists}
 use Rattle.gl_flat.specs.declared.writes.Written.{Written}
@@ -33,6 +33,10 @@ written_by (Over ending) = []
 -- these are the performed writes of the record
 abbrev pub AreWrites : Lists → List Written → Type 0
 AreWrites R ws = (w : Written) → Contains ws w ↔ IsWritten R w.var w.nth w.value
+
+-- what was found is the word below the number that the end of the attempt drew on the variable
+abbrev pub FoundIsRight : Lists → List Number → ℕ → ℤ → Type 0
+FoundIsRight R numbers var found = (number : ℕ) → Contains numbers (record { var = var; nth = number }) → IsWordBelow R var number found
 
 -- the answer is the first place of the list whose looks are not right, or there is none
 abbrev pub IsFirstLook : Lists → List Entry → Option ℕ → Type 0

@@ -5,11 +5,11 @@ ghost use Rattle.gl_model.specs.Entries.{seen};
 ghost use Rattle.gl_model.specs.Flat.{IsWordBelow};
 ghost use Rattle.gl_model.specs.Lists.{lists_of};
 ghost use Rattle.gl_model.specs.Records.{Lists};
-ghost use Rattle.gl_flat.specs.Below.{AreWrites, written_by, written_in};
+ghost use Rattle.gl_flat.specs.Below.{AreWrites, with_number, written_by, written_in};
 ghost use Rattle.gl_flat.specs.Sorted.{written_cmp};
 
 use crate::walk::list_of;
-use gl_model::{Entry, Record, THREADS, TX_VARIABLES, Tx};
+use gl_model::{Entry, Number, Pair, Record, THREADS, TX_VARIABLES, Tx};
 use std::alloc::{AllocError, Global};
 
 const MOST_PARTS: usize = TX_VARIABLES as usize;
@@ -22,6 +22,24 @@ pub struct Written {
     pub value: i64,
 }
 
+// Adds a write, if its transaction drew a number on its variable.
+fn add_numbered(
+    writes: &mut Vec<Written>,
+    write: Pair,
+    number: Option<Number>,
+) -> Result<(), AllocError>
+    ensures { OnOk result (writes.new.items ≡ writes.old.items ++ with_number write number) }
+{
+    if let Some(number) = number {
+        writes.push(Written {
+            var: write.var,
+            nth: number.nth,
+            value: write.value,
+        })?;
+    }
+    Ok(())
+}
+
 // Adds the writes of a transaction, with their numbers.
 fn add_writes(writes: &mut Vec<Written>, tx: &Tx) -> Result<(), AllocError>
     ensures { OnOk result (writes.new.items ≡ writes.old.items ++ written_in tx.now.numbers tx.now.writes) }
@@ -31,13 +49,7 @@ fn add_writes(writes: &mut Vec<Written>, tx: &Tx) -> Result<(), AllocError>
         let Some(write) = tx.writes.at(i) else {
             return Ok(());
         };
-        if let Some(number) = tx.numbers.of(write.var) {
-            writes.push(Written {
-                var: write.var,
-                nth: number.nth,
-                value: write.value,
-            })?;
-        }
+        add_numbered(writes, write, tx.numbers.of(write.var))?;
     }
     Ok(())
 }
@@ -73,7 +85,7 @@ fn add_entry(writes: &mut Vec<Written>, entry: &Entry) -> Result<(), AllocError>
 
 // Adds the performed writes of a thread's list.
 fn add_list(writes: &mut Vec<Written>, entries: &[Entry]) -> Result<(), AllocError>
-    ensures { OnOk result (writes.new.items ≡ writes.old.items ++ flat_map written_by (map seen entries.now)) }
+    ensures { OnOk result (writes.new.items ≡ writes.old.items ++ flat_map (λ e. written_by (seen e)) entries.now) }
 {
     for entry in entries {
         add_entry(writes, entry)?;
