@@ -1,6 +1,6 @@
 // Looks against their own numbers.
 ghost use Rattle.std.specs.Prelude.{◌≡◌, ℕ, map, IfOk, IsSorted, MatchBool, MatchOption};
-ghost use Rattle.gl_model.specs.Entries.{seen};
+ghost use Rattle.gl_model.specs.Entries.{seen, Abort as AbortEntry};
 ghost use Rattle.gl_model.specs.Flat.{LooksReadRight, ReadsRight};
 ghost use Rattle.gl_model.specs.Lists.{lists_of};
 ghost use Rattle.gl_model.specs.Records.{Lists};
@@ -57,6 +57,17 @@ fn change_is_right(writes: &[Written], tx: &Tx, var: u16, found: i64) -> bool
     found_is_right(writes, &tx.numbers, var, found)
 }
 
+// Are the looks of an attempt that was dropped right, and what it found?
+fn abort_is_right(writes: &[Written], tx: &Tx, why: Why) -> bool
+    requires { IsSorted written_cmp writes.now }
+    ensures { (R : Lists) → AreWrites R writes.now → MatchBool result (ReadsRight R (AbortEntry tx.now why)) (ReadsRight R (AbortEntry tx.now why) → ⊥) }
+{
+    match why {
+        Why::Changed { var, found, .. } => change_is_right(writes, tx, var, found),
+        Why::Raised { .. } => looks_are_right(writes, &tx.looks),
+    }
+}
+
 // Are the looks of the entry right, and what it found?
 fn reads_right(writes: &[Written], entry: &Entry) -> bool
     requires { IsSorted written_cmp writes.now }
@@ -64,14 +75,7 @@ fn reads_right(writes: &[Written], entry: &Entry) -> bool
 {
     match entry {
         Entry::Commit { tx, .. } => looks_are_right(writes, &tx.looks),
-        Entry::Abort {
-            tx,
-            why: Why::Changed { var, found, .. },
-        } => change_is_right(writes, tx, *var, *found),
-        Entry::Abort {
-            tx,
-            why: Why::Raised { .. },
-        } => looks_are_right(writes, &tx.looks),
+        Entry::Abort { tx, why } => abort_is_right(writes, tx, *why),
         Entry::Plain { .. } | Entry::Sync { .. } | Entry::Trim { .. } | Entry::Over(_) => true,
     }
 }

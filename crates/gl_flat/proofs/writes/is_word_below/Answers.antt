@@ -1,7 +1,9 @@
-use Rattle.std.proofs.Common.{◌≡◌, ◌<◌, ◌≤◌, ◌-◌, FitsSigned, arith, length, pos, refl, rules, w64, slice_index_or}
+use Rattle.std.proofs.Common.{◌≡◌, ◌<◌, ◌≤◌, ◌-◌, FitsSigned, arith, length, pos, refl, rules, subst, sym, w64, slice_index_or}
 use Rattle.std.proofs.lemmas.List.Sorted.{IsPartitionPoint-from_clause}
 use Rattle.std.proofs.lemmas.Int.{to_z-of_z}
-use Rattle.std.specs.List.Sorted.{IsPartitionPoint}
+use Rattle.std.specs.Prelude.{Contains, MatchBool}
+use Rattle.std.specs.List.Sorted.{IsBinarySearchResult}
+use Rattle.gl_flat.specs.Sorted.{written_cmp}
 use Rattle.gl_flat.specs.declared.writes.Written.{Written}
 use Rattle.gl_flat.proofs.Search.{first_point, is_before, other_point, parted, same_point, searched, zero_test}
 use Rattle.gl_flat.proofs.writes.is_word_below.Goals as goal
@@ -28,4 +30,7 @@ returns c = λ R are.
     let target : Written = record { var = c.args.var; nth = last.nth; value = c.args.value } in
     let point = IsPartitionPoint-from_clause (is_before c.args.var c.args.nth) _ _ c.partition_point-end.ensures.partitioned (parted ws c.requires c.args.var c.args.nth) (λ a r q k. search rules) in
     same_point ws c.requires R are c.args.var c.args.nth c.partition_point-end.result c.args.value point d (omega arith) c.partition_point-end.ensures.bound
-    c.if-last-var.false c.is_ok.result ?
+    c.if-last-var.false c.is_ok.result
+    (subst (λ b. MatchBool b (Contains ws target) (Contains ws target → ⊥)) (sym c.is_ok.ensures.value)
+    (searched ws c.requires target c.binary_search.result c.binary_search.ensures.bound
+    (subst (λ v. IsBinarySearchResult (λ y. written_cmp y (record { var = c.args.var; nth = last.nth; value = v })) ws c.binary_search.result) (to_z-of_z w64 c.args.value fits) c.binary_search.ensures.position)))
