@@ -11,4 +11,4 @@ pub mod Passing
 pub mod Members
 pub mod Gathering
 pub mod Search
-pub mod Looks
+pub mod RightLooks

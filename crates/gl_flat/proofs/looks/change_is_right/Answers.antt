@@ -3,7 +3,7 @@ use Rattle.std.specs.Prelude.{MatchBool}
 use Rattle.std.proofs.lemmas.Int.{to_z-of_z}
 use Rattle.gl_model.specs.Flat.{LooksReadRight}
 use Rattle.gl_flat.specs.Below.{FoundIsRight}
-use Rattle.gl_flat.proofs.Looks.{second_tested}
+use Rattle.gl_flat.proofs.RightLooks.{second_tested}
 use Rattle.gl_flat.proofs.looks.change_is_right.Goals as goal
 
 pub returns : goal.returns

@@ -2,7 +2,7 @@ use Rattle.std.proofs.Common.{FitsSigned, subst, sym, w64}
 use Rattle.std.specs.Prelude.{MatchBool}
 use Rattle.std.proofs.lemmas.Int.{to_z-of_z}
 use Rattle.gl_model.specs.Flat.{IsWordBelow}
-use Rattle.gl_flat.proofs.Looks.{no_number, number_found}
+use Rattle.gl_flat.proofs.RightLooks.{no_number, number_found}
 use Rattle.gl_flat.proofs.looks.found_is_right.Goals as goal
 
 pub returns-in-Some : goal.returns-in-Some

@@ -2,7 +2,7 @@ use Rattle.std.proofs.Common.{◌≤◌, arith, length, map}
 use Rattle.gl_model.specs.Entries.{seen}
 use Rattle.gl_model.specs.Flat.{ReadsRight}
 use Rattle.gl_model.specs.Form.{At}
-use Rattle.gl_flat.proofs.Looks.{no_more, one_more}
+use Rattle.gl_flat.proofs.RightLooks.{no_more, one_more}
 use Rattle.gl_flat.proofs.Passing.{at_map}
 use Rattle.gl_flat.proofs.Tables.{map_length}
 use Rattle.gl_flat.proofs.looks.list_fault.Goals as goal

@@ -3,7 +3,7 @@ use Rattle.gl_model.specs.declared.limits.TheConstants.{THREADS}
 use Rattle.gl_model.specs.Entries.{seen}
 use Rattle.gl_model.specs.Lists.{lists_of}
 use Rattle.gl_flat.specs.Below.{AreWrites}
-use Rattle.gl_flat.proofs.Looks.{all_looks, first_look, next_look}
+use Rattle.gl_flat.proofs.RightLooks.{all_looks, first_look, next_look}
 use Rattle.gl_flat.proofs.looks.look_fault.Goals as goal
 
 pub returns-in-Some : goal.returns-in-Some

@@ -4,7 +4,7 @@ use Rattle.std.proofs.lemmas.Int.{to_z-of_z}
 use Rattle.gl_model.specs.declared.limits.TheConstants.{TX_VARIABLES}
 use Rattle.gl_model.specs.declared.tx.Look.{Look}
 use Rattle.gl_model.specs.Flat.{IsWordBelow}
-use Rattle.gl_flat.proofs.Looks.{no_more, none_more, one_more}
+use Rattle.gl_flat.proofs.RightLooks.{no_more, none_more, one_more}
 use Rattle.gl_flat.proofs.Tables.{few_parts}
 use Rattle.gl_flat.proofs.looks.looks_are_right.Goals as goal
 
