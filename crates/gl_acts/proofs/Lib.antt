@@ -1,0 +1,5 @@
+pub mod Steps
+pub mod Runs
+pub mod Applied
+pub mod Ending
+pub mod Firsts
