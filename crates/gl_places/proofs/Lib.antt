@@ -1,0 +1,5 @@
+pub mod Pigeons
+pub mod UsesMade
+pub mod Gathered
+pub mod ListedLaw
+pub mod EventPlaces
