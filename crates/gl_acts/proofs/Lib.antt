@@ -3,3 +3,5 @@ pub mod Runs
 pub mod Applied
 pub mod Ending
 pub mod Firsts
+pub mod Walking
+pub mod Keeping

@@ -18,7 +18,7 @@ abbrev pub HasEvents : Lists → ℕ → Type 0
 HasEvents R n = (p : ℕ) → p < n → (c : Place) × ((s : Stamp) × IsEventAt R c p s)
 
 -- a run up to n is one up to each position before
-pub shorter : (setting : Setting) (R : Lists) (m n : ℕ) → m ≤ n → StepsUpTo setting R n → StepsUpTo setting R m
+abbrev pub shorter : (setting : Setting) (R : Lists) (m n : ℕ) → m ≤ n → StepsUpTo setting R n → StepsUpTo setting R m
 shorter setting R m n le run = record {
   at = run.at;
   first = run.first;
@@ -27,7 +27,7 @@ shorter setting R m n le run = record {
 }
 
 -- before any event there is the start
-pub no_steps : (setting : Setting) (R : Lists) → StepsUpTo setting R 0
+abbrev pub no_steps : (setting : Setting) (R : Lists) → StepsUpTo setting R 0
 no_steps setting R = record {
   at = λ _. start setting;
   first = refl;
