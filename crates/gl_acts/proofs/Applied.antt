@@ -1,5 +1,5 @@
 -- What a thread does to the coded state is a step of the machine, and what it is refused is refused there.
-use Rattle.std.proofs.Common.{◌≡◌, ◌≢◌, ℕ, zero, suc, ◌+◌, ◌-◌, ◌<◌, ◌≤◌, ◌==◌, Bool, true, false, List, ◌∷◌, length, refl, sym, ap, subst, arith, ◌∙◌, inl, inr, Some, None, Option, cond}
+use Rattle.std.proofs.Common.{◌≡◌, ℕ, zero, suc, ◌+◌, ◌-◌, ◌<◌, ◌≤◌, ◌==◌, Bool, true, false, List, ◌∷◌, length, refl, sym, ap, subst, arith, ◌∙◌, inl, inr, Some, None, Option, cond}
 use Rattle.std.specs.Prelude.{ℤ, pos, Contains, MatchBool, nat_eq, slice_get, map, option_map, filter}
 use Rattle.std.specs.List.{range_with_len}
 use Rattle.std.proofs.lemmas.Bool.Decides.{nat_tests}
@@ -18,7 +18,7 @@ use Rattle.gl_model.specs.Entries.{Entry, Sync, Commit}
 use Rattle.gl_model.specs.Form.{value_of}
 use Rattle.gl_model.specs.declared.tx.Tx.{Tx}
 use Rattle.gl_model.specs.Records.{event_of, variables_of}
-use Rattle.gl_model.specs.Machine.{Setting, State, Step, Running, MonitorState, Owned, Owns, Refuses, not_owner, heap_full, threads_full, input_end, bad_thread, Fits, ThreadState, NeverForked}
+use Rattle.gl_model.specs.Machine.{Setting, State, Running, Owned, Refuses, not_owner, heap_full, threads_full, input_end, bad_thread, NeverForked}
 use Rattle.gl_state.proofs.Entering.{enters_step}
 use Rattle.gl_state.proofs.Steps.{begins_step, leaves_step, makes_step, prints_step}
 use Rattle.gl_state.specs.declared.state.Stage.{Stage}
@@ -27,7 +27,7 @@ use Rattle.gl_state.specs.Acts.{HasRoom, Leaves, reference_in, stage_of, with_ob
 use Rattle.gl_state.specs.Entering.{Enters, monitor_of}
 use Rattle.gl_state.specs.ListView.{ListView}
 use Rattle.gl_state.specs.States.{IsStateOf, monitor_state, thread_state}
-use Rattle.gl_acts.specs.Applying.{act_by, Applies, IsNoStepFrom, IsStepFrom}
+use Rattle.gl_acts.specs.Applying.{act_by, Applies, IsStepFrom}
 use Rattle.gl_acts.specs.Refusing.{IsFull, IsNotOwner, IsUnforked}
 
 -- a thread that was forked with this function and argument begins
@@ -86,11 +86,19 @@ module _ (setting : Setting) (t : ℕ) (value : ℤ) (l : ListView) (runs : stag
   -- of a class whose object does not fit
   full_there : (now : State) → IsStateOf l now → Refuses setting now t 6 value → IsFull setting l value
   full_there now is (not_owner code o named near not_in) = absurd (omega arith)
-  full_there now is (heap_full code c named fields class full) = (c, named, (fields, class, λ room. full (record {
-    object = subst (λ n. n < Rattle.gl_model.specs.declared.limits.TheConstants.MONITORS) (sym is.next_object) room.object;
-    variables = (let e = is.next_variable in let r = room.variables in omega arith);
-    volatiles = (let e = is.next_volatile in let r = room.volatiles in omega arith);
-  })))
+  full_there now is (heap_full code c named fields class full) = (
+    c,
+    named,
+    (
+      fields,
+      class,
+      λ room. full (record {
+        object = subst (λ n. n < Rattle.gl_model.specs.declared.limits.TheConstants.MONITORS) (sym is.next_object) room.object;
+        variables = (let e = is.next_variable in let r = room.variables in omega arith);
+        volatiles = (let e = is.next_volatile in let r = room.volatiles in omega arith);
+      }),
+    ),
+  )
   full_there now is (threads_full code full) = absurd (omega arith)
   full_there now is (input_end code end) = absurd (omega arith)
   full_there now is (bad_thread code u named near new) = absurd (omega arith)

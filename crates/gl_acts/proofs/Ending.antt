@@ -1,15 +1,13 @@
 -- After the last event of a well-formed record no thread is live, since each list ends with its thread's End.
-use Rattle.std.proofs.Common.{◌≡◌, ◌≢◌, ℕ, zero, suc, ◌+◌, ◌-◌, ◌<◌, ◌≤◌, List, [], ◌∷◌, length, refl, sym, ap, subst, arith, ◌∙◌, Some, None, inl, inr}
+use Rattle.std.proofs.Common.{◌≡◌, ◌≢◌, ℕ, zero, suc, ◌+◌, ◌-◌, ◌<◌, ◌≤◌, List, [], ◌∷◌, refl, sym, ap, subst, arith, ◌∙◌, Some, inl, inr}
 use Rattle.std.specs.Prelude.{ℤ, ◌⊎◌, slice_get}
-use Rattle.std.proofs.lemmas.Option.{slice_get_cases}
 use Rattle.gl_model.specs.declared.event.Act.{Act}
 use Rattle.gl_model.specs.declared.event.Act.TheVariants.{Begin, End, Acq, Rel, VRead, VWrite, Fork, Join, Alloc, Print, Input, Fail}
-use Rattle.gl_model.specs.declared.event.Event.{Event}
 use Rattle.gl_model.specs.declared.event.Event.TheVariants.{Act as Does}
 use Rattle.gl_model.specs.declared.event.Stamp.{Stamp}
 use Rattle.gl_model.specs.Entries.{Entry, Sync, Commit, Plain, Abort, Trim, Over}
 use Rattle.gl_model.specs.Form.{Form, IsBegin, IsEnd, IsOver, IsTrim, ListForm, value_of}
-use Rattle.gl_model.specs.Machine.{Setting, State, Step, ThreadState, start, NeverForked, Forked, Running, Ended, with_at}
+use Rattle.gl_model.specs.Machine.{Setting, State, ThreadState, NeverForked, Forked, Running, Ended}
 use Rattle.gl_model.specs.Records.{At, EntryAt, event_of, IsEventAt, Lists, Place, position_of}
 use Rattle.gl_draws.proofs.DrawTies.{with_else}
 use native.Mathlib.Decide.{ℕ_discrete}

@@ -1,12 +1,11 @@
 -- The first place where a record is no run of the machine is one, and a run of the machine has none.
-use Rattle.std.proofs.Common.{◌≡◌, ◌≢◌, ℕ, ◌+◌, ◌<◌, ◌≤◌, List, length, refl, sym, ap, subst, arith, ◌∙◌, Some, inl, inr}
-use Rattle.std.specs.Prelude.{ℤ, ◌⊎◌, slice_get, ◌↔◌}
+use Rattle.std.proofs.Common.{◌≡◌, ℕ, ◌+◌, ◌<◌, List, length, refl, sym, ap, subst, arith, ◌∙◌, Some, inl, inr}
+use Rattle.std.specs.Prelude.{ℤ, ◌⊎◌, slice_get}
 use Rattle.std.proofs.lemmas.Bool.{cases_order}
 use Rattle.std.proofs.lemmas.Option.{slice_get_cases}
 use Rattle.gl_model.specs.declared.event.Act.TheVariants.{Fork}
 use Rattle.gl_model.specs.declared.event.Event.TheVariants.{Act as Does}
 use Rattle.gl_model.specs.declared.event.Stamp.{Stamp}
-use Rattle.gl_model.specs.Edges.{EventAt}
 use Rattle.gl_model.specs.Entries.{Sync}
 use Rattle.gl_model.specs.Form.{Form, IsMachineRun, Listed}
 use Rattle.gl_model.specs.Machine.{Setting, State, NeverForked, Ended}
@@ -100,13 +99,17 @@ module _ (setting : Setting) (R : Lists) where
 
   -- where all events are steps, a well-formed and listed record is a run of the machine
   pub whole : (cs : List Place) → Form R → Listed R → AreEventPlaces R cs → StepsUpTo setting R (length cs) → RunsMachine setting R
-  whole cs form listed places run = (listed.0, listed.1, record {
-    at = all.at;
-    first = all.first;
-    steps = λ c p s e. all.steps c p s (list_below R listed.0 listed.1 c p s e) e;
-    lists = λ c p u f value there. all.lists c p u f value (list_below R listed.0 listed.1 c p (record { thread = c.thread; event = Does (Fork u f) }) (is_fork c p u f value there)) there;
-    ended = all_ended setting R (length listed.0) (list_events R listed.0 listed.1) (list_below R listed.0 listed.1) form all;
-  })
+  whole cs form listed places run = (
+    listed.0,
+    listed.1,
+    record {
+      at = all.at;
+      first = all.first;
+      steps = λ c p s e. all.steps c p s (list_below R listed.0 listed.1 c p s e) e;
+      lists = λ c p u f value there. all.lists c p u f value (list_below R listed.0 listed.1 c p (record { thread = c.thread; event = Does (Fork u f) }) (is_fork c p u f value there)) there;
+      ended = all_ended setting R (length listed.0) (list_events R listed.0 listed.1) (list_below R listed.0 listed.1) form all;
+    },
+  )
     where
       up : (p : ℕ) → p < length cs → p < length listed.0
       up p less = let c = some_below cs p less in let e = (places p c.0).0 c.1 in list_below R listed.0 listed.1 c.0 p e.0 e.1

@@ -55,6 +55,6 @@ forks g ls kept e at u f value is None none b same =
     subst (λ z. MatchBool z (HasForked (lists_of ls) e) (HasForked (lists_of ls) e → ⊥)) (sym same) (λ has. has at u f value is (no_list ls u none))
 forks g ls kept e at u f value is (Some es) some b same =
     subst (λ z. MatchBool z (HasForked (lists_of ls) e) (HasForked (lists_of ls) e → ⊥)) (sym same) (λ at' u' f' value' is'.
-      let two : Sync at (Fork u f) value ≡ Sync at' (Fork u' f') value' = sym is ∙ is' in
-      let child : u ≡ u' = cc in
-      subst (λ z. lists_of ls z ≢ []) child (some_list ls kept u (g es) some))
+    let two : Sync at (Fork u f) value ≡ Sync at' (Fork u' f') value' = sym is ∙ is' in
+    let child : u ≡ u' = cc in
+    subst (λ z. lists_of ls z ≢ []) child (some_list ls kept u (g es) some))

@@ -8,7 +8,7 @@ use Rattle.gl_model.specs.declared.event.Stamp.{Stamp}
 use Rattle.gl_model.specs.Entries.{Entry, Sync}
 use Rattle.gl_model.specs.Form.{value_of}
 use Rattle.gl_model.specs.Machine.{Setting, State, Step, start, with_at}
-use Rattle.gl_model.specs.Records.{At, EntryAt, event_of, IsEventAt, Lists, Place, position_of}
+use Rattle.gl_model.specs.Records.{At, EntryAt, event_of, IsEventAt, Lists, Place}
 use Rattle.gl_draws.proofs.DrawTies.{with_here, with_else}
 use Rattle.gl_acts.specs.Acting.{StepsUpTo}
 use Rattle.gl_acts.proofs.Steps.{AreWithin, one_next, within_step}

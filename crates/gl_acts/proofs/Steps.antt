@@ -1,6 +1,6 @@
 -- What a step of the machine settles, and what it keeps.
-use Rattle.std.proofs.Common.{◌≡◌, ◌≢◌, ℕ, zero, suc, ◌+◌, ◌≤◌, ◌==◌, refl, sym, ap, subst, arith, ◌∙◌, inl, inr, true, false, Some, eq-eqb, ne_eqb}
-use Rattle.std.specs.Prelude.{ℤ, ◌⊎◌, if◌then◌else◌}
+use Rattle.std.proofs.Common.{◌≡◌, ◌≢◌, ℕ, zero, suc, ◌+◌, ◌≤◌, refl, sym, ap, subst, arith, ◌∙◌, Some, ne_eqb}
+use Rattle.std.specs.Prelude.{ℤ, if◌then◌else◌}
 use native.Mathlib.Decide.{ℕ_discrete}
 use Rattle.gl_model.specs.declared.event.Act.{Act}
 use Rattle.gl_model.specs.declared.event.Act.TheVariants.{Begin, End, Acq, Rel, VRead, VWrite, Fork, Join, Alloc, Print, Input, Fail}

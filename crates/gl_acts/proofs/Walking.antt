@@ -1,18 +1,17 @@
 -- The record is walked by the places of its events: how far the walk has come, and what the next event tells.
-use Rattle.std.proofs.Common.{◌≡◌, ◌≢◌, ℕ, zero, suc, ◌+◌, ◌<◌, ◌≤◌, ◌^◌, Bool, true, false, List, [], ◌∷◌, length, refl, sym, ap, subst, arith, ◌∙◌, Some, None, Option, inl, inr, map, ◌==◌}
+use Rattle.std.proofs.Common.{◌≡◌, ◌≢◌, ℕ, zero, suc, ◌+◌, ◌<◌, ◌≤◌, ◌^◌, Bool, true, false, List, [], ◌∷◌, length, refl, sym, ap, subst, arith, ◌∙◌, Some, inl, inr, map}
 use Rattle.std.specs.Prelude.{ℤ, ◌⊎◌, slice_get, slice_index_or}
 use Rattle.gl_model.specs.declared.event.Act.TheVariants.{Fork}
 use Rattle.gl_model.specs.declared.event.Stamp.{Stamp}
 use Rattle.gl_model.specs.Entries.{Entry, Sync}
 use Rattle.gl_model.specs.Form.{Form, Listed, value_of}
-use Rattle.gl_model.specs.Machine.{Setting, State, start, Owned}
-use Rattle.gl_model.specs.Records.{At, EntryAt, event_of, IsEventAt, Lists, Place, position_of}
+use Rattle.gl_model.specs.Machine.{Setting, State, start}
+use Rattle.gl_model.specs.Records.{EntryAt, event_of, IsEventAt, Lists, Place, position_of}
 use Rattle.gl_places.specs.declared.place.Place.{Place as StoredPlace}
 use Rattle.gl_places.specs.Places.{AreEventPlaces, seen}
-use Rattle.gl_state.specs.Entering.{IsShallow, monitor_of}
 use Rattle.gl_state.specs.ListView.{ListView}
 use Rattle.gl_state.specs.States.{IsStateOf, monitor_state}
-use Rattle.gl_acts.specs.Acting.{ActFailsAt, ActFailsFirst, RunsMachine, StepsUpTo}
+use Rattle.gl_acts.specs.Acting.{ActFailsFirst, RunsMachine, StepsUpTo}
 use Rattle.gl_acts.specs.Applying.{Applies, AreShallow}
 use Rattle.gl_acts.specs.Making.{GoesOn, HasForked, Makes, Stops}
 use Rattle.gl_acts.proofs.Firsts.{some_below, whole}

@@ -108,13 +108,7 @@ fn is_forkable(program: &Program, func: u16) -> bool
 }
 
 /// The thread forks the least thread that was never forked, with a function that a thread may be forked with.
-pub(crate) fn fork(
-    program: &Program,
-    state: &mut ListState,
-    by: By,
-    child: u8,
-    func: u16,
-) -> bool
+pub(crate) fn fork(program: &Program, state: &mut ListState, by: By, child: u8, func: u16) -> bool
     requires there { child < THREADS }
     requires runs { stage_of state.old by.thread ≡ stage.Running }
     ensures { (inputs : List ℤ) → Applies (setting_of program.now inputs) (act_by by.thread (act.Fork child func)) by.value state.old state.new result }

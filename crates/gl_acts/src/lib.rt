@@ -8,6 +8,4 @@ mod laws;
 mod refusals;
 
 pub use fault::act_fault;
-pub use laws::{
-    none_lives_on, one_act_fails_first, runs_do_not_fail, states_are_settled,
-};
+pub use laws::{none_lives_on, one_act_fails_first, runs_do_not_fail, states_are_settled};

@@ -10,9 +10,7 @@ ghost use Rattle.gl_state.specs.declared.state.Stage.TheVariants as stage;
 ghost use Rattle.gl_state.specs.Acts.{stage_of};
 
 use crate::changes::By;
-use gl_bytecode::{
-    BAD_THREAD, HEAP_FULL, INPUT_END, NOT_OWNER, Program, THREADS_FULL,
-};
+use gl_bytecode::{BAD_THREAD, HEAP_FULL, INPUT_END, NOT_OWNER, Program, THREADS_FULL};
 use gl_model::{CLASSES, Inputs, MONITORS, THREADS};
 use gl_state::{ListState, Stage};
 
@@ -95,13 +93,7 @@ fn is_unforked(state: &ListState, by: By) -> bool
 }
 
 /// The state refuses what the thread asked for, so that it fails with this code and value.
-pub(crate) fn fail(
-    program: &Program,
-    inputs: &Inputs,
-    state: &ListState,
-    by: By,
-    code: u8,
-) -> bool
+pub(crate) fn fail(program: &Program, inputs: &Inputs, state: &ListState, by: By, code: u8) -> bool
     requires runs { stage_of state.now by.thread ≡ stage.Running }
     ensures { Applies (setting_of program.now inputs.now) (act_by by.thread (act.Fail code)) by.value state.now state.now result }
 {

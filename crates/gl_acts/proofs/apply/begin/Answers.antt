@@ -1,4 +1,4 @@
-use Rattle.std.proofs.Common.{◌≡◌, sym, rules}
+use Rattle.std.proofs.Common.{◌≡◌, rules}
 use Rattle.gl_model.specs.declared.event.Act.TheVariants.{Begin}
 use Rattle.gl_acts.proofs.Applied.{begun}
 use Rattle.gl_acts.proofs.apply.begin.Goals as goal

@@ -1,10 +1,10 @@
-use Rattle.std.proofs.Common.{◌≡◌, ◌<◌, ◌≤◌, ◌^◌, ◌+◌, ◌∙◌, ℕ, List, arith, length, map, refl, subst, sym, rules}
-use Rattle.std.specs.Prelude.{slice_get, slice_index_or, Some}
+use Rattle.std.proofs.Common.{◌≡◌, ◌<◌, ◌^◌, List, arith, length, map, subst, sym}
+use Rattle.std.specs.Prelude.{slice_index_or}
 use Rattle.std.proofs.lemmas.List.{length-map}
 use Rattle.gl_bytecode.specs.Lawful.{setting_of}
 use Rattle.gl_model.specs.Lists.{lists_of}
-use Rattle.gl_model.specs.Machine.{Setting, start}
-use Rattle.gl_model.specs.Records.{Lists, Place}
+use Rattle.gl_model.specs.Machine.{start}
+use Rattle.gl_model.specs.Records.{Lists}
 use Rattle.gl_places.specs.declared.place.Place.{Place as StoredPlace}
 use Rattle.gl_places.specs.Places.{AreEventPlaces, seen as seen_place}
 use Rattle.gl_state.proofs.Starting.{first_is}

@@ -1,4 +1,3 @@
-use Rattle.std.proofs.Common.{map}
 use Rattle.gl_bytecode.specs.Lawful.{setting_of}
 use Rattle.gl_model.specs.Lists.{lists_of}
 use Rattle.gl_acts.proofs.Walking.{IsFar}
