@@ -119,8 +119,8 @@ written_next R t ws are x = (to, from)
     ]
 
 -- those of all threads, in any order, are the performed writes of the record
-pub all_written : (made : List (ℕ × List Entry)) → IsRecord made → (ws sorted : List Written) → AreWritesBelow (lists_of made) THREADS ws → IsPermutation ws sorted → AreWrites (lists_of made) sorted
-all_written made record' ws sorted are moved x = (to, from)
+pub all_written : (made : List (ℕ × List Entry)) → IsRecord made → (t : ℕ) → THREADS ≤ t → (ws sorted : List Written) → AreWritesBelow (lists_of made) t ws → IsPermutation ws sorted → AreWrites (lists_of made) sorted
+all_written made record' t far ws sorted are moved x = (to, from)
   where
     to : Contains sorted x → IsWritten (lists_of made) x.var x.nth x.value
     to i =
@@ -130,4 +130,4 @@ all_written made record' ws sorted are moved x = (to, from)
 
     from : IsWritten (lists_of made) x.var x.nth x.value → Contains sorted x
     from (c, (e, there, n, w)) =
-        Contains-permutation ws sorted x moved (in_contains ws x ((are x).1 (c, thread_at made record' c e there, (e, there, to_entry e x (kept_at made record' c e there) n w))))
+        Contains-permutation ws sorted x moved (in_contains ws x ((are x).1 (c, (let n' = thread_at made record' c e there in omega arith), (e, there, to_entry e x (kept_at made record' c e there) n w))))

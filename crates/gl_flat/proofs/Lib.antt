@@ -12,3 +12,4 @@ pub mod Members
 pub mod Gathering
 pub mod Search
 pub mod RightLooks
+pub mod OneHistory

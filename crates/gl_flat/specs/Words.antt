@@ -1,9 +1,14 @@
 -- The clause of words: what a read and a look have to read, and the first place where one reads otherwise.
-use Rattle.std.specs.Prelude.{◌≡◌, ℕ, ℤ, pos, ◌<◌, true, false, Contains, ◌⊎◌}
+use Rattle.std.specs.Prelude.{◌≡◌, ℕ, ℤ, pos, false, List, Contains, ◌⊎◌, ◌↔◌}
+use Rattle.gl_model.specs.declared.event.Stamp.{Stamp}
 use Rattle.gl_model.specs.declared.tx.Look.{Look}
 use Rattle.gl_model.specs.Entries.{Entry, Sync, Commit, Plain, Abort, Trim, Over}
-use Rattle.gl_model.specs.Flat.{InFlatOrder, ReadsRight, WritesValue}
-use Rattle.gl_model.specs.Records.{EntryAt, IsBlockOf, Lists, Place}
+use Rattle.gl_model.specs.Flat.{InFlatOrder, IsFlat, Legal, ReadsRight, WritesValue}
+use Rattle.gl_model.specs.Form.{Form, IsMachineRun, Listed}
+use Rattle.gl_model.specs.Kept.{IsRecord}
+use Rattle.gl_model.specs.Lists.{lists_of}
+use Rattle.gl_model.specs.Machine.{Setting}
+use Rattle.gl_model.specs.Records.{EntryAt, IsEventList, Lists, Place}
 use Rattle.gl_places.specs.Places.{Before, IsFirstBy}
 
 -- a performed write of v to x stands there
@@ -57,3 +62,19 @@ IsFirstInFlatOrder R c = IsFirstBy (InFlatOrder R) (FlatFailsAt R) c
 -- the first place where a word is wrong: first along the flat history, then the looks and what was found, by thread and place
 abbrev pub WordFailsFirst : Lists → Place → Type 0
 WordFailsFirst R c = IsFirstInFlatOrder R c ⊎ (((d : Place) → FlatFailsAt R d → ⊥) × IsFirstBy Before (LookFailsAt R) c)
+
+-- the laws of this clause, over well-formed records: the flat history is there, and there is one
+abbrev pub FlatHistoryIsOne : Type 0
+FlatHistoryIsOne =
+    (R : Lists) (h : List Stamp) → IsEventList h R → Form R → ((cs : List Place) × IsFlat R cs) × ((cs ds : List Place) → IsFlat R cs → IsFlat R ds → cs ≡ ds)
+
+-- where the events are a run of the machine, the record is legal exactly where its words hold
+abbrev pub LegalWhereWordsHold : Type 0
+LegalWhereWordsHold =
+    (made : List (ℕ × List Entry)) → IsRecord made → Form (lists_of made) → (setting : Setting) (h : List Stamp) → IsEventList h (lists_of made) →
+    IsMachineRun setting (lists_of made) h → Legal setting (lists_of made) ↔ WordsHold (lists_of made)
+
+-- there is one first place where a word is wrong, and none where the words hold
+pub record FirstWordIsOne : Type 0 where
+  pub one_place : (R : Lists) → Form R → Listed R → (c d : Place) → WordFailsFirst R c → WordFailsFirst R d → c ≡ d
+  pub none : (R : Lists) (c : Place) → WordFailsFirst R c → WordsHold R → ⊥
