@@ -13,3 +13,4 @@ pub mod Gathering
 pub mod Search
 pub mod RightLooks
 pub mod OneHistory
+pub mod Faulty
