@@ -1,7 +1,6 @@
 -- In a well-formed record each laid-out entry has a block, and a plain access is made by a running thread.
-use Rattle.std.proofs.Common.{◌≡◌, ◌≢◌, ℕ, zero, suc, ◌+◌, ◌<◌, ◌≤◌, List, [], length, refl, ap, subst, sym, ◌∙◌, inl, inr, arith, Some, None, true, false}
+use Rattle.std.proofs.Common.{◌≡◌, ◌≢◌, ℕ, zero, suc, ◌+◌, ◌<◌, List, length, refl, ap, subst, sym, ◌∙◌, inl, inr, arith, Some, None}
 use Rattle.std.specs.Prelude.{◌⊎◌, ℤ, Bool, Option, slice_get}
-use Rattle.std.proofs.lemmas.Bool.{cases_lt}
 use Rattle.std.proofs.lemmas.Option.{slice_get_within, slice_get_cases}
 use Rattle.std.proofs.Math.Nat.{eq-or-lt_of_le}
 use native.Mathlib.Decide.{ℕ_discrete}
@@ -15,7 +14,7 @@ use Rattle.gl_model.specs.Form.{At, Form, IsBegin, IsEnd, IsMachineRun, IsOver, 
 use Rattle.gl_model.specs.HappensBefore.{program_order}
 use Rattle.gl_model.specs.Edges.{one_step}
 use Rattle.gl_model.specs.Machine.{Setting, State, Step, Running, NeverForked, Forked}
-use Rattle.gl_model.specs.Records.{Lists, Place, EntryAt, IsEventAt, PositionsRise, IsBlockOf, position_of, event_of}
+use Rattle.gl_model.specs.Records.{Lists, Place, EntryAt, PositionsRise, IsBlockOf}
 use Rattle.gl_laws.proofs.Bridge.{same_entry, same_place}
 use Rattle.gl_laws.proofs.FlatLaws.{block_of_event, chain_stands}
 use Rattle.gl_draws.proofs.DrawTies.{with_here, with_else}
@@ -124,7 +123,7 @@ module _ (R : Lists) (form : Form R) where
     pub plain_runs : (c : Place) (p var nth : ℕ) (cached write raised : Bool) (value : ℤ) → EntryAt R c (Plain var nth cached write value raised) → IsBlockOf R c p → (machine.at (p + 1)).threads c.thread ≡ Running
     plain_runs c p var nth cached write raised value there b =
         subst (λ t. (machine.at (p + 1)).threads t ≡ Running) b.made.own
-            (runs_on setting (machine.at p) (machine.at (p + 1)) b.event.thread (value_of b.made.entry) b.event.event (machine.steps (record { thread = c.thread; index = b.index }) p b.event b.made) no_end)
+        (runs_on setting (machine.at p) (machine.at (p + 1)) b.event.thread (value_of b.made.entry) b.event.event (machine.steps (record { thread = c.thread; index = b.index }) p b.event b.made) no_end)
       where
         no_end : b.event.event ≡ Does End → ⊥
         no_end is =

@@ -1,5 +1,5 @@
 -- What the two searches for a wrong word find together, and that nothing is found exactly where the record is legal.
-use Rattle.std.proofs.Common.{◌≡◌, ℕ, List, refl, inl, inr, Some, None}
+use Rattle.std.proofs.Common.{◌≡◌, ℕ, List, refl, inr, Some, None}
 use Rattle.std.specs.Prelude.{◌↔◌, IfOk, MatchOption, Option, Result, Ok, Err}
 use Rattle.gl_model.specs.declared.event.Stamp.{Stamp}
 use Rattle.gl_model.specs.Entries.{Entry}

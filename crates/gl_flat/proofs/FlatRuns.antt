@@ -1,9 +1,7 @@
 -- The record is legal exactly where its words hold.
-use Rattle.std.proofs.Common.{◌≡◌, ℕ, zero, suc, ◌+◌, ◌<◌, ◌≤◌, List, [], ◌∷◌, length, refl, ap, subst, sym, ◌∙◌, inl, inr, arith, Some, None, true, false, add-one}
-use Rattle.std.specs.Prelude.{◌⊎◌, ℤ, pos, Bool, Option, slice_get}
-use Rattle.std.proofs.lemmas.Option.{slice_get_within, slice_get_cases}
+use Rattle.std.proofs.Common.{◌≡◌, ℕ, zero, suc, ◌+◌, List, [], ◌∷◌, length, refl, ap, subst, sym, ◌∙◌, arith, Some, None, true, false, add-one}
+use Rattle.std.specs.Prelude.{ℤ, pos, Option, slice_get}
 use Rattle.gl_model.specs.declared.event.Stamp.{Stamp}
-use Rattle.gl_model.specs.declared.tx.Look.{Look}
 use Rattle.gl_model.specs.Entries.{Entry, Sync, Commit, Plain, Abort, Trim, Over}
 use Rattle.gl_model.specs.Flat.{IsFlat, IsLaidOut, IsRun, IsStep, Legal, Memory}
 use Rattle.gl_model.specs.Form.{Form, IsMachineRun}
@@ -15,7 +13,7 @@ use Rattle.gl_laws.proofs.Legality.{ReadsAgree, is_run, memory, words}
 use Rattle.gl_flat.specs.Walk.{words_past}
 use Rattle.gl_flat.specs.Words.{IsLastWord, IsWordAt, ReadsValue, WordsHold}
 use Rattle.gl_flat.proofs.Blocks.{laid_block, plain_runs, positions_rise}
-use Rattle.gl_flat.proofs.FlatList.{IsLaidOutAt, at_contains, contains_at, history}
+use Rattle.gl_flat.proofs.FlatList.{at_contains, contains_at, history}
 use Rattle.gl_flat.proofs.FlatWords.{Among, first_word, laid_in, reads_laid, step_word, word_at, word_is}
 
 module _ (setting : Setting) (R : Lists) (h : List Stamp) (is_list : IsEventList h R) (form : Form R) (machine : IsMachineRun setting R h) (cs : List Place) (flat : IsFlat R cs) where
@@ -51,7 +49,7 @@ module _ (setting : Setting) (R : Lists) (h : List Stamp) (is_list : IsEventList
     agree = record {
       reads = λ k c var nth cached raised value at there.
           word_is R h is_list rise cs flat rising k c var value at
-              (hold.flat c (Plain var nth cached false value raised) there var value (unraised k c (Plain var nth cached false value raised) at there, refl, refl, refl));
+          (hold.flat c (Plain var nth cached false value raised) there var value (unraised k c (Plain var nth cached false value raised) at there, refl, refl, refl));
       looks = λ k c at tx here there j l found.
           word_is R h is_list rise cs flat rising k c l.var l.value here (hold.flat c (Commit at tx) there l.var l.value (l, contains_at tx.looks j l found, refl, refl));
       runs = λ k c var nth cached write raised value at there.
@@ -114,7 +112,7 @@ module _ (setting : Setting) (R : Lists) (h : List Stamp) (is_list : IsEventList
       let e_laid : IsLaidOut run.0 = subst IsLaidOut (same_entry R d laid.0 run.0 laid.1 run.1) laid.2 in
       along ds (suc k) run.2.0 (λ i. same (suc i) ∙ ap (slice_get cs) (let z : k + suc i ≡ suc k + i = omega arith in z)) run.2.2
       (λ x. subst (IsLastWord R (Among R h is_list rising cs legal.flat (suc k)) x) (sym (step_words setting old run.2.0 d.thread run.0 run.2.1 e_laid x))
-          (step_word R h is_list rising cs legal.flat k d run.0 old.words x here run.1 (words x)))
+      (step_word R h is_list rising cs legal.flat k d run.0 old.words x here run.1 (words x)))
       j c at
 
   pub holds_of : WordsHold R

@@ -1,6 +1,6 @@
 -- The words along a flat history are the last words before each of its places.
-use Rattle.std.proofs.Common.{◌≡◌, ◌≢◌, ℕ, zero, suc, ◌+◌, ◌<◌, ◌≤◌, List, length, refl, ap, subst, sym, ◌∙◌, inl, inr, arith, Some, None, true, false}
-use Rattle.std.specs.Prelude.{◌⊎◌, ◌↔◌, ℤ, pos, Bool, Option, slice_get}
+use Rattle.std.proofs.Common.{◌≡◌, ℕ, zero, suc, ◌<◌, ◌≤◌, List, length, refl, ap, subst, sym, ◌∙◌, inl, inr, arith, Some, true, false}
+use Rattle.std.specs.Prelude.{◌⊎◌, ◌↔◌, ℤ, pos, Option, slice_get}
 use Rattle.std.proofs.lemmas.Bool.{cases_lt}
 use Rattle.std.proofs.lemmas.Option.{slice_get_within, slice_get_cases}
 use Rattle.std.proofs.Math.Nat.{eq-or-lt_of_le}
@@ -8,8 +8,7 @@ use native.Mathlib.Decide.{ℕ_discrete}
 use Rattle.gl_model.specs.declared.event.Stamp.{Stamp}
 use Rattle.gl_model.specs.Entries.{Entry, Sync, Commit, Plain, Abort, Trim, Over}
 use Rattle.gl_model.specs.Flat.{InFlatOrder, IsFlat, IsLaidOut, WritesValue}
-use Rattle.gl_model.specs.Records.{Lists, Place, EntryAt, IsEventList, PositionsRise, IsBlockOf}
-use Rattle.gl_laws.proofs.Bridge.{same_entry}
+use Rattle.gl_model.specs.Records.{Lists, Place, EntryAt, IsEventList, PositionsRise}
 use Rattle.gl_laws.proofs.FlatLaws.{InFlatOrder-trans}
 use Rattle.gl_laws.proofs.Histories.{RisingWrites, entry_of, words_after, words_more, write_into}
 use Rattle.gl_flat.specs.Walk.{words_past}
@@ -108,7 +107,7 @@ module _ (R : Lists) (h : List Stamp) (is_list : IsEventList h R) (rise : Positi
       here : (c : Place) → slice_get cs k ≡ Some c → IsLaidOutAt R c → IsLastWord R (Among k) x (words k x) → IsLastWord R (Among (suc k)) x (words (suc k) x)
       here c at (e, there, laid) before =
           let is : words (suc k) x ≡ words_past (words k) e x =
-              ap (λ (f : ℕ → ℤ). f x) (words_more R cs k c (λ _. pos 0) at) ∙ (ap (λ (o : Option Entry). write_into (words k) o x) there ∙ past_of_laid (words k) e x laid) in
+          ap (λ (f : ℕ → ℤ). f x) (words_more R cs k c (λ _. pos 0) at) ∙ (ap (λ (o : Option Entry). write_into (words k) o x) there ∙ past_of_laid (words k) e x laid) in
           subst (IsLastWord R (Among (suc k)) x) (sym is) (step_word k c e (words k) x at there before)
 
   module _ (rising : (c : Place) (e : Entry) → EntryAt R c e → RisingWrites e) where

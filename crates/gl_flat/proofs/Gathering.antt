@@ -1,7 +1,7 @@
 -- The performed writes of a record, gathered entry by entry.
-use Rattle.std.proofs.Common.{◌≡◌, ◌≢◌, ℕ, zero, suc, ◌+◌, ◌<◌, ◌≤◌, List, [], ◌∷◌, ◌++◌, map, take, refl, ap, subst, sym, ◌∙◌, inl, inr, arith, Some, None, true, false, add-one, append_assoc}
-use Rattle.std.specs.Prelude.{◌⊎◌, ◌↔◌, ◌==◌, ℤ, Bool, Contains, Option, slice_get, IsPermutation}
-use Rattle.std.specs.List.{AllByRecursion, find, flat_map}
+use Rattle.std.proofs.Common.{◌≡◌, ℕ, zero, suc, ◌+◌, ◌<◌, ◌≤◌, List, [], ◌∷◌, ◌++◌, map, take, refl, ap, subst, sym, ◌∙◌, inl, inr, arith, Some, None, true, false, add-one, append_assoc}
+use Rattle.std.specs.Prelude.{◌↔◌, ◌==◌, Contains, Option, slice_get, IsPermutation}
+use Rattle.std.specs.List.{find, flat_map}
 use Rattle.std.proofs.lemmas.List.Sorted.{Contains-permutation, IsPermutation-sym}
 use native.Mathlib.Decide.{ℕ_discrete}
 use Rattle.gl_model.specs.declared.limits.TheConstants.{THREADS}
@@ -29,14 +29,14 @@ written_more ns (v ∷ ws) zero w at = let same : v ≡ w = cc in rw same (appen
     append_none (x ∷ xs) = ap (λ ys. x ∷ ys) (append_none xs)
 written_more ns (v ∷ ws) (suc i) w at =
     ap (λ ys. with_number v (find (λ n. n.var == v.var) ns) ++ ys) (written_more ns ws i w at)
-        ∙ sym (append_assoc (with_number v (find (λ n. n.var == v.var) ns)) (written_in ns (take i ws)) (with_number w (find (λ n. n.var == w.var) ns)))
+    ∙ sym (append_assoc (with_number v (find (λ n. n.var == v.var) ns)) (written_in ns (take i ws)) (with_number w (find (λ n. n.var == w.var) ns)))
 
 pub add_more : (ns : List Number) (ws : List Pair) (i : ℕ) (w : Pair) (o : Option Number) (first old new : List Written) → slice_get ws i ≡ Some w → o ≡ find (λ n. n.var == w.var) ns →
     old ≡ first ++ written_in ns (take i ws) → new ≡ old ++ with_number w o → new ≡ first ++ written_in ns (take (i + 1) ws)
 add_more ns ws i w o first old new at is so_far added =
     added ∙ ap (λ xs. xs ++ with_number w o) so_far ∙ append_assoc first (written_in ns (take i ws)) (with_number w o)
-        ∙ ap (λ p. first ++ (written_in ns (take i ws) ++ with_number w p)) is ∙ ap (λ xs. first ++ xs) (sym (written_more ns ws i w at))
-        ∙ ap (λ n. first ++ written_in ns (take n ws)) (sym (add-one i))
+    ∙ ap (λ p. first ++ (written_in ns (take i ws) ++ with_number w p)) is ∙ ap (λ xs. first ++ xs) (sym (written_more ns ws i w at))
+    ∙ ap (λ n. first ++ written_in ns (take n ws)) (sym (add-one i))
 
 -- entries as definitions see them
 pub flat_seen : {A B C : Type 0} (f : A → B) (g : B → List C) (xs : List A) → flat_map (λ x. g (f x)) xs ≡ flat_map g (map f xs)

@@ -1,6 +1,6 @@
 -- Each entry of a record keeps to the ids that there are.
-use Rattle.std.proofs.Common.{◌≡◌, ℕ, zero, suc, ◌<◌, List, [], ◌∷◌, refl, ap, subst, sym, ◌∙◌, arith, Some, None, true, false}
-use Rattle.std.specs.Prelude.{Bool, ◌==◌, slice_get}
+use Rattle.std.proofs.Common.{◌≡◌, ℕ, zero, suc, ◌<◌, List, [], ◌∷◌, refl, subst, sym, true, false}
+use Rattle.std.specs.Prelude.{Bool, ◌==◌}
 use Rattle.std.proofs.lemmas.Bool.{eqb-true}
 use Rattle.std.specs.List.{AllByRecursion}
 use Rattle.gl_model.specs.declared.limits.TheConstants.{THREADS}

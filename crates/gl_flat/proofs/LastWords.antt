@@ -1,14 +1,13 @@
 -- The last word among some places, and among one place more.
-use Rattle.std.proofs.Common.{◌≡◌, ◌≢◌, ℕ, zero, suc, ◌<◌, ◌≤◌, List, [], ◌∷◌, length, get_or, refl, ap, subst, sym, ◌∙◌, inl, inr, arith, Some, true, false, Bool, eq-eqb}
-use Rattle.std.specs.Prelude.{◌⊎◌, ◌↔◌, ◌==◌, ℤ, pos, Contains}
-use Rattle.std.proofs.lemmas.Bool.{eqb-true}
+use Rattle.std.proofs.Common.{◌≡◌, ◌≢◌, ℕ, zero, suc, List, [], ◌∷◌, refl, ap, subst, sym, ◌∙◌, inl, inr, arith, true, false}
+use Rattle.std.specs.Prelude.{◌⊎◌, ◌↔◌, ℤ, pos, Contains}
 use native.Mathlib.Decide.{ℕ_discrete}
 use Rattle.gl_model.specs.declared.event.Stamp.{Stamp}
 use Rattle.gl_model.specs.declared.tx.Pair.{Pair}
 use Rattle.gl_model.specs.Entries.{Entry, Sync, Commit, Plain, Abort, Trim, Over}
 use Rattle.gl_model.specs.Flat.{InFlatOrder, WritesValue, stored}
 use Rattle.gl_model.specs.Machine.{with_at}
-use Rattle.gl_model.specs.Records.{Lists, Place, EntryAt, IsEventList, PositionsRise, IsBlockOf}
+use Rattle.gl_model.specs.Records.{Lists, Place, EntryAt, IsEventList, PositionsRise}
 use Rattle.gl_laws.proofs.Bridge.{same_entry}
 use Rattle.gl_laws.proofs.FlatLaws.{InFlatOrder-trans}
 use Rattle.gl_laws.proofs.Histories.{RisingWrites, written_word}

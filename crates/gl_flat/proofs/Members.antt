@@ -1,6 +1,6 @@
 -- Members of lists that are put together, and the number of a variable.
-use Rattle.std.proofs.Common.{◌≡◌, ◌≢◌, ℕ, zero, suc, ◌<◌, List, [], ◌∷◌, ◌++◌, map, get_or, refl, ap, subst, sym, ◌∙◌, inl, inr, arith, Some, None, true, false, eq-eqb}
-use Rattle.std.specs.Prelude.{◌⊎◌, ◌↔◌, ◌==◌, Bool, Contains, Option, slice_get}
+use Rattle.std.proofs.Common.{◌≡◌, ℕ, zero, suc, ◌<◌, List, [], ◌∷◌, ◌++◌, map, refl, ap, subst, sym, ◌∙◌, inl, inr, arith, Some, true, false, eq-eqb}
+use Rattle.std.specs.Prelude.{◌⊎◌, ◌==◌, Bool, Contains, slice_get}
 use Rattle.std.proofs.lemmas.Bool.{eqb-true}
 use Rattle.std.specs.List.{AllByRecursion, find, flat_map}
 use Rattle.gl_model.specs.declared.tx.Number.{Number}

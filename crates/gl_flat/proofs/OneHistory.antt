@@ -1,19 +1,15 @@
 -- There is one flat history, and one first place where a word is wrong.
-use Rattle.std.proofs.Common.{◌≡◌, ℕ, zero, suc, ◌<◌, ◌≤◌, List, [], ◌∷◌, refl, ap, subst, sym, ◌∙◌, inl, inr, arith, Some}
-use Rattle.std.specs.Prelude.{◌⊎◌, ◌↔◌, ℤ, Contains, slice_get}
+use Rattle.std.proofs.Common.{◌≡◌, ℕ, zero, suc, ◌<◌, List, [], ◌∷◌, refl, subst, sym, ◌∙◌, inl, inr, arith, Some}
+use Rattle.std.specs.Prelude.{◌↔◌, slice_get}
 use Rattle.std.proofs.lemmas.Bool.{cases_order}
 use Rattle.gl_model.specs.declared.event.Stamp.{Stamp}
-use Rattle.gl_model.specs.Entries.{Entry}
 use Rattle.gl_model.specs.Flat.{InFlatOrder, IsFlat}
-use Rattle.gl_model.specs.Form.{Form, IsMachineRun, Listed}
-use Rattle.gl_model.specs.Kept.{IsRecord}
+use Rattle.gl_model.specs.Form.{Form, Listed}
 use Rattle.gl_model.specs.Lists.{lists_of}
-use Rattle.gl_model.specs.Machine.{Setting}
-use Rattle.gl_model.specs.Records.{Lists, Place, EntryAt, IsEventList, PositionsRise}
-use Rattle.gl_places.specs.Places.{Before, IsFirstBy}
+use Rattle.gl_model.specs.Records.{Lists, Place, IsEventList, PositionsRise}
 use Rattle.gl_laws.proofs.Bridge.{same_place}
 use Rattle.gl_laws.proofs.FlatLaws.{InFlatOrder-trans}
-use Rattle.gl_flat.specs.Words.{FirstWordIsOne, FlatFailsAt, FlatHistoryIsOne, LegalWhereWordsHold, LookFailsAt, WordFailsFirst, WordsHold}
+use Rattle.gl_flat.specs.Words.{FirstWordIsOne, FlatFailsAt, FlatHistoryIsOne, LegalWhereWordsHold, WordFailsFirst, WordsHold}
 use Rattle.gl_flat.proofs.Blocks.{laid_block, positions_rise}
 use Rattle.gl_flat.proofs.FlatList.{at_contains, history}
 use Rattle.gl_flat.proofs.FlatOrder.{HasBlock, compare, no_loop}

@@ -1,6 +1,6 @@
 -- The walk passes a block: from its event on, over entries that agree, to the next event or the end of the list.
-use Rattle.std.proofs.Common.{◌≡◌, ◌≢◌, ℕ, zero, suc, ◌+◌, ◌<◌, ◌≤◌, List, [], ◌∷◌, length, map, get_or, refl, ap, subst, sym, ◌∙◌, inl, inr, arith, Some, None, true, false}
-use Rattle.std.specs.Prelude.{◌⊎◌, ◌↔◌, ℤ, pos, Bool, slice_get, replicate}
+use Rattle.std.proofs.Common.{◌≡◌, ℕ, zero, suc, ◌+◌, ◌<◌, ◌≤◌, List, [], ◌∷◌, length, map, get_or, refl, ap, subst, sym, ◌∙◌, inl, inr, arith, Some, None, true, false}
+use Rattle.std.specs.Prelude.{◌↔◌, ℤ, pos, slice_get, replicate}
 use Rattle.std.proofs.lemmas.Bool.{cases_lt}
 use Rattle.std.proofs.lemmas.Option.{slice_get_within}
 use native.Mathlib.Decide.{ℕ_discrete}
@@ -13,10 +13,10 @@ use Rattle.gl_model.specs.Flat.{InFlatOrder}
 use Rattle.gl_model.specs.Form.{At}
 use Rattle.gl_model.specs.Kept.{IsEntryKept}
 use Rattle.gl_model.specs.Records.{Lists, Place, EntryAt, IsEventAt, IsEventList, PositionsRise, IsBlockOf, position_of, variables_of}
-use Rattle.gl_laws.proofs.Bridge.{same_entry, same_place}
+use Rattle.gl_laws.proofs.Bridge.{same_entry}
 use Rattle.gl_flat.specs.Walk.{AgreesWith, ComesTo, DiffersFrom, HasWalked, IsWalkable, IsWalked, PassesBlock, is_event, word_in, words_past}
 use Rattle.gl_places.specs.Places.{AreEventPlaces}
-use Rattle.gl_flat.specs.Words.{FlatFailsAt, FlatHolds, IsFirstInFlatOrder, IsLastWord, IsWordAt, ReadsValue, WritesAt}
+use Rattle.gl_flat.specs.Words.{FlatFailsAt, FlatHolds, IsFirstInFlatOrder, IsLastWord, IsWordAt, ReadsValue}
 use Rattle.gl_flat.proofs.Blocks.{laid_block, positions_rise}
 use Rattle.gl_flat.proofs.FlatList.{at_contains}
 use Rattle.gl_flat.proofs.FlatWords.{reads_laid}

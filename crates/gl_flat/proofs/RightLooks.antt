@@ -1,6 +1,6 @@
 -- Looks against their numbers: entry by entry, and thread by thread.
-use Rattle.std.proofs.Common.{◌≡◌, ◌≢◌, ℕ, zero, suc, ◌+◌, ◌<◌, ◌≤◌, List, [], ◌∷◌, length, map, refl, ap, subst, sym, ◌∙◌, inl, inr, arith, Some, None, true, false}
-use Rattle.std.specs.Prelude.{◌⊎◌, ◌==◌, ℤ, Bool, Contains, MatchBool, Option, slice_get}
+use Rattle.std.proofs.Common.{◌≡◌, ℕ, ◌+◌, ◌<◌, ◌≤◌, List, length, map, ap, subst, sym, ◌∙◌, inl, inr, arith, Some, None, true, false}
+use Rattle.std.specs.Prelude.{◌==◌, ℤ, Bool, Contains, MatchBool, slice_get}
 use Rattle.std.specs.List.{find}
 use Rattle.std.proofs.lemmas.Option.{slice_get_cases, slice_get_within}
 use native.Mathlib.Decide.{ℕ_discrete}

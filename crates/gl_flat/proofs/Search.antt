@@ -1,6 +1,6 @@
 -- Search among sorted writes: the last one below a number, and whether one with a value is there.
-use Rattle.std.proofs.Common.{◌≡◌, ◌≢◌, ℕ, zero, suc, ◌+◌, ◌-◌, ◌<◌, ◌≤◌, List, [], ◌∷◌, length, get_or, refl, ap, subst, sym, ◌∙◌, inl, inr, arith, Some, None, true, false, nat_eq, w64, of_z, FitsSigned, ◌<ℤ◌}
-use Rattle.std.specs.Prelude.{◌⊎◌, ◌==◌, ℤ, pos, Bool, Contains, MatchBool, Result, Ok, Err, if◌then◌else◌, is_ok, nat_lt, slice_index_or, IsSorted}
+use Rattle.std.proofs.Common.{◌≡◌, ◌≢◌, ℕ, zero, suc, ◌-◌, ◌<◌, ◌≤◌, List, [], ◌∷◌, length, get_or, refl, ap, subst, sym, ◌∙◌, inl, inr, arith, true, false, nat_eq, w64, of_z, FitsSigned, ◌<ℤ◌}
+use Rattle.std.specs.Prelude.{◌⊎◌, ◌==◌, ℤ, pos, Bool, Contains, MatchBool, Result, Ok, Err, if◌then◌else◌, is_ok, nat_lt, IsSorted}
 use Rattle.std.specs.List.Sorted.{IsBinarySearchResult, IsPartitionPoint, IsPartitionedBy, IsSearchInRange}
 use Rattle.std.specs.Cmp.{IsStrictWeakOrder, IsTotalOrder}
 use Rattle.std.specs.Ordering.{MatchOrdering, int_cmp, is_lt, nat_cmp, ordering_then}
@@ -84,7 +84,7 @@ same_default (w ∷ ws) zero d e near = refl
 same_default (w ∷ ws) (suc k) d e near = same_default ws k d e (omega arith)
 
 module _ (ws : List Written) (sorted : IsSorted written_cmp ws) where
-  far : (i j : ℕ) (d : Written) → i ≤ j → j < length ws → (( get_or ws i d).var < (get_or ws j d).var) ⊎ (((get_or ws i d).var ≡ (get_or ws j d).var) × ((get_or ws i d).nth ≤ (get_or ws j d).nth))
+  far : (i j : ℕ) (d : Written) → i ≤ j → j < length ws → ((get_or ws i d).var < (get_or ws j d).var) ⊎ (((get_or ws i d).var ≡ (get_or ws j d).var) × ((get_or ws i d).nth ≤ (get_or ws j d).nth))
   far i j d le near = behind (get_or ws i d) (get_or ws j d) (sorted_far (λ v w. is_lt (written_cmp v w)) weak ws sorted i j d le near)
 
   pub parted : (x n : ℕ) → IsPartitionedBy (is_before x n) ws

@@ -1,10 +1,9 @@
 -- A table of words: what an index may be, what a write changes, and what looks say of it.
-use Rattle.std.proofs.Common.{◌≡◌, ◌≢◌, ℕ, zero, suc, ◌+◌, ◌<◌, ◌≤◌, List, [], ◌∷◌, length, take, map, get_or, refl, ap, subst, sym, ◌∙◌, arith, Some, true, false, add-one, get_or-set_other, get_or-set_same}
-use Rattle.std.specs.Prelude.{Bool, ℤ, pos, MatchBool, slice_get, slice_set}
+use Rattle.std.proofs.Common.{◌≡◌, ◌≢◌, ℕ, zero, suc, ◌+◌, ◌<◌, ◌≤◌, List, [], ◌∷◌, length, take, map, refl, ap, subst, sym, ◌∙◌, arith, Some, true, false, add-one, get_or-set_other, get_or-set_same}
+use Rattle.std.specs.Prelude.{Bool, ℤ, MatchBool, slice_get, slice_set}
 use Rattle.std.specs.List.{AllByRecursion}
 use native.Mathlib.Decide.{ℕ_discrete}
 use Rattle.gl_model.specs.declared.limits.TheConstants.{TX_VARIABLES, VARIABLES}
-use Rattle.gl_model.specs.declared.tx.Look.{Look}
 use Rattle.gl_model.specs.declared.tx.Pair.{Pair}
 use Rattle.gl_model.specs.declared.tx.Tx.{Tx}
 use Rattle.gl_model.specs.Entries.{Commit}
@@ -52,10 +51,10 @@ pub store_step : (table before : List ℤ) (ws : List Pair) (i : ℕ) (w : Pair)
 store_step table before ws i w size kept at so_far x near = elim (ℕ_discrete x w.var) [
   | yes same ↦
       set_word table w.var w.value x (omega arith) ∙ (ap (with_at (word_in table) w.var w.value) same ∙ with_here (word_in table) w.var w.value)
-          ∙ sym (step ∙ (ap (with_at (stored (word_in before) (take i ws)) w.var w.value) same ∙ with_here (stored (word_in before) (take i ws)) w.var w.value))
+      ∙ sym (step ∙ (ap (with_at (stored (word_in before) (take i ws)) w.var w.value) same ∙ with_here (stored (word_in before) (take i ws)) w.var w.value))
   | no ne ↦
       set_word table w.var w.value x (omega arith) ∙ with_else (word_in table) w.var x w.value ne ∙ so_far x near
-          ∙ sym (step ∙ with_else (stored (word_in before) (take i ws)) w.var x w.value ne)
+      ∙ sym (step ∙ with_else (stored (word_in before) (take i ws)) w.var x w.value ne)
 ]
   where
     step : stored (word_in before) (take (i + 1) ws) x ≡ with_at (stored (word_in before) (take i ws)) w.var w.value x

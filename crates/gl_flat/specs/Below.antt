@@ -1,5 +1,5 @@
 -- The performed writes of a record, and the word below a number among them.
-use Rattle.std.specs.Prelude.{◌≡◌, ℕ, ℤ, ◌<◌, ◌==◌, true, false, List, [], ◌∷◌, ◌++◌, Option, Some, None, MatchOption, ◌↔◌, Contains}
+use Rattle.std.specs.Prelude.{ℕ, ℤ, ◌<◌, ◌==◌, true, false, List, [], ◌∷◌, ◌++◌, Option, Some, None, MatchOption, ◌↔◌, Contains}
 use Rattle.std.specs.List.{find}
 use Rattle.gl_model.specs.declared.tx.Number.{Number}
 use Rattle.gl_model.specs.declared.tx.Pair.{Pair}

@@ -1,4 +1,4 @@
-use Rattle.std.proofs.Common.{ℕ, ◌<◌}
+use Rattle.std.proofs.Common.{◌<◌}
 use Rattle.gl_model.specs.Entries.{Entry}
 use Rattle.gl_model.specs.Flat.{ReadsRight}
 use Rattle.gl_model.specs.Lists.{lists_of}

@@ -1,7 +1,6 @@
-use Rattle.std.proofs.Common.{◌≡◌, ◌<◌, ◌≤◌, Some, length, map, refl, subst, sym, ◌∙◌, arith, slice_index_or}
+use Rattle.std.proofs.Common.{◌≡◌, ◌≤◌, Some, length, map, refl, subst, sym, ◌∙◌, arith, slice_index_or}
 use Rattle.std.specs.Prelude.{slice_get}
 use Rattle.std.specs.List.{AllByRecursion}
-use Rattle.gl_model.specs.Entries.{seen}
 use Rattle.gl_model.specs.Kept.{IsEntryKept}
 use Rattle.gl_model.specs.Lists.{lists_of}
 use Rattle.gl_places.specs.Places.{seen as seen_place}

@@ -1,4 +1,4 @@
-use Rattle.std.proofs.Common.{◌≡◌, ◌<◌, ◌≤◌, Some, false, true, length, map, sym, arith}
+use Rattle.std.proofs.Common.{◌≡◌, ◌<◌, ◌≤◌, false, length, map, sym, arith}
 use Rattle.gl_model.specs.Entries.{seen}
 use Rattle.gl_model.specs.Form.{At}
 use Rattle.gl_model.specs.Kept.{IsEntryKept}
@@ -32,7 +32,7 @@ returns-then-not-agrees c =
     let e = seen c.index-entries-i.result in
     let there : At es c.loop-i.i e = at_map seen c.args.entries.now c.loop-i.i c.index-entries-i.result (omega arith) c.index-entries-i.is in
     let clear : c.args.start < c.loop-i.i → is_event e ≡ false =
-        elim c.else-i-start.branch [ else-i-start-via-then-i-start+else-is_event w ↦ λ lt. sym w.if-is_event.ensures | else-i-start-via-else-i-start w ↦ λ lt. absurd (let z = w.if-i-start.false in omega arith) ] in
+    elim c.else-i-start.branch [ else-i-start-via-then-i-start+else-is_event w ↦ λ lt. sym w.if-is_event.ensures | else-i-start-via-else-i-start w ↦ λ lt. absurd (let z = w.if-i-start.false in omega arith) ] in
     differs es c.args.start c.loop-i.i c.args.words.now c.loop-i.words c.loop-i.invariant c.loop-i.words e there clear c.if-not-agrees.ensures
 
 pub write_into-requires-clause-kept : goal.write_into-requires-clause-kept
@@ -48,7 +48,7 @@ loop-i-preserved c =
     let e = seen c.index-entries-i.result in
     let there : At es c.loop-i.i e = at_map seen c.args.entries.now c.loop-i.i c.index-entries-i.result (omega arith) c.index-entries-i.is in
     let clear : c.args.start < c.loop-i.i → is_event e ≡ false =
-        elim c.else-i-start.branch [ else-i-start-via-then-i-start+else-is_event w ↦ λ lt. sym w.if-is_event.ensures | else-i-start-via-else-i-start w ↦ λ lt. absurd (let z = w.if-i-start.false in omega arith) ] in
+    elim c.else-i-start.branch [ else-i-start-via-then-i-start+else-is_event w ↦ λ lt. sym w.if-is_event.ensures | else-i-start-via-else-i-start w ↦ λ lt. absurd (let z = w.if-i-start.false in omega arith) ] in
     comes_more es c.args.start c.loop-i.i c.args.words.now c.loop-i.words c.loop-i.invariant c.write_into.new.words e there clear c.if-not-agrees.ensures c.write_into.ensures
 
 pub returns : goal.returns

@@ -1,5 +1,4 @@
-use Rattle.std.proofs.Common.{◌≡◌, ℕ, ◌<◌, ◌≤◌, map}
-use Rattle.gl_model.specs.declared.event.Stamp.{Stamp}
+use Rattle.std.proofs.Common.{map}
 use Rattle.gl_model.specs.Entries.{seen}
 use Rattle.gl_flat.specs.Walk.{ComesTo}
 use Rattle.gl_flat.proofs.walk.pass_block.Given as goal

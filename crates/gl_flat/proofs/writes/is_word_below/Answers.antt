@@ -1,4 +1,4 @@
-use Rattle.std.proofs.Common.{◌≡◌, ◌<◌, ◌≤◌, ◌-◌, FitsSigned, arith, length, pos, refl, rules, subst, sym, w64, slice_index_or}
+use Rattle.std.proofs.Common.{◌-◌, FitsSigned, arith, pos, rules, subst, sym, w64, slice_index_or}
 use Rattle.std.proofs.lemmas.List.Sorted.{IsPartitionPoint-from_clause}
 use Rattle.std.proofs.lemmas.Int.{to_z-of_z}
 use Rattle.std.specs.Prelude.{Contains, MatchBool}

@@ -1,4 +1,4 @@
-use Rattle.std.proofs.Common.{◌≡◌, ◌≤◌, ◌+◌, ◌++◌, ◌∙◌, ap, arith, map, subst, sym}
+use Rattle.std.proofs.Common.{◌≡◌, ◌≤◌, ◌+◌, ◌++◌, ◌∙◌, ap, arith, subst, sym}
 use Rattle.std.specs.List.{flat_map}
 use Rattle.gl_model.specs.Entries.{seen}
 use Rattle.gl_model.specs.declared.limits.TheConstants.{THREADS}
