@@ -14,7 +14,7 @@ use Rattle.gl_form.specs.Passed.{AreRights, IsAllowed, IsBlock, IsEnough, IsLate
 use Rattle.gl_form.proofs.Lasts.{before_next, same_entry}
 
 -- who gives a right is no event
-gives_plain : (e : Entry) (x m : ℕ) (w : Bool) → GivesRight e x m w → position_of e ≡ None
+pub gives_plain : (e : Entry) (x m : ℕ) (w : Bool) → GivesRight e x m w → position_of e ≡ None
 gives_plain (Plain var nth cached write value raised) x m w g = refl
 gives_plain (Sync at act value) x m w g = absurd g
 gives_plain (Commit at tx) x m w g = absurd g
@@ -22,7 +22,8 @@ gives_plain (Abort tx why) x m w g = absurd g
 gives_plain (Trim low) x m w g = absurd g
 gives_plain (Over ending) x m w g = absurd g
 
-gives_one : (e : Entry) (x k m : ℕ) (v w : Bool) → GivesRight e x k v → GivesRight e x m w → (k ≡ m) × (v ≡ w)
+-- what an entry gives is one right
+pub gives_one : (e : Entry) (x k m : ℕ) (v w : Bool) → GivesRight e x k v → GivesRight e x m w → (k ≡ m) × (v ≡ w)
 gives_one (Plain var nth cached write value raised) x k m v w g h = (sym g.3 ∙ h.3, sym g.4 ∙ h.4)
 gives_one (Sync at act value) x k m v w g h = absurd g
 gives_one (Commit at tx) x k m v w g h = absurd g

@@ -28,7 +28,7 @@ pub part_in_range : {A : Type 0} (var : A → ℕ) (parts : List A) (k : ℕ) (a
 part_in_range var parts k a are at = all_at (λ x. x < VARIABLES) var parts k a are.2 at
 
 -- variables rise
-rising_at : {A : Type 0} (var : A → ℕ) (parts : List A) (j k : ℕ) (a b : A) → Rises (map var parts) → slice_get parts j ≡ Some a → slice_get parts k ≡ Some b → j < k → var a < var b
+pub rising_at : {A : Type 0} (var : A → ℕ) (parts : List A) (j k : ℕ) (a b : A) → Rises (map var parts) → slice_get parts j ≡ Some a → slice_get parts k ≡ Some b → j < k → var a < var b
 rising_at var [] j k a b rises at also less = cc
 rising_at var (x ∷ parts) zero zero a b rises at also less = absurd (omega arith)
 rising_at var (x ∷ parts) zero (suc k) a b rises at also less = (let same : x ≡ a = cc in let all = all_at (λ y. var x < y) var parts k b rises.0 also in rw (sym same) all)

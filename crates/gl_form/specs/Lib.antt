@@ -1,2 +1,3 @@
-pub mod Rules
+pub mod Come
 pub mod Passed
+pub mod Rules

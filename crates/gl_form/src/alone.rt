@@ -13,6 +13,13 @@ const NOT_OWNER: u8 = 5;
 const HEAP_FULL: u8 = 6;
 const BAD_THREAD: u8 = 11;
 
+// Whether two values are the same.
+fn is_same(a: i64, b: i64) -> bool
+    ensures { MatchBool result (a ≡ b) (a ≢ b) }
+{
+    a == b
+}
+
 // Whether an act of this thread has no value.
 fn has_no_value(thread: u8, act: Act) -> bool
     ensures { MatchBool result (HasNoValue thread act) (HasNoValue thread act → ⊥) }
@@ -150,7 +157,7 @@ fn was_read(looks: &Looks, var: u16, read: i64) -> bool
 {
     looks.keeps();
     match looks.of(var) {
-        Some(look) => look.value == read,
+        Some(look) => is_same(look.value, read),
         None => false,
     }
 }
@@ -163,7 +170,7 @@ fn is_formed_abort(tx: &Tx, why: Why) -> bool
     match why {
         Why::Raised { .. } => names_its_variables(tx),
         Why::Changed { var, read, found } => {
-            names_only(tx, var) && was_read(&tx.looks, var, read) && read != found
+            names_only(tx, var) && was_read(&tx.looks, var, read) && !is_same(read, found)
         }
     }
 }

@@ -3,6 +3,12 @@
 
 mod alone;
 mod drawn;
+mod fault;
 mod last;
+mod laws;
 mod rights;
 mod stage;
+mod walk;
+
+pub use fault::form_fault;
+pub use laws::form_is_exact;
