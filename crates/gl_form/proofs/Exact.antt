@@ -1,5 +1,5 @@
 -- A record is of the form exactly where each rule is kept at each place; and it fails it first at one place at most.
-use Rattle.std.proofs.Common.{◌≡◌, ℕ, ◌+◌, ◌<◌, ◌≤◌, List, [], length, refl, sym, ap, subst, arith, inl, inr}
+use Rattle.std.proofs.Common.{◌≡◌, ℕ, ◌+◌, ◌<◌, ◌≤◌, List, [], length, refl, sym, ◌∙◌, ap, subst, arith, inl, inr}
 use Rattle.std.specs.Prelude.{slice_get, ◌⊎◌, ◌↔◌}
 use Rattle.std.proofs.lemmas.Bool.{cases_lt, cases_order}
 use Rattle.std.proofs.lemmas.Option.{slice_get_within, slice_get_cases}
@@ -68,8 +68,11 @@ module _ (R : Lists) (nowhere : (c : Place) → FormFailsAt R c → ⊥) where
 pub formed_exactly : (R : Lists) → Form R ↔ ((c : Place) → FormFailsAt R c → ⊥)
 formed_exactly R = ((λ is c fails. fails (keeps_all R is c.thread c.index)), form R)
 
+abbrev at_place : ℕ → ℕ → Place
+at_place t i = record { thread = t; index = i }
+
 same_place : (c d : Place) → c.thread ≡ d.thread → c.index ≡ d.index → c ≡ d
-same_place c d threads indices = cc
+same_place c d threads indices = ap (λ (n : ℕ). at_place n c.index) threads ∙ ap (λ (n : ℕ). at_place d.thread n) indices
 
 pub one_first : (R : Lists) (c d : Place) → IsFirstBy Before (FormFailsAt R) c → IsFirstBy Before (FormFailsAt R) d → c ≡ d
 one_first R c d first also = by_thread (cases_order c.thread d.thread) where

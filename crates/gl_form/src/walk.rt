@@ -44,16 +44,20 @@ impl Walk {
         if !is_formed(thread, entry) {
             return false;
         }
-        match self.stage.after(entry) {
-            Some(stage) => {
-                self.stage = stage;
-                position_rises(&mut self.position, entry)
-                    && low_rises(&mut self.low, entry)
-                    && self.drawn.rises(entry)
-                    && self.rights.allow(index, entry)
-            }
-            None => false,
+        let Some(stage) = self.stage.after(entry) else {
+            return false;
+        };
+        self.stage = stage;
+        if !position_rises(&mut self.position, entry) {
+            return false;
         }
+        if !low_rises(&mut self.low, entry) {
+            return false;
+        }
+        if !self.drawn.rises(entry) {
+            return false;
+        }
+        self.rights.allow(index, entry)
     }
 
     /// Whether an Over came.
