@@ -1,6 +1,6 @@
 -- The last numbers of all variables go on from one entry to the next.
 use Rattle.std.proofs.Common.{◌≡◌, ◌≢◌, ℕ, ℤ, ◌+◌, ◌<◌, ◌≤◌, Bool, true, false, List, length, set, Option, Some, None, refl, sym, ◌∙◌, ap, subst, arith, inl, inr}
-use Rattle.std.specs.Prelude.{slice_get, ◌⊎◌, Contains, MatchBool}
+use Rattle.std.specs.Prelude.{◌⊎◌, MatchBool}
 use Rattle.std.proofs.lemmas.Bool.{cases_eq}
 use Rattle.std.proofs.lemmas.Grind.{get_or-set_at}
 use Rattle.std.proofs.lemmas.List.{get_or-set_other}
@@ -12,8 +12,8 @@ use Rattle.gl_model.specs.declared.tx.Why.{Why}
 use Rattle.gl_model.specs.Entries.{Entry, Sync, Commit, Plain, Abort, Trim, Over}
 use Rattle.gl_model.specs.Kept.{IsEntryKept}
 use Rattle.gl_model.specs.Records.{At}
-use Rattle.gl_form.specs.Passed.{AllGoOn, AreLast, IsAbove, IsLast, IsTxLast, StandAfterLooks, TxDraws, TxGoesOn, last_on}
-use Rattle.gl_form.specs.Rules.{DrawsOn, RisesAt}
+use Rattle.gl_form.specs.Passed.{AllGoOn, IsAbove, IsLast, IsTxLast, TxDraws, TxGoesOn, last_on}
+use Rattle.gl_form.specs.Rules.{DrawsOn}
 use Rattle.gl_form.proofs.Lasts.{fallen, none_more, one_more, risen, same_entry}
 use Rattle.gl_form.proofs.Parts.{all_at, at_of}
 
@@ -33,10 +33,10 @@ module _ (e : Entry) (in_range : (x k : ℕ) → DrawsOn x e k → x < VARIABLES
   pub all_go_on : ((x : ℕ) → ((k : ℕ) → DrawsOn x e k → IsAbove (last_on old x) k) × IsNext x) → AllGoOn e true old new
   all_go_on next = λ es i after are at. (
     (λ x j k m f g there here before of_f of_g.
-      let same : g ≡ e = same_entry es i i e g at here refl in
-      let P : Entry → Type 0 = λ h. DrawsOn x h m in
-      let mine : DrawsOn x e m = subst P same of_g in
-      risen (DrawsOn x) es i e at (last_on old x) (are x (in_range x m mine)) (next x).0 j k m f g there here before of_f of_g),
+        let same : g ≡ e = same_entry es i i e g at here refl in
+        let P : Entry → Type 0 = λ h. DrawsOn x h m in
+        let mine : DrawsOn x e m = subst P same of_g in
+        risen (DrawsOn x) es i e at (last_on old x) (are x (in_range x m mine)) (next x).0 j k m f g there here before of_f of_g),
     (λ x less. at_next es i at x (are x less) (next x).0 (next x).1),
   ) where
     at_next : (es : List Entry) (i : ℕ) → At es i e → (x : ℕ) → IsLast (DrawsOn x) es i (last_on old x) → ((k : ℕ) → DrawsOn x e k → IsAbove (last_on old x) k) → IsNext x → IsLast (DrawsOn x) es (i + 1) (last_on new x)

@@ -1,10 +1,10 @@
 -- The last number goes on from one entry to the next.
-use Rattle.std.proofs.Common.{◌≡◌, ℕ, ◌+◌, ◌<◌, ◌≤◌, List, Option, Some, None, refl, sym, ◌∙◌, ap, arith, inl, inr}
-use Rattle.std.specs.Prelude.{slice_get, ◌⊎◌}
+use Rattle.std.proofs.Common.{◌≡◌, ℕ, ◌+◌, ◌<◌, ◌≤◌, List, Option, Some, None, refl, sym, arith, inl, inr}
+use Rattle.std.specs.Prelude.{◌⊎◌}
 use Rattle.std.proofs.lemmas.Bool.{cases_lt}
 use Rattle.gl_model.specs.Entries.{Entry}
 use Rattle.gl_model.specs.Records.{At}
-use Rattle.gl_form.specs.Passed.{IsAbove, IsGreatest, IsLast}
+use Rattle.gl_form.specs.Passed.{IsAbove, IsLast}
 use Rattle.gl_form.specs.Rules.{RisesAt}
 
 -- two entries of one place are one

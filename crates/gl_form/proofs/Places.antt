@@ -1,15 +1,15 @@
 -- The first failing place of a record, thread by thread.
-use Rattle.std.proofs.Common.{◌≡◌, ◌≢◌, ℕ, ◌+◌, ◌<◌, ◌≤◌, ◌==◌, Bool, true, false, List, [], ◌∷◌, length, map, Option, Some, None, refl, sym, ◌∙◌, subst, arith, inl, inr}
-use Rattle.std.specs.Prelude.{slice_get, ◌⊎◌, unwrap_or}
+use Rattle.std.proofs.Common.{◌≡◌, ◌≢◌, ℕ, ◌+◌, ◌<◌, ◌≤◌, ◌==◌, Bool, true, false, List, [], ◌∷◌, length, Option, Some, None, refl, subst, arith, inl, inr}
+use Rattle.std.specs.Prelude.{unwrap_or}
 use Rattle.std.specs.List.{AllByRecursion}
-use Rattle.std.proofs.lemmas.Bool.{cases_eq, cases_lt, eqb-true}
+use Rattle.std.proofs.lemmas.Bool.{cases_lt, eqb-true}
 use Rattle.gl_model.specs.declared.limits.TheConstants.{THREADS}
 use Rattle.gl_model.specs.Entries.{Entry}
 use Rattle.gl_model.specs.Kept.{IsEntryKept, IsListKept}
 use Rattle.gl_model.specs.Lists.{list_of, lists_of}
-use Rattle.gl_model.specs.Records.{At, Lists, Place}
+use Rattle.gl_model.specs.Records.{Place}
 use Rattle.gl_places.specs.Places.{Before, IsFirstBy}
-use Rattle.gl_form.specs.Rules.{FormFails, FormFailsAt, KeepsForm}
+use Rattle.gl_form.specs.Rules.{FormFails, FormFailsAt}
 use Rattle.gl_form.proofs.Walks.{keeps_past}
 
 -- a list of the record has an entry, and its entries keep to what there is; and its thread is one that there is

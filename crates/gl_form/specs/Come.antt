@@ -1,5 +1,5 @@
 -- What a walk along a list has kept of the entries before a place, and the first place of one list where a rule is not kept.
-use Rattle.std.specs.Prelude.{◌≡◌, ℕ, ◌+◌, ◌<◌, Bool, List, Option, MatchBool, MatchOption}
+use Rattle.std.specs.Prelude.{ℕ, ◌+◌, ◌<◌, Bool, List, Option, MatchBool, MatchOption}
 use Rattle.gl_model.specs.Entries.{Entry}
 use Rattle.gl_model.specs.Form.{IsOver}
 use Rattle.gl_model.specs.Records.{At}

@@ -10,7 +10,9 @@ use gl_model::{Act, Entry, Looks, Numbers, Pairs, TX_VARIABLES, Tx, VarSet, Why}
 
 // The codes of the refusals that name what was asked for: a monitor, a class and a thread.
 const NOT_OWNER: u8 = 5;
+
 const HEAP_FULL: u8 = 6;
+
 const BAD_THREAD: u8 = 11;
 
 // Whether two values are the same.

@@ -84,7 +84,10 @@ impl Drawn {
     {
         match entry {
             Entry::Plain {
-                var, nth, cached, ..
+                var,
+                nth,
+                cached,
+                ..
             } => *cached || self.draw(*var, *nth),
             Entry::Commit { tx, .. } | Entry::Abort { tx, .. } => self.attempt_rises(tx),
             Entry::Sync { .. } | Entry::Trim { .. } | Entry::Over(_) => true,

@@ -4,5 +4,4 @@ ghost use Rattle.gl_form.specs.Rules.{FormedExactly, HasOneFirst};
 pub fn form_is_exact()
     ensures form { FormedExactly }
     ensures one { HasOneFirst }
-{
-}
+{}

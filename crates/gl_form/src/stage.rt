@@ -24,7 +24,13 @@ fn is_trim(entry: &Entry) -> bool
 fn is_begin(entry: &Entry) -> bool
     ensures { MatchBool result (IsBegin (seen entry.now)) (IsBegin (seen entry.now) → ⊥) }
 {
-    matches!(entry, Entry::Sync { act: Act::Begin(_), .. })
+    matches!(
+        entry,
+        Entry::Sync {
+            act: Act::Begin(_),
+            ..
+        }
+    )
 }
 
 // Whether the entry is the last event of a thread.

@@ -1,4 +1,4 @@
-use Rattle.std.proofs.Common.{sym, ap, arith, ◌≡◌}
+use Rattle.std.proofs.Common.{sym, arith, ◌≡◌}
 use Rattle.gl_model.specs.declared.limits.TheConstants.{TX_VARIABLES}
 use Rattle.gl_form.proofs.Parted.{AfterBelow, after_more, after_past, all_after, none_after, numbers_few}
 use Rattle.gl_form.proofs.alone.stand_after.Goals as goal

@@ -1,4 +1,4 @@
-use Rattle.std.proofs.Common.{◌≡◌, ◌<◌, nat_lt, Bool, true, false, sym, arith}
+use Rattle.std.proofs.Common.{sym}
 use Rattle.gl_form.proofs.Parted.{after_found, after_none}
 use Rattle.gl_form.proofs.alone.stands_after.Goals as goal
 

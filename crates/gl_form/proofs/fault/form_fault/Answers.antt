@@ -1,4 +1,4 @@
-use Rattle.std.proofs.Common.{◌≡◌, ℕ, Option, Some, None, subst, sym, arith}
+use Rattle.std.proofs.Common.{◌≡◌, subst, arith}
 use Rattle.gl_model.specs.Lists.{lists_of}
 use Rattle.gl_model.specs.declared.limits.TheConstants.{THREADS}
 use Rattle.gl_form.specs.Come.{IsFirstIn}

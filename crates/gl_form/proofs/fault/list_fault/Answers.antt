@@ -37,6 +37,7 @@ returns c =
     let same = length-map c.args.list.now seen in
     let some = c.requires.some in
     let all : c.loop-i.i ≡ length c.args.list.now = omega arith in
-    rw (sym all)
-    (no_over_fails c.args.thread es c.loop-i.i c.loop-i.invariant.keep (omega arith) (omega arith) (c.if-is_over.ensures es c.loop-i.i c.loop-i.invariant.come),
-    earlier_keep c.args.thread es c.loop-i.i c.loop-i.invariant.keep)
+    rw (sym all) (
+      no_over_fails c.args.thread es c.loop-i.i c.loop-i.invariant.keep (omega arith) (omega arith) (c.if-is_over.ensures es c.loop-i.i c.loop-i.invariant.come),
+      earlier_keep c.args.thread es c.loop-i.i c.loop-i.invariant.keep,
+    )

@@ -1,4 +1,3 @@
-use Rattle.std.proofs.Common.{◌≡◌, Bool, true, false}
 use Rattle.gl_form.proofs.Attempts.{attempt_goes_on, look_fails}
 use Rattle.gl_form.proofs.drawn.Drawn.attempt_rises.Goals as goal
 

@@ -1,7 +1,5 @@
-use Rattle.std.proofs.Common.{◌≡◌, ◌<◌, arith, length, sym, ◌∙◌, ap, subst}
-use Rattle.gl_model.specs.declared.limits.TheConstants.{VARIABLES}
+use Rattle.std.proofs.Common.{◌<◌, arith, length, sym}
 use Rattle.gl_model.specs.declared.tx.Look.{Look}
-use Rattle.gl_form.specs.Passed.{AreDrawn}
 use Rattle.gl_form.proofs.Parts.{part_drawn, part_in_range, part_not_above, past_parts}
 use Rattle.gl_form.proofs.drawn.Drawn.looks_rise.Goals as goal
 use Rattle.gl_form.proofs.drawn.Drawn.looks_rise.Goals.{in-Some+else-not-draw, in_default}

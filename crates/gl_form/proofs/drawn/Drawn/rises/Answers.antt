@@ -1,8 +1,7 @@
-use Rattle.std.proofs.Common.{◌≡◌, ◌∙◌, ap, sym, inl, inr, ◌<◌, ℕ, false, Bool, ◌⊎◌, subst}
-use Rattle.gl_model.specs.Entries.{Entry, seen, Plain, Commit, Abort}
+use Rattle.std.proofs.Common.{◌≡◌, ◌∙◌, ap, sym, inl, inr, ℕ, false, ◌⊎◌, subst}
+use Rattle.gl_model.specs.Entries.{seen, Plain, Commit, Abort}
 use Rattle.gl_model.specs.declared.tx.Why.{Why}
 use Rattle.gl_model.specs.Kept.{IsEntryKept}
-use Rattle.gl_form.specs.Rules.{DrawsOn}
 use Rattle.gl_form.proofs.Draws.{attempt_goes_on, cached_draws_on, none_goes_on, over_draws_none, plain_goes_on, sync_draws_none, trim_draws_none}
 use Rattle.gl_form.proofs.drawn.Drawn.rises.Goals as goal
 

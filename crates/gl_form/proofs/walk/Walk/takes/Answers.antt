@@ -1,7 +1,5 @@
-use Rattle.std.proofs.Common.{◌≡◌}
 use Rattle.gl_model.specs.Entries.{seen}
-use Rattle.gl_form.specs.Come.{HasCome}
-use Rattle.gl_form.proofs.Walks.{follows_of, formed_stands, walks_on}
+use Rattle.gl_form.proofs.Walks.{formed_stands, walks_on}
 use Rattle.gl_form.proofs.walk.Walk.takes.Goals as goal
 
 pub returns : goal.returns
