@@ -1,0 +1,5 @@
+pub mod Beginnings
+pub mod Moving
+pub mod Peeling
+pub mod Quiet
+pub mod Stopping

@@ -1,0 +1,6 @@
+//! Is each thread's list what the program's instructions make of the answers in it?
+#![tactic(auto)]
+
+mod laws;
+
+pub use laws::a_list_fails_its_program_at_one_place;
