@@ -35,7 +35,7 @@ within_starts p (Read x) f a is = cc
 within_starts p (Write x v) f a is = cc
 within_starts p ask f a is = cc
 
-quiet_starts : (P : Bytecode) (o : Option Attempt) (p : Progress) (ask : Ask) (r : Reply) → is_quiet o p ask r ≡ true → StartsRight P r
+pub quiet_starts : (P : Bytecode) (o : Option Attempt) (p : Progress) (ask : Ask) (r : Reply) → is_quiet o p ask r ≡ true → StartsRight P r
 quiet_starts P o p ask Gone is = tt
 quiet_starts P o p ask (Value a) is = tt
 quiet_starts P o p ask (Raise code) is = tt
