@@ -4,5 +4,7 @@ pub mod Moving
 pub mod Peeling
 pub mod Quiet
 pub mod Stopping
+pub mod Threads
+pub mod Turning
 pub mod Unions
 pub mod WordLemmas

@@ -1,5 +1,5 @@
 -- The words of an attempt as lists of pairs.
-use Rattle.std.proofs.Common.{◌≡◌, ℕ, ℤ, zero, suc, ◌+◌, ◌==◌, ◌&&◌, ◌||◌, ◌<◌, ◌≤◌, Bool, true, false, List, [], ◌∷◌, length, map, drop, refl, sym, ap, ◌∙◌, subst, arith, Option, Some, None, inl, inr, eq-eqb, nat_lt, is_some}
+use Rattle.std.proofs.Common.{◌≡◌, ℕ, ℤ, zero, suc, ◌+◌, ◌==◌, ◌&&◌, ◌||◌, ◌<◌, ◌≤◌, Bool, true, false, List, [], ◌∷◌, length, map, drop, refl, sym, ap, ◌∙◌, subst, arith, Option, Some, None, inl, inr, eq-eqb, nat_lt, is_none, is_some}
 use Rattle.std.specs.Prelude.{Contains, if◌then◌else◌, ◌⊎◌, slice_get}
 use Rattle.std.specs.List.{find}
 use Rattle.std.specs.Option.{option_map}
@@ -9,9 +9,10 @@ use Rattle.std.proofs.lemmas.Bool.Decides.{nat_tests}
 use Rattle.gl_model.specs.declared.limits.TheConstants.{TX_VARIABLES}
 use Rattle.gl_model.specs.declared.tx.Look.{Look}
 use Rattle.gl_model.specs.declared.tx.Pair.{Pair}
+use Rattle.gl_model.specs.declared.tx.Tx.{Tx}
 use Rattle.gl_model.specs.Kept.{AreVariables}
 use Rattle.gl_model.specs.Rising.{with_all, with_one, with_part}
-use Rattle.gl_bytecode.specs.Runs.{known_word, same_words, with_word, word_of}
+use Rattle.gl_bytecode.specs.Runs.{Progress, is_its_end, known_word, same_words, with_word, word_of}
 use Rattle.gl_follow.specs.Words.{Touched, look_word, pair_var, pair_word, size_of}
 use Rattle.gl_follow.proofs.Unions.{all_grow, all_left, all_longer, all_one, all_right, in_next, keys_with, one_all, one_fits}
 
@@ -239,3 +240,14 @@ pub write_result :
 write_result t looks writes new x a is put =
     subst (λ (s : Touched). touched_by looks new ≡ record s { writes = with_word x a s.writes }) is
     (ap (λ l. record (touched_by looks writes) { writes = l }) (ap (map pair_word) put ∙ put_pairs x a writes))
+
+-- ## The end of an attempt
+
+none_written : (ws : List Pair) → is_none (slice_get ws 0) ≡ same_words (map pair_word ws) []
+none_written [] = refl
+none_written (w ∷ ws) = refl
+
+pub ends_without :
+    (p : Progress) (tx : Tx) (keep b : Bool) → keep ≡ false → same_words (map look_word tx.looks) p.looks ≡ true → b ≡ is_none (slice_get tx.writes 0) →
+    b ≡ is_its_end p keep tx
+ends_without p tx keep b dropped looked is = rw (dropped, looked) (is ∙ none_written tx.writes)

@@ -1,10 +1,12 @@
 -- One exchange of a machine that is driven by a list.
-use Rattle.std.specs.Prelude.{◌≡◌, ℕ, ℤ, ◌<◌, ◌≤◌, ◌⊎◌, ◌||◌, true, false, nat_lt, is_some, List, length, take, drop, Some, None}
-use Rattle.gl_model.specs.Entries.{Entry}
-use Rattle.gl_model.specs.Form.{IsTrim}
+use Rattle.std.specs.Prelude.{◌≡◌, ℕ, ℤ, ◌<◌, ◌≤◌, ◌⊎◌, ◌||◌, ◌+◌, true, false, nat_lt, is_some, List, [], ◌∷◌, ◌++◌, length, take, drop, Some, None}
+use Rattle.gl_model.specs.Entries.{Entry, Over as Ended}
+use Rattle.gl_model.specs.Form.{IsOver, IsTrim}
+use Rattle.gl_model.specs.Records.{At}
+use Rattle.gl_model.specs.declared.record.Ending.{Ending}
 use Rattle.gl_model.specs.declared.limits.TheConstants.{TX_VARIABLES}
 use Rattle.gl_bytecode.specs.declared.ask.Ask.{Ask}
-use Rattle.gl_bytecode.specs.declared.ask.Ask.TheVariants.{Read, Write}
+use Rattle.gl_bytecode.specs.declared.ask.Ask.TheVariants.{Over as AskOver, Read, Write}
 use Rattle.gl_bytecode.specs.declared.ask.Reply.{Reply}
 use Rattle.gl_bytecode.specs.declared.ask.Reply.TheVariants.{Go as Gone, Value}
 use Rattle.gl_bytecode.specs.Fits.{Fits}
@@ -44,8 +46,23 @@ abbrev pub Passes : Bytecode → Progress → Entry → Progress → Type 0
 Passes P p e q = (IsTrim e × (q ≡ p)) ⊎ ((IsTrim e → ⊥) × (told_one P (Made e) p ≡ Some q))
 
 -- the entry is no answer
+abbrev pub IsNoAnswer : Bytecode → Progress → Entry → Progress → Type 0
+IsNoAnswer P p e q = (told_one P (Made e) p ≡ None) × (q ≡ p)
+
 abbrev pub Refuses : Bytecode → Progress → Entry → Progress → Type 0
-Refuses P p e q = (IsTrim e → ⊥) × (told_one P (Made e) p ≡ None) × (q ≡ p)
+Refuses P p e q = (IsTrim e → ⊥) × IsNoAnswer P p e q
+
+-- by the first entry of the list
+pub record PassesFirst (P : Bytecode) (p : Progress) (rest : List Entry) (q : Progress) : Type 0 where
+  pub entry : Entry
+  pub later : List Entry
+  pub same : rest ≡ entry ∷ later
+  pub none : quiet_for p rest (ask_of p.config.stage) ≡ None
+  pub passes : Passes P p entry q
+
+-- it goes on by so many entries of the list
+abbrev pub Turns : Bytecode → Progress → List Entry → Progress → ℕ → Type 0
+Turns P p rest q n = ((n ≡ 0) × GoesQuietly P p rest q) ⊎ ((n ≡ 1) × PassesFirst P p rest q)
 
 -- thread t has come to p by the first n entries of its list
 pub record IsAt (P : Bytecode) (steps t : ℕ) (es : List Entry) (p : Progress) (n : ℕ) : Type 0 where
@@ -58,3 +75,17 @@ pub record EndsAt (P : Bytecode) (steps t : ℕ) (es : List Entry) (p : Progress
   pub at : IsAt P steps t es p n
   pub few : touched p ≤ TX_VARIABLES
   pub stops : Stops P p (drop n es)
+
+-- the list is at its end, and its machine ended so
+pub record IsWhole (p : Progress) (rest : List Entry) : Type 0 where
+  pub ending : Ending
+  pub later : List Entry
+  pub same : rest ≡ Ended ending ∷ later
+  pub over : ask_of p.config.stage ≡ AskOver ending
+
+-- the list ends with its only Over
+pub record EndsWithOver (es : List Entry) : Type 0 where
+  pub base : List Entry
+  pub ending : Ending
+  pub whole : es ≡ base ++ Ended ending ∷ []
+  pub alone : (i : ℕ) (e : Entry) → At es i e → IsOver e → length es ≡ i + 1

@@ -1,15 +1,16 @@
 ghost use Rattle.std.specs.Prelude.{◌≡◌, ◌<◌, ◌≤◌, ◌||◌, ℕ, ℤ, Option, Some, None, IfOk, MatchBool, map, is_some, nat_lt, true, false};
 ghost use Rattle.gl_model.specs.Entries.{seen};
+ghost use Rattle.gl_model.specs.Form.{IsTrim};
 ghost use Rattle.gl_model.specs.declared.limits.TheConstants.{TX_VARIABLES, VARIABLES};
 ghost use Rattle.gl_bytecode.specs.Fits.{Fits, StartsRight};
 ghost use Rattle.gl_bytecode.specs.Forced.{word_ahead};
 ghost use Rattle.gl_bytecode.specs.Machine.{ask_of, takes};
 ghost use Rattle.gl_bytecode.specs.Programs.{Bytecode};
-ghost use Rattle.gl_bytecode.specs.Runs.{is_its_end, known_word, knows, looks_after, outset, replied, reply_in, reply_of_abort, reply_of_commit, touched, word_of, writes_after};
+ghost use Rattle.gl_bytecode.specs.Runs.{Made, is_its_end, known_word, knows, looks_after, outset, replied, reply_in, reply_of_abort, reply_of_commit, told_one, touched, word_of, writes_after};
 ghost use Rattle.gl_bytecode.specs.declared.ask.Ask.TheVariants.{Over as AskOver, Read, Write};
 ghost use Rattle.gl_bytecode.specs.declared.ask.Reply.TheVariants.{Go, Value};
 ghost use Rattle.gl_follow.specs.Following.{BeginsRight, quiet_for, quiet_inside, quiet_outside, quiet_read, quiet_write};
-ghost use Rattle.gl_follow.specs.Steps.{CanGo, GoesQuietly, HasRoomFor, Passes, Refuses, StaysSilent};
+ghost use Rattle.gl_follow.specs.Steps.{CanGo, GoesQuietly, HasRoomFor, IsNoAnswer, Passes, Refuses, StaysSilent};
 
 use crate::answers::{by_act, by_plain, word_ahead};
 use crate::words::Words;
@@ -91,9 +92,19 @@ impl Replay {
         ensures moved { MatchBool result (Passes program.now self.old (seen entry.now) self.new) (Refuses program.now self.old (seen entry.now) self.new) }
         ensures can { CanGo program.now self.new }
     {
-        if let Entry::Trim { .. } = entry {
+        if is_trim(entry) {
             return true;
         }
+        self.goes_by(program, entry)
+    }
+
+    // Goes on by the entry, where it answers what was asked.
+    fn goes_by(&mut self, program: &Program, entry: &Entry) -> bool
+        requires can { CanGo program.now self.old }
+        requires right { BeginsRight program.now (seen entry.now) }
+        ensures moved { MatchBool result (told_one program.now (Made (seen entry.now)) self.old ≡ Some self.new) (IsNoAnswer program.now self.old (seen entry.now) self.new) }
+        ensures can { CanGo program.now self.new }
+    {
         match self.by_entry(entry) {
             Some(reply) => {
                 if !self.machine.takes(&reply) {
@@ -280,9 +291,11 @@ impl Replay {
             return false;
         }
         if keep {
-            self.words.wrote(&tx.writes)
-        } else {
-            tx.writes.at(0).is_none()
+            return self.words.wrote(&tx.writes);
+        }
+        match tx.writes.at(0) {
+            Some(_) => false,
+            None => true,
         }
     }
 }
@@ -294,5 +307,19 @@ fn quiet_outside(ask: Ask) -> Option<Reply>
     match ask {
         Ask::Go | Ask::TxBegin => Some(Reply::Go),
         _ => None,
+    }
+}
+
+// Is the entry a note of how far the list was trimmed?
+fn is_trim(entry: &Entry) -> bool
+    ensures { MatchBool result (IsTrim (seen entry.now)) (IsTrim (seen entry.now) → ⊥) }
+{
+    match entry {
+        Entry::Trim { .. } => true,
+        Entry::Sync { .. }
+        | Entry::Commit { .. }
+        | Entry::Plain { .. }
+        | Entry::Abort { .. }
+        | Entry::Over(_) => false,
     }
 }
