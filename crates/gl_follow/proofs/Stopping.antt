@@ -38,7 +38,7 @@ take_longer [] rest (suc m) less = (m, refl)
 take_longer (e ∷ front) rest zero less = absurd (omega arith)
 take_longer (e ∷ front) rest (suc m) less = (let more = take_longer front rest m (omega arith) in (more.0, ap (λ l. e ∷ l) more.1))
 
-take_back : (k : ℕ) (es : List Entry) → es ≡ take k es ++ drop k es
+pub take_back : (k : ℕ) (es : List Entry) → es ≡ take k es ++ drop k es
 take_back zero es = refl
 take_back (suc k) [] = refl
 take_back (suc k) (e ∷ es) = ap (λ l. e ∷ l) (take_back k es)

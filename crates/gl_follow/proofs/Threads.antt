@@ -72,13 +72,15 @@ list_none made t is = ap (λ o. unwrap_or o []) is
 
 pub list_kept : (made : List (ℕ × List Entry)) (t : ℕ) (es : List Entry) → AllByRecursion IsListKept made → list_of made t ≡ Some es → (t < THREADS) × (0 < length es)
 list_kept [] t es kept is = absurd (cc)
-list_kept (l ∷ made) t es kept is = by_test (l.0 == t) refl is where
-  by_test : (b : Bool) → (l.0 == t) ≡ b → (if b then Some l.1 else list_of made t) ≡ Some es → (t < THREADS) × (0 < length es)
-  by_test true here found =
+list_kept (l ∷ made) t es kept is = by_test (l.0 == t) refl is (λ found. list_kept made t es kept.1 found) where
+  by_test :
+      (b : Bool) → (l.0 == t) ≡ b → (if b then Some l.1 else list_of made t) ≡ Some es → (list_of made t ≡ Some es → (t < THREADS) × (0 < length es)) →
+      (t < THREADS) × (0 < length es)
+  by_test true here found more =
       let same : l.0 ≡ t = eqb-true l.0 t here in
       let list : l.1 ≡ es = cc in
       (subst (λ n. n < THREADS) same kept.0.0, subst (λ (k : List Entry). 0 < length k) list kept.0.1)
-  by_test false here found = list_kept made t es kept.1 found
+  by_test false here found more = more found
 
 pub some_list : (es : List Entry) → 0 < length es → es ≢ []
 some_list [] less same = absurd (omega arith)
