@@ -1,6 +1,5 @@
 -- What the exchanges of a machine in memory come to.
-use Rattle.std.proofs.Common.{◌≡◌, ℕ, ℤ, ◌<◌, ◌≤◌, ◌&&◌, ◌||◌, Bool, true, false, not, nat_lt, ◌==◌, if◌then◌else◌, List, [], Option, Some, None, refl, sym, ap, subst, ◌∙◌, is_some, is_none, inl, inr, rules}
-use Rattle.std.specs.Prelude.{◌⊎◌}
+use Rattle.std.proofs.Common.{◌≡◌, ℕ, ℤ, ◌<◌, ◌||◌, true, false, not, nat_lt, Option, Some, None, refl, sym, ap, ◌∙◌, is_some, rules}
 use Rattle.gl_model.specs.Entries.{Entry}
 use Rattle.gl_model.specs.declared.limits.TheConstants.{TX_VARIABLES}
 use Rattle.gl_bytecode.specs.declared.ask.Ask.{Ask}
@@ -9,9 +8,8 @@ use Rattle.gl_bytecode.specs.declared.ask.Reply.{Reply}
 use Rattle.gl_bytecode.specs.declared.ask.Reply.TheVariants.{Go as Gone, Value}
 use Rattle.gl_bytecode.specs.Machine.{Attempt, ask_of, next, takes}
 use Rattle.gl_bytecode.specs.Programs.{Bytecode}
-use Rattle.gl_bytecode.specs.Runs.{Exchange, Made, Quiet, Progress, is_quiet, is_word, known_word, knows, looks_after, replied, reply_in, reply_of, told_one, touched, when, word_of, writes_after}
+use Rattle.gl_bytecode.specs.Runs.{Made, Quiet, Progress, is_quiet, is_word, known_word, knows, looks_after, replied, reply_in, told_one, touched, when, word_of, writes_after}
 use Rattle.gl_bytecode.proofs.Answers.{no_entry}
-use Rattle.gl_bytecode.proofs.AttemptWords.{not_known}
 use Rattle.gl_vm.specs.Orderly.{IsOrderly}
 use Rattle.gl_vm.proofs.Work.{step_falls}
 use Rattle.gl_follow.specs.Steps.{HasRoomFor}

@@ -5,7 +5,6 @@ use Rattle.gl_model.specs.Entries.{Entry, Sync, Commit as Committed, Plain, Abor
 use Rattle.gl_model.specs.declared.limits.TheConstants.{TX_VARIABLES}
 use Rattle.gl_model.specs.declared.record.Ending.{Ending}
 use Rattle.gl_model.specs.Form.{IsTrim}
-use Rattle.gl_bytecode.specs.declared.ask.Ask.{Ask}
 use Rattle.gl_bytecode.specs.declared.ask.Ask.TheVariants.{Over as AskOver}
 use Rattle.gl_bytecode.specs.declared.ask.Reply.{Reply}
 use Rattle.gl_bytecode.specs.declared.ask.Stage.TheVariants.{Over as IsOver}
@@ -197,11 +196,11 @@ module _ (P : Bytecode) (steps t : ℕ) where
     orderly = orderly;
     right = f.right.1;
     onward = λ more back r same along.
-      (let w = f.onward (e ∷ more) back r (ap (λ l. e ∷ l) same) (along_of more r along) in
-      onward more (begun front (e ∷ rest) p f few (e ∷ more) back w.0 (ap (λ l. e ∷ l) same) w.1));
+        (let w = f.onward (e ∷ more) back r (ap (λ l. e ∷ l) same) (along_of more r along) in
+        onward more (begun front (e ∷ rest) p f few (e ∷ more) back w.0 (ap (λ l. e ∷ l) same) w.1));
     over = λ more back r ending same along over.
-      (let w = f.over (e ∷ more) back r ending (ap (λ l. e ∷ l) same) (along_of more r along) over in
-      to_end more r (begun_over front (e ∷ rest) p f few (e ∷ more) back r ending (ap (λ l. e ∷ l) same) w over));
+        (let w = f.over (e ∷ more) back r ending (ap (λ l. e ∷ l) same) (along_of more r along) over in
+        to_end more r (begun_over front (e ∷ rest) p f few (e ∷ more) back r ending (ap (λ l. e ∷ l) same) w over));
   } where
     along_of : (more : List Entry) (r : Progress) → Along P steps t ((front ++ e ∷ []) ++ more) r → Along P steps t (front ++ (e ∷ more)) r
     along_of more r along = subst (λ l. Along P steps t l r) (behind_one front e more) along
@@ -227,7 +226,7 @@ module _ (P : Bytecode) (steps t : ℕ) where
     right = f.right.1;
     onward = λ more back r same along. f.onward (Trim low ∷ more) back r (ap (λ l. Trim low ∷ l) same) (along_of more r along);
     over = λ more back r ending same along over.
-      f.over (Trim low ∷ more) back r ending (ap (λ l. Trim low ∷ l) same) (along_of more r along) over;
+        f.over (Trim low ∷ more) back r ending (ap (λ l. Trim low ∷ l) same) (along_of more r along) over;
   } where
     along_of : (more : List Entry) (r : Progress) → Along P steps t ((front ++ Trim low ∷ []) ++ more) r → Along P steps t (front ++ (Trim low ∷ more)) r
     along_of more r along = subst (λ l. Along P steps t l r) (behind_one front (Trim low) more) along

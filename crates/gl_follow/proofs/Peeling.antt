@@ -6,12 +6,9 @@ use Rattle.gl_model.specs.Entries.{Entry, Sync, Commit as Committed, Plain, Abor
 use Rattle.gl_model.specs.declared.event.Act.{Act}
 use Rattle.gl_model.specs.declared.event.Act.TheVariants.{Begin as Began, End as Ends, Acq, Rel, Fork as Forked, Join as Joined, VRead as VolatileRead, VWrite as VolatileWrite, Alloc as Allocated, Print as Printed, Input as Taken, Fail}
 use Rattle.gl_model.specs.declared.limits.TheConstants.{TX_VARIABLES}
-use Rattle.gl_model.specs.declared.tx.Tx.{Tx}
-use Rattle.gl_model.specs.declared.tx.Why.{Why}
 use Rattle.gl_model.specs.declared.tx.Why.TheVariants.{Changed, Raised}
-use Rattle.gl_model.specs.Form.{IsTrim}
 use Rattle.gl_bytecode.specs.declared.ask.Ask.{Ask}
-use Rattle.gl_bytecode.specs.declared.ask.Ask.TheVariants.{Go, Begin, End, Over as AskOver, Read, Write, VRead, VWrite, Enter, Exit, Fork, Join, Alloc, Print, Input, TxBegin, TxEnd}
+use Rattle.gl_bytecode.specs.declared.ask.Ask.TheVariants.{Go, Begin, End, Read, Write, VRead, VWrite, Enter, Exit, Fork, Join, Alloc, Print, Input, TxBegin, TxEnd}
 use Rattle.gl_bytecode.specs.declared.ask.Reply.{Reply}
 use Rattle.gl_bytecode.specs.declared.ask.Reply.TheVariants.{Go as Gone, Value, Start, Raise, Retry}
 use Rattle.gl_bytecode.specs.Attending.{Attends, runs_after}
@@ -247,20 +244,20 @@ peel P p r (Quiet reply) xs list es few leads same is outside =
       first = parts.first;
       rest = record { exchanges = xs; entries = same; reached = parts.rest };
     }) where
-  parts : Parts P (Quiet reply) xs p r
-  parts = told_cons P (Quiet reply) xs p r is
+      parts : Parts P (Quiet reply) xs p r
+      parts = told_cons P (Quiet reply) xs p r is
 
-  t : Told P (Quiet reply) p parts.mid
-  t = told_of P (Quiet reply) p parts.mid parts.first
+      t : Told P (Quiet reply) p parts.mid
+      t = told_of P (Quiet reply) p parts.mid parts.first
 
-  looks :
-      (a : Attempt) → p.config.attempt ≡ Some a → (x : ℕ) (w : ℤ) → ask_of p.config.stage ≡ Read x → reply ≡ Value w →
-      known_word (word_of p.writes x) (word_of p.looks x) ≡ None → word_ahead list x ≡ Some w
-  looks a runs x w asks is_word unknown =
-      let first : told_one P (Quiet (Value w)) p ≡ Some parts.mid = rw (sym is_word) parts.first in
-      let told_word = word_told P x w a xs p parts.mid r runs asks unknown first parts.rest outside in
-      let by_es : word_ahead es x ≡ Some w = ap (λ l. word_ahead l x) (sym same) ∙ told_word in
-      sym (ahead_trims list x) ∙ ap (λ l. word_ahead l x) leads.same ∙ ahead_append es leads.back x w by_es
+      looks :
+          (a : Attempt) → p.config.attempt ≡ Some a → (x : ℕ) (w : ℤ) → ask_of p.config.stage ≡ Read x → reply ≡ Value w →
+          known_word (word_of p.writes x) (word_of p.looks x) ≡ None → word_ahead list x ≡ Some w
+      looks a runs x w asks is_word unknown =
+          let first : told_one P (Quiet (Value w)) p ≡ Some parts.mid = rw (sym is_word) parts.first in
+          let told_word = word_told P x w a xs p parts.mid r runs asks unknown first parts.rest outside in
+          let by_es : word_ahead es x ≡ Some w = ap (λ l. word_ahead l x) (sym same) ∙ told_word in
+          sym (ahead_trims list x) ∙ ap (λ l. word_ahead l x) leads.same ∙ ahead_append es leads.back x w by_es
 peel P p r (Made e) xs list es few leads same is outside = by_quiet (quiet_for p list (ask_of p.config.stage)) refl where
   parts : Parts P (Made e) xs p r
   parts = told_cons P (Made e) xs p r is

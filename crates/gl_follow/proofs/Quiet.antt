@@ -6,18 +6,17 @@ use Rattle.std.proofs.lemmas.Bool.Decides.{nat_tests}
 use Rattle.gl_model.specs.Entries.{Entry}
 use Rattle.gl_model.specs.declared.limits.TheConstants.{TX_VARIABLES}
 use Rattle.gl_bytecode.specs.declared.ask.Ask.{Ask}
-use Rattle.gl_bytecode.specs.declared.ask.Ask.TheVariants.{Go, Begin, End, Over as AskOver, Read, Write, VRead, VWrite, Enter, Exit, Fork, Join, Alloc, Print, Input, TxBegin, TxEnd}
+use Rattle.gl_bytecode.specs.declared.ask.Ask.TheVariants.{Go, Read, Write, TxBegin}
 use Rattle.gl_bytecode.specs.declared.ask.Reply.{Reply}
-use Rattle.gl_bytecode.specs.declared.ask.Reply.TheVariants.{Go as Gone, Value, Start, Raise, Retry}
+use Rattle.gl_bytecode.specs.declared.ask.Reply.TheVariants.{Go as Gone, Value, Raise}
 use Rattle.gl_bytecode.specs.declared.ask.Stage.{Stage}
-use Rattle.gl_bytecode.specs.declared.ask.Stage.TheVariants.{New, Begins, Runs, Waits, Drops, Leaves, Ends, Over}
+use Rattle.gl_bytecode.specs.declared.ask.Stage.TheVariants.{New, Runs, Waits}
 use Rattle.gl_bytecode.specs.declared.limits.TheConstants.{TX_TOO_LARGE}
 use Rattle.gl_bytecode.specs.Forced.{word_ahead}
 use Rattle.gl_bytecode.specs.Machine.{Attempt, answers, ask_of, refusal_in, takes, takes_at}
 use Rattle.gl_bytecode.specs.Programs.{Bytecode}
 use Rattle.gl_bytecode.specs.Runs.{Progress, is_quiet, is_quiet_within, is_word, known_word, knows, touched, word_of}
 use Rattle.gl_bytecode.proofs.AttemptWords.{none_known}
-use Rattle.gl_bytecode.proofs.Exchanges.{outside_only}
 use Rattle.gl_vm.specs.Orderly.{IsOrderly, StageIsOrderly, WaitsRightly}
 use Rattle.gl_follow.specs.Following.{quiet_at, quiet_for, quiet_inside, quiet_outside, quiet_read, quiet_write}
 

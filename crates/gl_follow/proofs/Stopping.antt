@@ -1,19 +1,16 @@
 -- Where nothing leads on, the list is whole or fails its program there.
-use Rattle.std.proofs.Common.{◌≡◌, ℕ, zero, suc, ◌+◌, ◌<◌, ◌≤◌, List, [], ◌∷◌, ◌++◌, length, take, drop, Option, Some, None, refl, sym, ◌∙◌, ap, subst, inl, inr, arith}
+use Rattle.std.proofs.Common.{◌≡◌, ℕ, zero, suc, ◌<◌, ◌≤◌, List, [], ◌∷◌, ◌++◌, length, take, drop, Some, refl, sym, ◌∙◌, ap, subst, inl, inr, arith}
 use Rattle.std.specs.Prelude.{◌⊎◌}
-use Rattle.gl_model.specs.Entries.{Entry, Sync, Commit as Committed, Plain, Abort, Trim, Over as Ended}
+use Rattle.gl_model.specs.Entries.{Entry, Over as Ended}
 use Rattle.gl_model.specs.declared.limits.TheConstants.{TX_VARIABLES}
 use Rattle.gl_model.specs.declared.record.Ending.{Ending}
-use Rattle.gl_model.specs.Form.{IsTrim}
-use Rattle.gl_bytecode.specs.declared.ask.Ask.{Ask}
 use Rattle.gl_bytecode.specs.declared.ask.Stage.TheVariants.{Over as IsOver}
-use Rattle.gl_bytecode.specs.Machine.{ask_of}
 use Rattle.gl_bytecode.specs.Programs.{Bytecode}
 use Rattle.gl_bytecode.specs.Runs.{Along, Exchange, Made, Quiet, Progress, Runs, entries_of, outset, told, told_one, touched, without_trims}
 use Rattle.gl_bytecode.proofs.Exchanges.{told_of, told_cons}
 use Rattle.gl_bytecode.proofs.Growth.{along_over, without_trims-append}
 use Rattle.gl_follow.specs.Beginnings.{IsMadeUpTo, ProgramFails}
-use Rattle.gl_follow.specs.Following.{Follows, Reaches, Stops, quiet_for}
+use Rattle.gl_follow.specs.Following.{Follows, Reaches, Stops}
 use Rattle.gl_follow.proofs.Moving.{Begun, begun, begun_over, no_trim}
 use Rattle.gl_follow.proofs.Peeling.{ByEntry, Quietly}
 

@@ -1,13 +1,13 @@
 -- The lists of a record, thread by thread.
-use Rattle.std.proofs.Common.{◌≡◌, ◌≢◌, ℕ, ℤ, zero, suc, ◌+◌, ◌<◌, ◌≤◌, ◌==◌, Bool, true, false, List, [], ◌∷◌, ◌++◌, length, map, Option, Some, None, refl, sym, ◌∙◌, ap, subst, inl, inr, arith, unwrap_or}
-use Rattle.std.specs.Prelude.{◌⊎◌, slice_get, if◌then◌else◌}
+use Rattle.std.proofs.Common.{◌≡◌, ◌≢◌, ℕ, ℤ, zero, suc, ◌+◌, ◌<◌, ◌≤◌, ◌==◌, Bool, true, false, List, [], ◌∷◌, ◌++◌, length, Option, Some, None, refl, ◌∙◌, ap, subst, inl, inr, arith, unwrap_or}
+use Rattle.std.specs.Prelude.{slice_get, if◌then◌else◌}
 use Rattle.std.specs.List.{AllByRecursion}
 use Rattle.std.proofs.lemmas.Bool.{eqb-true}
 use Rattle.gl_model.specs.Entries.{Entry, Sync, Commit as Committed, Plain, Abort, Trim, Over as Ended}
 use Rattle.gl_model.specs.declared.event.Act.TheVariants.{Begin}
 use Rattle.gl_model.specs.declared.limits.TheConstants.{THREADS}
 use Rattle.gl_model.specs.declared.record.Ending.{Ending}
-use Rattle.gl_model.specs.Form.{Form, IsOver, ListForm}
+use Rattle.gl_model.specs.Form.{Form, IsOver}
 use Rattle.gl_model.specs.Kept.{IsListKept}
 use Rattle.gl_model.specs.Lists.{list_of, lists_of}
 use Rattle.gl_model.specs.Records.{At, Lists, Place}

@@ -1,11 +1,10 @@
 -- A machine that is driven along a list, by the number of entries that are passed.
-use Rattle.std.proofs.Common.{◌≡◌, ℕ, zero, suc, ◌+◌, ◌-◌, ◌*◌, ◌<◌, ◌≤◌, true, List, [], ◌∷◌, ◌++◌, length, map, take, drop, Option, Some, None, refl, sym, ◌∙◌, ap, subst, inl, inr, arith}
+use Rattle.std.proofs.Common.{◌≡◌, ℕ, zero, suc, ◌+◌, ◌-◌, ◌*◌, ◌<◌, ◌≤◌, List, [], ◌∷◌, ◌++◌, length, map, take, drop, Some, None, refl, sym, ◌∙◌, ap, subst, inl, inr, arith}
 use Rattle.std.specs.Prelude.{◌⊎◌, slice_get}
 use Rattle.gl_model.specs.Entries.{Entry, Sync, Commit as Committed, Plain, Abort, Trim, Over as Ended}
 use Rattle.gl_model.specs.declared.limits.TheConstants.{TX_VARIABLES}
 use Rattle.gl_model.specs.declared.record.Ending.{Ending}
 use Rattle.gl_model.specs.Form.{IsTrim}
-use Rattle.gl_bytecode.specs.declared.ask.Ask.{Ask}
 use Rattle.gl_bytecode.specs.declared.ask.Ask.TheVariants.{Over as AskOver}
 use Rattle.gl_bytecode.specs.declared.ask.Stage.{Stage}
 use Rattle.gl_bytecode.specs.declared.ask.Stage.TheVariants.{New, Begins, Runs as StageRuns, Waits, Drops, Leaves, Ends, Over as IsOver}
@@ -18,8 +17,8 @@ use Rattle.gl_vm.specs.Asking.{due}
 use Rattle.gl_vm.specs.Orderly.{IsAskedBy, IsOrderly, StageIsOrderly}
 use Rattle.gl_vm.proofs.Work.{orderly_fresh, step_falls}
 use Rattle.gl_follow.specs.Beginnings.{ProgramFails}
-use Rattle.gl_follow.specs.Following.{EachBeginsRight, Follows, Stops, quiet_for}
-use Rattle.gl_follow.specs.Steps.{CanGo, EndsAt, EndsWithOver, IsAt, IsWhole, PassesFirst, Turns}
+use Rattle.gl_follow.specs.Following.{EachBeginsRight, Follows, quiet_for}
+use Rattle.gl_follow.specs.Steps.{CanGo, EndsAt, EndsWithOver, IsAt, IsWhole, Turns}
 use Rattle.gl_follow.proofs.Moving.{begin_follow, move_entry, move_quiet, move_trim}
 use Rattle.gl_follow.proofs.Stopping.{fails, holds, take_back}
 

@@ -1,11 +1,10 @@
 -- The words of an attempt as lists of pairs.
-use Rattle.std.proofs.Common.{◌≡◌, ℕ, ℤ, zero, suc, ◌+◌, ◌==◌, ◌&&◌, ◌||◌, ◌<◌, ◌≤◌, Bool, true, false, List, [], ◌∷◌, length, map, drop, refl, sym, ap, ◌∙◌, subst, arith, Option, Some, None, inl, inr, eq-eqb, nat_lt, is_none, is_some}
+use Rattle.std.proofs.Common.{◌≡◌, ℕ, ℤ, zero, suc, ◌==◌, ◌&&◌, ◌||◌, ◌<◌, ◌≤◌, Bool, true, false, List, [], ◌∷◌, length, map, drop, refl, sym, ap, ◌∙◌, subst, arith, Option, Some, None, inl, inr, eq-eqb, nat_lt, is_none, is_some}
 use Rattle.std.specs.Prelude.{Contains, if◌then◌else◌, ◌⊎◌, slice_get}
 use Rattle.std.specs.List.{find}
 use Rattle.std.specs.Option.{option_map}
 use Rattle.std.specs.Ordering.{int_eq}
 use Rattle.std.proofs.lemmas.Bool.{cases_Bool, eqb-true}
-use Rattle.std.proofs.lemmas.Bool.Decides.{nat_tests}
 use Rattle.gl_model.specs.declared.limits.TheConstants.{TX_VARIABLES}
 use Rattle.gl_model.specs.declared.tx.Look.{Look}
 use Rattle.gl_model.specs.declared.tx.Pair.{Pair}
@@ -14,7 +13,7 @@ use Rattle.gl_model.specs.Kept.{AreVariables}
 use Rattle.gl_model.specs.Rising.{with_all, with_one, with_part}
 use Rattle.gl_bytecode.specs.Runs.{Progress, is_its_end, known_word, same_words, with_word, word_of}
 use Rattle.gl_follow.specs.Words.{Touched, look_word, pair_var, pair_word, size_of}
-use Rattle.gl_follow.proofs.Unions.{all_grow, all_left, all_longer, all_one, all_right, in_next, keys_with, one_all, one_fits}
+use Rattle.gl_follow.proofs.Unions.{all_grow, all_left, all_one, all_right, in_next, keys_with, one_all, one_fits}
 
 pub word_pairs : (ws : List Pair) (x : ℕ) → word_of (map pair_word ws) x ≡ option_map (λ w. w.value) (find (λ p. p.var == x) ws)
 word_pairs [] x = refl
@@ -118,7 +117,7 @@ pub write_enters :
 write_enters x looks writes all is room full out = elim (either _ _ room) [
   | inl known ↦ out (subst (λ l. Contains l x) (sym is) (known_among looks writes x known))
   | inr less ↦ (let e = size_all looks writes all is in let same : size_of (touched_by looks writes) ≡ TX_VARIABLES = e ∙ full in
-    let no : nat_lt (size_of (touched_by looks writes)) TX_VARIABLES ≡ false = rw same refl in cc)
+      let no : nat_lt (size_of (touched_by looks writes)) TX_VARIABLES ≡ false = rw same refl in cc)
 ]
 
 pub write_fits :

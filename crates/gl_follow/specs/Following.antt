@@ -1,6 +1,6 @@
 -- How a machine is driven along a list: what each ask is answered, and how far the list is made.
-use Rattle.std.specs.Prelude.{◌≡◌, ℕ, ℤ, pos, ◌≤◌, ◌||◌, nat_lt, Bool, true, false, List, [], ◌∷◌, ◌++◌, take, drop, Option, Some, None, unwrap_or}
-use Rattle.gl_model.specs.Entries.{Entry, Sync, Commit, Plain, Abort, Trim, Over as Ended}
+use Rattle.std.specs.Prelude.{◌≡◌, ℕ, ℤ, pos, ◌||◌, nat_lt, Bool, true, false, List, [], ◌∷◌, ◌++◌, Option, Some, None, unwrap_or}
+use Rattle.gl_model.specs.Entries.{Entry, Sync}
 use Rattle.gl_model.specs.declared.event.Act.TheVariants.{Begin as Began}
 use Rattle.gl_model.specs.declared.record.Ending.{Ending}
 use Rattle.gl_model.specs.declared.limits.TheConstants.{TX_VARIABLES}

@@ -1,5 +1,5 @@
 -- The words of a running attempt, and the sets that are kept beside them.
-use Rattle.std.specs.Prelude.{◌≡◌, ℕ, ℤ, List, length, map}
+use Rattle.std.specs.Prelude.{ℕ, ℤ, List, length, map}
 use Rattle.gl_model.specs.declared.tx.Look.{Look}
 use Rattle.gl_model.specs.declared.tx.Pair.{Pair}
 use Rattle.gl_model.specs.Rising.{with_all}

@@ -31,7 +31,10 @@ pub(crate) fn by_act(ask: Ask, act: Act, value: i64) -> Option<Reply>
             _ => None,
         },
         Act::VWrite(written) => match ask {
-            Ask::VWrite { field, value: word } => when(field == written && word == value, Reply::Go),
+            Ask::VWrite { field, value: word } => when(
+                field == written && word == value,
+                Reply::Go,
+            ),
             _ => None,
         },
         Act::Acq(entered) => match ask {
@@ -80,10 +83,22 @@ fn by_refusal(ask: Ask, code: u8, value: i64) -> Option<Reply>
     ensures { result ≡ reply_of_act ask (Act.Fail code) value }
 {
     match ask {
-        Ask::Exit { monitor } => when(code == NOT_OWNER && monitor as i64 == value, Reply::Raise(NOT_OWNER)),
-        Ask::Alloc { class } => when(code == HEAP_FULL && class as i64 == value, Reply::Raise(HEAP_FULL)),
-        Ask::Fork { .. } => when(code == THREADS_FULL && 0 == value, Reply::Raise(THREADS_FULL)),
-        Ask::Join { thread } => when(code == BAD_THREAD && thread as i64 == value, Reply::Raise(BAD_THREAD)),
+        Ask::Exit { monitor } => when(
+            code == NOT_OWNER && monitor as i64 == value,
+            Reply::Raise(NOT_OWNER),
+        ),
+        Ask::Alloc { class } => when(
+            code == HEAP_FULL && class as i64 == value,
+            Reply::Raise(HEAP_FULL),
+        ),
+        Ask::Fork { .. } => when(
+            code == THREADS_FULL && 0 == value,
+            Reply::Raise(THREADS_FULL),
+        ),
+        Ask::Join { thread } => when(
+            code == BAD_THREAD && thread as i64 == value,
+            Reply::Raise(BAD_THREAD),
+        ),
         Ask::Input => when(code == INPUT_END && 0 == value, Reply::Raise(INPUT_END)),
         _ => None,
     }
@@ -95,11 +110,22 @@ pub(crate) fn by_plain(ask: Ask, var: u16, write: bool, value: i64, raised: bool
 {
     match ask {
         Ask::Read { var: asked } => {
-            let reply = if raised { Reply::Raise(RACE) } else { Reply::Value(value) };
+            let reply = if raised {
+                Reply::Raise(RACE)
+            } else {
+                Reply::Value(value)
+            };
             when(asked == var && !write, reply)
         }
-        Ask::Write { var: asked, value: word } => {
-            let reply = if raised { Reply::Raise(RACE) } else { Reply::Go };
+        Ask::Write {
+            var: asked,
+            value: word,
+        } => {
+            let reply = if raised {
+                Reply::Raise(RACE)
+            } else {
+                Reply::Go
+            };
             when(asked == var && write && word == value, reply)
         }
         _ => None,

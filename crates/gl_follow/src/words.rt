@@ -18,7 +18,7 @@ pub(crate) struct Words {
 impl Model for Words {
     ghost use Rattle.gl_follow.specs.Words.{Touched, pair_word, pair_var};
     ghost use Rattle.std.specs.Ordering.{int_eq};
-ghost use Rattle.std.specs.Prelude.{◌≡◌, ◌==◌, ◌&&◌, map};
+    ghost use Rattle.std.specs.Prelude.{◌≡◌, ◌==◌, ◌&&◌, map};
     ghost use Rattle.gl_model.specs.Rising.{with_all};
 
     ghost Value = { Touched };

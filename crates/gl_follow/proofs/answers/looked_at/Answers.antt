@@ -1,4 +1,4 @@
-use Rattle.std.proofs.Common.{◌≡◌, sym, ap, ◌∙◌, rules, FitsSigned, w64, None, Some}
+use Rattle.std.proofs.Common.{sym, ap, ◌∙◌, rules, FitsSigned, w64}
 use Rattle.std.specs.Option.{option_map}
 use Rattle.std.proofs.lemmas.Int.{to_z-of_z}
 use Rattle.gl_model.specs.declared.tx.Look.{Look}

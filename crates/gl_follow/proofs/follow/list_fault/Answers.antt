@@ -1,4 +1,4 @@
-use Rattle.std.proofs.Common.{◌≡◌, drop, map, sym, ap, ◌∙◌, subst}
+use Rattle.std.proofs.Common.{map, sym, ap, ◌∙◌, subst}
 use Rattle.gl_model.specs.Entries.{seen}
 use Rattle.gl_follow.specs.Steps.{IsWhole}
 use Rattle.gl_follow.proofs.Turning.{drop_map, unwhole_fails, whole_runs}

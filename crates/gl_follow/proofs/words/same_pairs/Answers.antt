@@ -1,7 +1,7 @@
 use Rattle.std.proofs.Common.{◌≡◌, ◌+◌, suc, ◌==◌, ◌&&◌, true, false, sym, ap, ◌∙◌, rules, arith, FitsSigned, w64}
 use Rattle.std.specs.Ordering.{int_eq}
 use Rattle.std.proofs.lemmas.Int.{to_z-of_z}
-use Rattle.gl_follow.specs.Words.{look_word, pair_word}
+use Rattle.gl_follow.specs.Words.{pair_word}
 use Rattle.gl_follow.proofs.WordLemmas.{longer_from, none_from, other_on, same_from, same_on, shorter_from}
 use Rattle.gl_follow.proofs.words.same_pairs.Goals as goal
 

@@ -1,6 +1,6 @@
 use Rattle.std.proofs.Common.{◌≡◌, map}
 use Rattle.gl_bytecode.specs.Runs.{same_words}
-use Rattle.gl_follow.specs.Words.{look_word, pair_word}
+use Rattle.gl_follow.specs.Words.{pair_word}
 use Rattle.gl_follow.proofs.WordLemmas.{same_from}
 use Rattle.gl_follow.proofs.words.same_pairs.Given as goal
 

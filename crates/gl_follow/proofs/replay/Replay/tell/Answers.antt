@@ -1,5 +1,5 @@
 use Rattle.std.proofs.Common.{◌≡◌, sym, ap, ◌∙◌, subst}
-use Rattle.gl_bytecode.specs.Machine.{Config, ask_of, next}
+use Rattle.gl_bytecode.specs.Machine.{Config, next}
 use Rattle.gl_bytecode.specs.Runs.{Progress}
 use Rattle.gl_vm.specs.Asking.{AsksInRange}
 use Rattle.gl_vm.specs.Orderly.{IsOrderly}

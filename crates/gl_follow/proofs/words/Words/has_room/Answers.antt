@@ -1,6 +1,6 @@
-use Rattle.std.proofs.Common.{◌≡◌, length, nat_lt, sym, ap, ◌∙◌, subst}
+use Rattle.std.proofs.Common.{nat_lt, sym, ap, ◌∙◌}
 use Rattle.gl_model.specs.declared.limits.TheConstants.{TX_VARIABLES}
-use Rattle.gl_follow.specs.Words.{Touched, size_of}
+use Rattle.gl_follow.specs.Words.{size_of}
 use Rattle.gl_follow.proofs.WordLemmas.{size_all}
 use Rattle.gl_follow.proofs.words.Words.has_room.Goals as goal
 

@@ -1,4 +1,4 @@
-use Rattle.std.proofs.Common.{◌≤◌, length, sym, subst}
+use Rattle.std.proofs.Common.{◌≤◌, sym, subst}
 use Rattle.gl_model.specs.declared.limits.TheConstants.{TX_VARIABLES}
 use Rattle.gl_follow.specs.Words.{Touched, size_of}
 use Rattle.gl_follow.proofs.WordLemmas.{size_all}

@@ -1,4 +1,4 @@
-use Rattle.std.proofs.Common.{◌≡◌, sym, ◌∙◌, refl, rules, FitsSigned, w64, None, Some}
+use Rattle.std.proofs.Common.{sym, ◌∙◌, rules, FitsSigned, w64, None, Some}
 use Rattle.std.proofs.lemmas.Int.{to_z-of_z}
 use Rattle.gl_follow.proofs.WordLemmas.{looked_known, written_known}
 use Rattle.gl_follow.proofs.words.Words.known.Goals as goal

@@ -1,4 +1,4 @@
-use Rattle.std.proofs.Common.{◌≡◌, sym, ap, ◌∙◌, is_some}
+use Rattle.std.proofs.Common.{sym, ap, ◌∙◌, is_some}
 use Rattle.gl_follow.proofs.WordLemmas.{is_looked, is_written}
 use Rattle.gl_follow.proofs.words.Words.knows.Goals as goal
 
