@@ -234,7 +234,7 @@ pub finish :
     IsFirstOther c7 l8 result → MatchOption result (Races R) (λ c. IsFirstBy Before (RaceFailsAt R) (seen c))
 finish R claims old us rows before known least result form numbered run gathered kept sorted short clocks r1 r3 k6 c2 c7 a4 a5 l8 e1 e2 e3 e4 e5 e6 e7 e8 first learned long found other =
     answer R claims old us rows before known least form numbered run gathered (λ c e a. (kept c e a).0) sorted short clocks
-      (λ k l a u. subst (λ r. cell before k u ≡ cell r l.block u) e1 (first k l (subst (λ cs. slice_get cs k ≡ Some l) (sym e2) a) u))
-      (subst (λ r. ClaimsKnow r us (length us) before known) e3 (subst (λ a. ClaimsKnow r3 a (length a) before known) e4 learned)) long
-      (subst (λ k. AreLeast k us (length us) least) e6 (subst (λ a. AreLeast k6 a (length a) least) e5 found)) result
-      (subst (λ cs. IsFirstOther cs least result) e7 (subst (λ ls. IsFirstOther c7 ls result) e8 other))
+    (λ k l a u. subst (λ r. cell before k u ≡ cell r l.block u) e1 (first k l (subst (λ cs. slice_get cs k ≡ Some l) (sym e2) a) u))
+    (subst (λ r. ClaimsKnow r us (length us) before known) e3 (subst (λ a. ClaimsKnow r3 a (length a) before known) e4 learned)) long
+    (subst (λ k. AreLeast k us (length us) least) e6 (subst (λ a. AreLeast k6 a (length a) least) e5 found)) result
+    (subst (λ cs. IsFirstOther cs least result) e7 (subst (λ ls. IsFirstOther c7 ls result) e8 other))

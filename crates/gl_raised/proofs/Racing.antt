@@ -191,18 +191,24 @@ module _ (setting : Setting) (R : Lists) (h : List Stamp) (now : State) (claims 
     pub part : IsPart a.claim c.thread block e a
 
   use_of : (a : Access) → Contains us a → (c : Place) × ((e : Entry) × IsUse a c e)
-  use_of a i = (seen l.place, (e, record {
-    there = w.1.1.2;
-    is_access = is;
-    own = part.thread;
-    block = b.0;
-    block_at = b.1;
-    claimed = l;
-    at = subst (λ k. slice_get claims k ≡ Some l) (sym part.claim) w.1.1.1;
-    place = refl;
-    in_block = block;
-    part = subst (λ q. IsPart a.claim l.place.thread q e a) block (subst (λ k. IsPart k l.place.thread l.block e a) (sym part.claim) part);
-  }))
+  use_of a i = (
+    seen l.place,
+    (
+      e,
+      record {
+        there = w.1.1.2;
+        is_access = is;
+        own = part.thread;
+        block = b.0;
+        block_at = b.1;
+        claimed = l;
+        at = subst (λ k. slice_get claims k ≡ Some l) (sym part.claim) w.1.1.1;
+        place = refl;
+        in_block = block;
+        part = subst (λ q. IsPart a.claim l.place.thread q e a) block (subst (λ k. IsPart k l.place.thread l.block e a) (sym part.claim) part);
+      },
+    ),
+  )
     where
       w : (k : ℕ) × ((l : Claim) × ((e : Entry) × (slice_get claims k ≡ Some l) × EntryAt R (seen l.place) e × Contains (accesses_of k l.place.thread l.block e) a))
       w = (J.parts a).0 i

@@ -17,4 +17,4 @@ AreFound claims least k = (j : ℕ) (l : Claim) (o : Option ℕ) → j < k → s
 abbrev pub IsFirstOther : List Claim → List (Option ℕ) → Option Place → Type 0
 IsFirstOther claims least result =
     MatchOption result ((k : ℕ) → AreFound claims least k) (λ p.
-      (k : ℕ) × ((l : Claim) × ((o : Option ℕ) × (slice_get claims k ≡ Some l) × (slice_get least k ≡ Some o) × (p ≡ l.place) × (l.raised ≢ o) × AreFound claims least k)))
+    (k : ℕ) × ((l : Claim) × ((o : Option ℕ) × (slice_get claims k ≡ Some l) × (slice_get least k ≡ Some o) × (p ≡ l.place) × (l.raised ≢ o) × AreFound claims least k)))

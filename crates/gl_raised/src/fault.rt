@@ -27,7 +27,11 @@ fn put_in_order(accesses: &mut Vec<Access>) -> Result<(), AllocError>
 }
 
 // The clock of each claim's block.
-fn claim_clocks(alloc: Global, rows: &[[u32; ALL]], claims: &[Claim]) -> Result<Vec<[u32; ALL]>, AllocError>
+fn claim_clocks(
+    alloc: Global,
+    rows: &[[u32; ALL]],
+    claims: &[Claim],
+) -> Result<Vec<[u32; ALL]>, AllocError>
     ensures long { IfOk result (λ known. length known.items ≡ length claims.now) }
     ensures clocks { IfOk result (λ known. (k : ℕ) (l : AClaim) → slice_get claims.now k ≡ Some l → (u : ℕ) → cell known.items k u ≡ cell rows.now l.block u) }
 {

@@ -52,7 +52,12 @@ fn part(by: &Maker, writes: &Pairs, number: &Number, performed: bool) -> Access
 }
 
 // Adds the access of each variable of a commit, or of a refused one.
-fn add_parts(accesses: &mut Vec<Access>, by: &Maker, tx: &Tx, performed: bool) -> Result<(), AllocError>
+fn add_parts(
+    accesses: &mut Vec<Access>,
+    by: &Maker,
+    tx: &Tx,
+    performed: bool,
+) -> Result<(), AllocError>
     ensures { OnOk result (accesses.new.items ≡ accesses.old.items ++ map (part_of by.now.claim by.now.thread by.now.tick performed tx.now.writes) tx.now.numbers) }
 {
     tx.numbers.keeps();
@@ -129,13 +134,7 @@ impl Gathered {
         ensures accesses { OnOk result (self.new.accesses.items ≡ self.old.accesses.items) }
     {
         let raised = match entry {
-            Entry::Plain { var, raised, .. } => {
-                if *raised {
-                    Some(*var)
-                } else {
-                    None
-                }
-            }
+            Entry::Plain { var, raised, .. } => { if *raised { Some(*var) } else { None } }
             Entry::Commit { .. } => None,
             Entry::Abort { why, .. } => match why {
                 Why::Raised { var } => Some(*var),

@@ -22,9 +22,9 @@ loop-index-preserved c =
     let accesses : c.add_claim.new.self.accesses.items ≡ c.loop-index.all.accesses.items ++ accesses_of (length c.loop-index.all.claims.items) t at e = c.in_ok-add_claim.ensures.accesses ∙ c.in_ok-add_accesses.ensures.accesses in record {
       block = block;
       gathered = λ R same start. rw (claims, accesses) (
-        gathered_more R t i at place refl refl refl e (ap (λ l. slice_get l i) same ∙ there) (block ∙ ap (λ l. block_before l (i + 1)) (sym same)) c.loop-index.all.claims.items
+          gathered_more R t i at place refl refl refl e (ap (λ l. slice_get l i) same ∙ there) (block ∙ ap (λ l. block_before l (i + 1)) (sym same)) c.loop-index.all.claims.items
           c.loop-index.all.accesses.items (c.loop-index.invariant.gathered R same start)
-      );
+          );
     }
 
 pub returns : goal.returns
