@@ -1,0 +1,5 @@
+pub mod Seven
+pub mod Composing
+pub mod OneFinding
+pub mod Apart
+pub mod Begins
