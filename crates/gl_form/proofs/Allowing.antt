@@ -153,8 +153,8 @@ cached_goes_on e var nth write value is i block rights less answer said = (let P
       gives_none x m w gives = (let is' : true ≡ false = gives.0 in cc)
 
       by_entry :
-          (es : List Entry) (x k : ℕ) (w : Bool) (v : ℤ) → At es i (Plain var nth true write value false) → At es i (Plain x k true w v false) →
-          HasRight es i var nth write → HasRight es i x k w
+          (es : List Entry) (x k : ℕ) (w : Bool) (v : ℤ) → At es i (Plain var nth true write value false) →
+          At es i (Plain x k true w v false) → HasRight es i var nth write → HasRight es i x k w
       by_entry es x k w v at there has =
           let same : Plain var nth true write value false ≡ Plain x k true w v false =
           same_entry es i i (Plain x k true w v false) (Plain var nth true write value false) there at refl in
@@ -180,7 +180,8 @@ cached_goes_on e var nth write value is i block rights less answer said = (let P
         },
       )
       by_answer es are at false wrong =
-          λ all. refused es i block rights are (Plain var nth true write value false) at var less nth write wrong (all var nth write value at)
+          λ all. refused es i block rights are (Plain var nth true write value false) at var less nth write wrong
+          (all var nth write value at)
 
 abbrev right_of : ℕ → ℕ → Bool → Right
 right_of i nth write = record { index = i; nth = nth; write = write }

@@ -89,7 +89,8 @@ plain_goes_on e var nth write value raised is less old new whole answer said = (
 
       above : IsAbove (last_on old var) nth → (x k : ℕ) → DrawsOn x (Plain var nth false write value raised) k → IsAbove (last_on old x) k
       above is x k (inl d) = absurd d
-      above is x k (inr d) = (let P : ℕ → Type 0 = λ y. IsAbove (last_on old y) k in let Q : ℕ → Type 0 = λ m. IsAbove (last_on old var) m in
+      above is x k (inr d) = (let P : ℕ → Type 0 = λ y. IsAbove (last_on old y) k in
+          let Q : ℕ → Type 0 = λ m. IsAbove (last_on old var) m in
           subst P d.1 (subst Q d.2 is))
 
       most : (k : ℕ) → DrawsOn var (Plain var nth false write value raised) k → k ≤ nth

@@ -78,9 +78,8 @@ abbrev pub IsTxLast : ℕ → Tx → Option ℕ → Option ℕ → Type 0
 IsTxLast x tx old new =
     ((k : ℕ) × TxDraws x tx k × ((m : ℕ) → TxDraws x tx m → m ≤ k) × (new ≡ Some k)) ⊎ (((k : ℕ) → TxDraws x tx k → ⊥) × (new ≡ old))
 
--- where the attempt's own numbers stand after those of its looks: all its numbers are above the last ones of their variables exactly
--- where the
--- answer is yes, and then the last ones go on with them
+-- where the attempt's own numbers stand after those of its looks: all its numbers are above the last ones of their variables
+-- exactly where the answer is yes, and then the last ones go on with them
 abbrev pub TxGoesOn : Tx → Bool → List (Option ℕ) → List (Option ℕ) → Type 0
 TxGoesOn tx answer old new =
     ((x k m : ℕ) (value : ℤ) → Contains tx.looks (record { var = x; value = value; nth = k }) →
