@@ -33,7 +33,7 @@ use Rattle.gl_rule.specs.World.{World}
 use Rattle.gl_rule.specs.Turns.{HeldOne}
 use Rattle.gl_rule.specs.Positions.{ShelfFits}
 use Rattle.gl_rule.specs.Values.{IsAbove, Stands, StandsHeld, HeldStands}
-use Rattle.gl_rule.specs.Numbers.{ShelfDraws}
+use Rattle.gl_rule.specs.Numbers.{count_on, ShelfDraws}
 use Rattle.gl_rule.specs.Knowledge.{AreBelow, TailsFit, ReadFits}
 use Rattle.gl_rule.specs.Ring.{FloorFits, ShelfTrims, LowHolds}
 use Rattle.gl_draws.specs.Refusals.{RefusalHolds, RefusalsHold}
@@ -48,7 +48,7 @@ use Rattle.gl_rule.specs.Owed.{OwedOne, repeats_of}
 use Rattle.gl_rule.proofs.Owing.{owed_moves, owed_others, next_unrepeated, repeats_kept, calm_write, calm_any, write_past}
 use Rattle.gl_rule.specs.Machine.{ShelfCarries}
 use Rattle.gl_rule.proofs.Refusing.{carries_push}
-use Rattle.gl_rule.specs.Fitting.{MayDraw, MayMark, MayOpen, IsNotOver}
+use Rattle.gl_rule.specs.Fitting.{MayDraw, MayMark, MayOpen, HasPlace, IsNotOver}
 use Rattle.gl_rule.specs.Rule.{Fits, Rule}
 use Rattle.gl_rule.specs.Told.{Marked, Opened, IsAboveDrawn, what_of}
 use Rattle.gl_rule.proofs.Each.{each_set}
@@ -361,6 +361,10 @@ marks_plain key slots id v c s h x taken p q write value raised one may =
       right = mark_right key w b id v s h x taken p q write value raised may (w.draws x) w.log f.tails f.facts f.stands f.verdicts;
     })
 
+place_few : (look : Option ℤ) (x : ℕ) (drawn : List Drawn) → HasPlace look x drawn → count_on x drawn ≤ 1
+place_few (Some value) x drawn h = omega arith
+place_few None x drawn h = h
+
 -- a look's number, or one for the end of an attempt
 pub marks_open : (key : Key) (slots id : ℕ) (v : View) (c : List (ℕ × Slot)) (s : Shelf) (h : Held) (x : ℕ) (taken : Row) (p : ℕ) (look : Option ℤ) → v.shelves ≡ s ∷ [] → MayOpen s v h x taken p look
     → table.Allows (Rule key) slots id (v, c) (3 * h.object) (λ n. (n + 1) % 2 ^ 64) (Opened s h x p look v c)
@@ -370,7 +374,7 @@ marks_open key slots id v c s h x taken p look one may =
     record {
       thread = refl;
       fits = f.facts.shelf;
-      numbers = numbers_open w.draws v.drawn s x p (what_of look) look (still look) f.draws may.room may.draws.block may.draws.goes_on;
+      numbers = numbers_open w.draws v.drawn s x p (what_of look) look (still look) f.draws (place_few look x v.drawn may.room) may.draws.block may.draws.goes_on;
       below = only_shelf (AreBelow v.seen) v s one f.facts.knowledge.own;
       lows = f.lows;
       refusals = f.refusals;

@@ -1,13 +1,13 @@
 -- What passes read of the turns and of the stop word, as steps are made.
-use Rattle.std.proofs.Common.{◌≡◌, ◌≢◌, ℕ, zero, suc, ◌<◌, ◌≤◌, List, [], ◌∷◌, ◌++◌, length, refl, sym, ap, subst, arith, ◌∙◌, inl, inr, length-append, ◌⊎◌}
+use Rattle.std.proofs.Common.{◌≡◌, ◌≢◌, ℕ, zero, suc, ◌≤◌, List, [], ◌∷◌, ◌++◌, length, refl, sym, ap, subst, arith, ◌∙◌, inl, inr, length-append, ◌⊎◌}
 use Rattle.std.specs.Prelude.{Contains}
 use Rattle.std.specs.List.{All}
-use Rattle.std.proofs.lemmas.List.Elements.{All-nil, All-cons, All-head, All-tail, All-push, All-append, All-contains}
+use Rattle.std.proofs.lemmas.List.Elements.{All-nil, All-cons, All-head, All-tail, All-push, All-append}
 use native.Mathlib.Decide.{ℕ_discrete}
 use Rattle.gl_model.specs.Machine.{with_at}
 use Rattle.gl_draws.proofs.DrawTies.{with_here, with_else}
 use Rattle.gl_rule.specs.declared.slot.Slot.{Slot}
-use Rattle.gl_rule.specs.Objects.{Board, objects}
+use Rattle.gl_rule.specs.Objects.{Board}
 use Rattle.gl_rule.specs.View.{View, Shelf, Read, Busy, Taken, Hold, Stop, SetStop}
 use Rattle.gl_rule.specs.Tries.{TryFits, TellsTaken, TriesFit, TriesHold}
 use Rattle.gl_rule.proofs.Words.{SameTurns}
