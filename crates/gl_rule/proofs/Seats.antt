@@ -177,8 +177,8 @@ quiet_both now false true f g e = g refl
 quiet_both now false false f g e = absurd (cc)
 
 -- a seat takes in another's shelves
-pub joins : (key : Key) (id other : ℕ) (v u : View) (r r' : Shelf) → Contains v.shelves r → Contains u.shelves r' → u.held ≡ [] → v.held ≡ [] → u.drawn ≡ [] → v.drawn ≡ [] → v.stored ≡ [] → u.owed ≡ [] → v.owed ≡ [] → table.Joins (Rule key) id v other u (both v u) (blank [])
-joins key id other v u r r' has also free idle none empty bare paid clear s rule at apart there =
+pub joins : (key : Key) (id other : ℕ) (v u : View) (r : Shelf) → (v.shelves ≡ [] → v.reads ≡ []) → Contains u.shelves r → u.held ≡ [] → v.held ≡ [] → u.drawn ≡ [] → v.drawn ≡ [] → v.stored ≡ [] → u.owed ≡ [] → v.owed ≡ [] → table.Joins (Rule key) id v other u (both v u) (blank [])
+joins key id other v u r unread has free idle none empty bare paid clear s rule at apart there =
     let w = rule.0 in
     let H = rule.1 in
     let b = board (capacity key) s.words in
@@ -196,7 +196,7 @@ joins key id other v u r r' has also free idle none empty bare paid clear s rule
     let q = theirs.knowledge.seen in
     let apart' : id ≢ other = λ e. apart (sym e) in
     let own : Fits key b w' id (both v u) = record {
-      tries = tries_both w.stopped w.takers v u r r' has also mine.tries theirs.tries;
+      tries = tries_both w.stopped w.takers v u r unread has mine.tries theirs.tries;
       turns = record { held = subst (λ l. All (HeldOne b.turn w.holder id (v.shelves ++ u.shelves)) l) (sym idle) (All-nil (HeldOne b.turn w.holder id (v.shelves ++ u.shelves))) };
       positions = record {
         shelves = All-append (S' id) v.shelves u.shelves (all_map (S id) (S' id) v.shelves (λ r p. shelf_joined w.log w.seat other id id r apart' p) mine.positions.shelves)

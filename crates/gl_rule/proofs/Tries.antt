@@ -80,15 +80,20 @@ tries_grow stopped stopped' takers takers' shelves reads up few more none f = re
   others = f.others;
 }
 
--- two seats' lists are put together, and what they read
-pub tries_both : (stopped : ℕ) (takers : ℕ → List ℕ) (v u : View) (r s : Shelf) → Contains v.shelves r → Contains u.shelves s → TriesFit stopped takers v.shelves v.reads → TriesFit stopped takers u.shelves u.reads
+-- two seats' lists are put together, and what they read: where the first has no list, it read nothing
+others_both : (xs ys : List Shelf) (before reads : List Read) (s : Shelf) → Contains ys s → (xs ≡ [] → before ≡ []) → ((a : Shelf) (k by : ℕ) → ys ≡ a ∷ [] → Contains reads (Busy k by) → by ≢ a.thread)
+    → (a : Shelf) (k by : ℕ) → xs ++ ys ≡ a ∷ [] → Contains (before ++ reads) (Busy k by) → by ≢ a.thread
+others_both [] ys before reads s has none g a k by one c = g a k by one (subst (λ l. Contains (l ++ reads) (Busy k by)) (none refl) c)
+others_both (x ∷ xs) ys before reads s has none g a k by one c = absurd (let l = length-append xs ys in let n : suc (length (xs ++ ys)) ≡ 1 = ap length one in let q = has.1 in omega arith)
+
+pub tries_both : (stopped : ℕ) (takers : ℕ → List ℕ) (v u : View) (s : Shelf) → (v.shelves ≡ [] → v.reads ≡ []) → Contains u.shelves s → TriesFit stopped takers v.shelves v.reads → TriesFit stopped takers u.shelves u.reads
     → TriesFit stopped takers (v.shelves ++ u.shelves) (v.reads ++ u.reads)
-tries_both stopped takers v u r s has also f g = record {
+tries_both stopped takers v u s none has f g = record {
   each = All-append (TryFits stopped takers) v.reads u.reads f.each g.each;
   taken = All-append (TellsTaken takers (v.reads ++ u.reads)) v.shelves u.shelves
       (all_map (TellsTaken takers v.reads) (TellsTaken takers (v.reads ++ u.reads)) v.shelves (λ a q k c. let y = q k c in (y.0, in_front v.reads u.reads (Taken k y.0) y.1)) f.taken)
       (all_map (TellsTaken takers u.reads) (TellsTaken takers (v.reads ++ u.reads)) u.shelves (λ a q k c. let y = q k c in (y.0, in_back v.reads u.reads (Taken k y.0) y.1)) g.taken);
-  others = λ a k by one c. absurd (let l = length-append v.shelves u.shelves in let n : length (v.shelves ++ u.shelves) ≡ 1 = ap length one in let p = has.1 in let q = also.1 in omega arith);
+  others = others_both v.shelves u.shelves v.reads u.reads s has none g.others;
 }
 
 -- thread t takes the turn of object k

@@ -16,7 +16,7 @@ use Rattle.gl_rule.specs.declared.slot.Slot.TheVariants as slot
 use Rattle.gl_rule.specs.Fitting.{MayPut, Stays}
 use Rattle.gl_rule.specs.Values.{with_draw}
 use Rattle.gl_rule.specs.View.{View, Held, Shelf, new_held, without, with_tail, took, left}
-use Rattle.gl_table.specs.Putting.{MayPutBack, held_at}
+use Rattle.gl_table.specs.Putting.{MayPutBack, held_at, DoesNotHold}
 use Rattle.gl_txn.specs.declared.taken.TakenRow.{TakenRow}
 use Rattle.gl_txn.specs.Holding.{vars_of, found, row_at, row_held, held_by, held_of, AreHeld, AreUnused, undrawn}
 use Rattle.gl_txn.proofs.Finding.{found_here, found_past, found_held, found_at, found_mapped, changed, found_gone, found_still, once_more, once_mapped, once_without, none_held}
@@ -184,3 +184,13 @@ taken_unused held rows a = record { tails = []; drew = undrawn; holds = a; unuse
 
 pub last_near : (held : List Held) (rows : List TakenRow) (r : TakenRow) → AreUnused held (rows ++ r ∷ []) → r.var < VARIABLES
 last_near held rows r u = (front_are (vars_of rows) r.var (subst AreVariables (vars_pushed rows r) u.holds.are)).1
+
+-- a variable behind those of the rows is not held, nor is the list where it is none of what is held
+pub lacks_next : (held : List Held) (rows : List TakenRow) (y : ℕ) → AreHeld held None rows [] undrawn → AreVariables (vars_of rows ++ y ∷ []) → DoesNotHold held (suc y)
+lacks_next held rows y a are h c e =
+    let z : None ≡ Some h = sym (a.at (suc y) ∙ ap (held_by [] undrawn) (row_absent rows y (last_once (vars_of rows) y are.1))) ∙ ap (λ k. found k held) (sym e) ∙ a.once h c in
+    absurd (cc)
+
+pub lacks_list : (held : List Held) (rows : List TakenRow) (tails : List ℕ) (drew : ℕ → Option Draw) → AreHeld held None rows tails drew → DoesNotHold held 0
+lacks_list held rows tails drew a h c e = let z : None ≡ Some h = sym (a.at 0) ∙ ap (λ k. found k held) (sym e) ∙ a.once h c in absurd (cc)
+

@@ -32,7 +32,7 @@ pub row_there : (x : ℕ) (y : Rattle.gl_rule.specs.declared.slot.Slot.Slot) (he
 row_there x y held = found_at (x + 1) (new_held (suc x) y ∷ held) (new_held (suc x) y) (found_here (new_held (suc x) y) held (x + 1) (sym (add-one x)))
 
 -- it may be marked for a look with its word
-pub may_look : (p : PassView) (x : ℕ) (row : Row) (value : ℤ) → value ≡ row.value → p.own.held ≡ [] → p.own.owed ≡ [] → counted p.own.mine < 2 ^ 50 → life_of p.own.mine ≡ Running → count_on x p.own.drawn ≤ 1
+pub may_look : (p : PassView) (x : ℕ) (row : Row) (value : ℤ) → value ≡ row.value → p.own.held ≡ [] → p.own.owed ≡ [] → counted p.own.mine < 2 ^ 50 → life_of p.own.mine ≡ Running → count_on x p.own.drawn ≡ 0
     → (q : PassView) → q ≡ with_row p x row → MayOpenOn q x (Some value)
 may_look p x row value word held owed few runs room q is = subst (λ (q : PassView). MayOpenOn q x (Some value)) (sym is) (record {
   taken = row;

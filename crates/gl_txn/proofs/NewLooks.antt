@@ -99,3 +99,7 @@ pub has_looked : (x : ℕ) (l : Look) (a : Attempting) (p q : PassView) → writ
 has_looked x l a p q no_write no_look at =
     subst (λ (w : Option Pair). LooksBy w (looked a x) x l.value p q) (sym no_write) (subst (λ (k : Option Look). LooksBy None k x l.value p q) (sym no_look)
     (at.0, at.2, at.3 ∙ ap (λ (o : Own). record p { own = o; reads = p.reads ++ Rattle.gl_rule.specs.View.Taken (suc x) (Rattle.gl_rule.specs.declared.slot.Slot.TheVariants.Row at.0) ∷ [] }) (sym (ap (λ (r : PassView). r.own) at.3))))
+
+-- no number waits on a variable that the attempt did not look at
+pub none_waits : (a : Attempting) (o : Own) → Draws a o → (x : ℕ) → looked a x ≡ None → count_on x o.drawn ≡ 0
+none_waits a o d x out = count_none x o.drawn (λ q c. none_on a o d (record { var = x; value = Rattle.std.specs.Prelude.pos 0; nth = 0 }) out q c)

@@ -121,24 +121,3 @@ may_store_commit t es n tx runs form = record {
   cached = λ x k write v e. absurd (cc);
   repeats = λ x k v e. absurd (cc);
 }
-
--- the only look of a variable is found
-pub look_found : (looks : List Look) → Rises (map (λ l. l.var) looks) → (l : Look) → Contains looks l → look_in looks l.var ≡ Some l
-look_found [] r l c = absurd (let n = c.1 in omega arith)
-look_found (k ∷ ls) r l (zero, n, e) = let b : (k.var == l.var) ≡ true = eq-eqb k.var l.var (ap (λ (z : Look). z.var) e) in rw b (ap (λ (z : Look). Some z) e)
-look_found (k ∷ ls) r l (suc i, n, e) =
-    let far = above_in k.var (map (λ l. l.var) ls) l.var r.0 (among ls (i, omega arith, e)) in
-    let b : (k.var == l.var) ≡ false = ne_eqb k.var l.var (λ z. absurd (omega arith)) in
-    rw b (look_found ls r.1 l (i, omega arith, e))
-  where
-    among : (xs : List Look) → Contains xs l → Contains (map (λ l. l.var) xs) l.var
-    among [] c = absurd (let n = c.1 in omega arith)
-    among (x ∷ xs) (zero, n, e) = (0, omega arith, ap (λ (z : Look). z.var) e)
-    among (x ∷ xs) (suc k, n, e) = let f = among xs (k, omega arith, e) in (suc f.0, (let n = f.1 in omega arith), f.2)
-
-pub place_at : (xs : List TakenRow) (y : ℕ) (r : TakenRow) → row_at xs y ≡ Some r → (k : ℕ) × (slice_get xs k ≡ Some r)
-place_at [] y r e = absurd (cc)
-place_at (u ∷ xs) y r e = elim (ℕ_discrete u.var y) [
-  | yes same ↦ (0, sym (row_here u xs y same) ∙ e)
-  | no other ↦ (let f = place_at xs y r (sym (row_past u xs y other) ∙ e) in (suc f.0, f.1))
-]

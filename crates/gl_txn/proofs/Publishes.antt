@@ -1,4 +1,5 @@
 -- What is asked of the commit that is published, and what stands after it.
+use Rattle.gl_txn.proofs.Changes.{look_found}
 use Rattle.std.proofs.Common.{◌≡◌, ◌≢◌, ℕ, zero, suc, ◌+◌, ◌-◌, ◌*◌, ◌<◌, ◌≤◌, ◌==◌, ◌^◌, List, [], ◌∷◌, ◌++◌, length, map, true, false, Bool, refl, sym, ap, ◌∙◌, subst, arith, Some, None, inl, inr, eq-eqb, ne_eqb, add-one}
 use Rattle.std.specs.Prelude.{Contains, Option, ◌↔◌, ◌⊎◌, ◌||◌, ℤ, pos, if◌then◌else◌, slice_get}
 use Rattle.gl_model.specs.declared.event.Stamp.{Stamp}
@@ -52,7 +53,7 @@ use Rattle.gl_txn.proofs.EndFacts.{row_one, each_one, looks_one, owns_one, once_
 use Rattle.gl_txn.proofs.Finding.{found_held}
 use Rattle.gl_txn.proofs.Holdings.{row_among}
 use Rattle.gl_txn.proofs.LookSteps.{block_is, or_no}
-use Rattle.gl_txn.proofs.Published.{held_reached, held_published, may_store_commit, look_found, place_at}
+use Rattle.gl_txn.proofs.Published.{held_reached, held_published, may_store_commit, place_at}
 use Rattle.gl_txn.proofs.Refusals.{row_of, row_is}
 
 taken_after : (n : ℕ) (y : Slot) (drew : Held → Option Draw) (h : Held) → h.object ≡ 0 → (after_publish n y drew h).taken ≡ y
@@ -228,3 +229,4 @@ module _ (setting : Setting) (q r : PassView) (l : ListView) (t : Held) (object 
         back ∙ ap (λ (s : PassView). record s { own = record s.own { held = [] } }) whole
         ∙ ap (λ (q : PassView). record (after (published_tx q tx n l) (left (view_of (published_tx q tx n l)) 0 false)) { own = record (after (published_tx q tx n l) (left (view_of (published_tx q tx n l)) 0 false)).own { held = [] } }) drawn
         ∙ ap (λ b. record (with_entry p (Commit n tx)) { seen = suc n; known = p.known ++ (n, commit_stamp p.own.id tx) ∷ []; stored = []; quiet = b }) (or_no p.quiet)
+

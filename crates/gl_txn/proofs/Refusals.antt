@@ -1,4 +1,6 @@
 -- An attempt that is dropped since its commit would complete a race.
+use Rattle.gl_txn.specs.Changing.{look_in}
+use Rattle.gl_txn.proofs.Changes.{look_found}
 use Rattle.std.proofs.Common.{◌≡◌, ◌≢◌, ℕ, zero, suc, ◌+◌, ◌<◌, ◌≤◌, ◌==◌, List, [], ◌∷◌, ◌++◌, length, map, true, false, Bool, refl, sym, ap, ◌∙◌, subst, arith, Some, None, inl, inr}
 use Rattle.std.specs.Prelude.{Contains, Option, ◌↔◌, ℤ, slice_get}
 use Rattle.std.proofs.lemmas.Bool.{cases_lt}
@@ -124,6 +126,12 @@ module _ (tx : Tx) (p q : PassView) (rows : List TakenRow) (x : ℕ) (numbers : 
       saw = λ y b. (0, omega arith, refl);
       asks = λ y. (refl, refl, (λ b. is_in-contains y (map (λ w. w.var) tx.writes) b, λ c. contains-is_in y (map (λ w. w.var) tx.writes) c));
       touches = subst (λ ys. is_in x ys ≡ true) races.of (contains-is_in x (vars_of rows) (subst (λ k. Contains (vars_of rows) k) (sym races.var) (in_vars rows races.place races.row races.there)));
+      words = λ y b value nth c.
+          (let r = (in_rows y b).0 in
+          let at = (row_among rows y r (in_rows y b).1).1 in
+          let k = place_of rows y r (in_rows y b).1 in
+          let f = look_found tx.looks races.looks.1 (record { var = y; value = value; nth = nth }) c in
+          sym (races.unchanged k.0 r k.1 (record { var = y; value = value; nth = nth }) (ap (look_in tx.looks) at ∙ f)));
       judged = λ l fits stand b. subst (λ (u : TakenRow). SomeFails l u.row (asked_of p.own.id tx x)) (sym (row_x b)) (races.races setting l fits (stand_all setting l stand));
       least = λ l fits stand y b less fails.
           (let r = (in_rows y b).0 in
@@ -136,3 +144,4 @@ module _ (tx : Tx) (p q : PassView) (rows : List TakenRow) (x : ℕ) (numbers : 
     where
       names : Rattle.gl_model.specs.Form.NumbersName (record { looks = tx.looks; writes = tx.writes; numbers = numbers }) (variables_of tx)
       names = names_one (attempt_in tx) tx.writes p q.own.held None rows (p.seen ∷ []) numbers (variables_of tx) draws are rises held drawn.above in_rows runs
+

@@ -55,7 +55,7 @@ pub record ReachedDone (z : TableView) (at : ℕ) (p q : PassView) : Type 0 wher
   pub tail : ℕ
   pub reads : q.reads ≡ p.reads ++ (Taken 0 (slot.List list) ∷ Hold 0 low ∷ [])
   pub later : p.seen ≤ tail
-  pub behind : tail ≤ at
+  pub here : at ≡ tail
   pub room : HasRoomAt z low tail
   pub seen : q.seen ≡ suc at
   pub more : List (ℕ × Stamp)
