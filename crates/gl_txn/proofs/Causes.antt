@@ -1,11 +1,9 @@
 -- Why an attempt ended as it did, or waits, from the list back to its rows.
-use Rattle.std.proofs.Common.{◌≡◌, ◌≢◌, ℕ, zero, suc, ◌+◌, ◌-◌, ◌<◌, ◌≤◌, List, [], ◌∷◌, ◌++◌, length, map, true, false, Bool, refl, sym, ap, ◌∙◌, subst, arith, Some, None, inl, inr, append_assoc, append-nil}
-use Rattle.std.specs.Prelude.{Contains, Option, ◌⊎◌, slice_get}
-use Rattle.gl_model.specs.declared.event.Stamp.{Stamp}
+use Rattle.std.proofs.Common.{◌≡◌, ℕ, suc, [], ◌∷◌, ◌++◌, ap, ◌∙◌, append_assoc}
 use Rattle.gl_model.specs.declared.tx.Tx.{Tx}
 use Rattle.gl_model.specs.Entries.{Commit}
 use Rattle.gl_rule.specs.declared.slot.Slot.TheVariants as slot
-use Rattle.gl_rule.specs.View.{Read, Busy, Taken, Hold}
+use Rattle.gl_rule.specs.View.{Taken, Hold}
 use Rattle.gl_state.specs.ListView.{ListView}
 use Rattle.gl_table.specs.Committing.{commit_stamp}
 use Rattle.gl_table.specs.PassView.{PassView}

@@ -1,12 +1,14 @@
 -- The first row whose word was changed.
 use Rattle.gl_model.specs.Rising.{Rises}
-use Rattle.gl_txn.proofs.Holdings.{above_in}
-use Rattle.std.proofs.Common.{◌≡◌, ◌≢◌, ℕ, zero, suc, ◌+◌, ◌<◌, ◌≤◌, List, [], ◌∷◌, length, get_or, true, false, Bool, refl, sym, ap, ◌∙◌, subst, arith, Some, None, inl, inr, map, ◌==◌, eq-eqb, ne_eqb}
+use Rattle.gl_txn.proofs.Holdings.{above_in, row_here, row_past}
+use Rattle.gl_txn.specs.Holding.{row_at}
+use native.Mathlib.Decide.{ℕ_discrete}
+use Rattle.std.proofs.Common.{◌≡◌, ℕ, zero, suc, ◌+◌, ◌<◌, ◌≤◌, List, [], ◌∷◌, length, get_or, true, false, sym, ap, ◌∙◌, subst, arith, Some, None, inl, inr, map, ◌==◌, eq-eqb, ne_eqb}
 use Rattle.std.specs.Prelude.{Contains, Option, is_some, slice_get, MatchOption}
 use Rattle.std.proofs.lemmas.Bool.{cases_lt}
 use Rattle.std.proofs.lemmas.Option.{slice_get_within}
 use Rattle.gl_model.specs.declared.tx.Look.{Look}
-use Rattle.gl_txn.specs.Changing.{IsUnchanged, IsChange, IsChangeOf, AreUnchangedIn, AreUnchangedBefore, IsFirstChange, look_in}
+use Rattle.gl_txn.specs.Changing.{IsUnchanged, IsChangeOf, AreUnchangedIn, AreUnchangedBefore, IsFirstChange, look_in}
 use Rattle.gl_txn.specs.declared.changing.Change.{Change}
 use Rattle.gl_txn.specs.declared.taken.TakenRow.{TakenRow}
 
@@ -49,6 +51,7 @@ look_found (k ∷ ls) r l (suc i, n, e) =
     among (x ∷ xs) (zero, n, e) = (0, omega arith, ap (λ (z : Look). z.var) e)
     among (x ∷ xs) (suc k, n, e) = let f = among xs (k, omega arith, e) in (suc f.0, (let n = f.1 in omega arith), f.2)
 
+-- the row of a variable stands at some place
 pub place_at : (xs : List TakenRow) (y : ℕ) (r : TakenRow) → row_at xs y ≡ Some r → (k : ℕ) × (slice_get xs k ≡ Some r)
 place_at [] y r e = absurd (cc)
 place_at (u ∷ xs) y r e = elim (ℕ_discrete u.var y) [

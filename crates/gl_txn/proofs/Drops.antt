@@ -3,31 +3,28 @@ use Rattle.gl_model.specs.Kept.{AreVariables}
 use Rattle.gl_model.specs.Rising.{with_all}
 use Rattle.gl_txn.proofs.Finding.{found_held}
 use Rattle.gl_txn.proofs.Holdings.{row_among}
-use Rattle.gl_txn.proofs.Published.{place_at}
 use Rattle.gl_txn.proofs.Refusals.{row_of, lower_before}
-use Rattle.gl_txn.proofs.Changes.{look_found}
-use Rattle.std.proofs.Common.{◌≡◌, ◌≢◌, ℕ, zero, suc, ◌+◌, ◌-◌, ◌<◌, ◌≤◌, ◌==◌, ◌^◌, List, [], ◌∷◌, ◌++◌, length, map, true, false, Bool, refl, sym, ap, ◌∙◌, subst, arith, Some, None, inl, inr, eq-eqb, ne_eqb}
-use Rattle.std.specs.Prelude.{Contains, Option, ℤ, if◌then◌else◌, slice_get}
+use Rattle.gl_txn.proofs.Changes.{look_found, place_at}
+use Rattle.std.proofs.Common.{◌≡◌, ℕ, zero, suc, ◌<◌, ◌==◌, List, [], ◌∷◌, ◌++◌, map, true, false, refl, sym, ap, ◌∙◌, subst, arith, Some, None, ne_eqb}
+use Rattle.std.specs.Prelude.{Contains, ℤ}
 use native.Mathlib.Decide.{ℕ_discrete}
 use Rattle.gl_model.specs.declared.tx.Look.{Look}
 use Rattle.gl_model.specs.declared.tx.Number.{Number}
 use Rattle.gl_model.specs.declared.tx.Pair.{Pair}
 use Rattle.gl_model.specs.declared.tx.Tx.{Tx}
 use Rattle.gl_model.specs.declared.tx.Why.TheVariants.{Changed, Raised}
-use Rattle.gl_model.specs.Entries.{Entry, Abort}
+use Rattle.gl_model.specs.Entries.{Abort}
 use Rattle.gl_model.specs.Trace.{is_in}
-use Rattle.gl_draws.specs.Draws.{Draw, draw, Looked, Entered}
-use Rattle.gl_draws.specs.Ties.{counted}
-use Rattle.gl_draws.proofs.EntryKinds.{is_in-contains, contains-is_in}
-use Rattle.gl_rule.specs.Commits.{MayChange, with_drew, IsUnchanged}
-use Rattle.gl_rule.specs.Lives.{Running, life_of}
+use Rattle.gl_draws.specs.Draws.{draw, Looked, Entered}
+use Rattle.gl_draws.proofs.EntryKinds.{contains-is_in}
+use Rattle.gl_rule.specs.Commits.{with_drew, IsUnchanged}
 use Rattle.gl_rule.specs.Told.{IsAboveDrawn}
 use Rattle.gl_rule.specs.View.{Held}
 use Rattle.gl_table.specs.CaughtUp.{block_of}
-use Rattle.gl_table.specs.PassView.{PassView, view_of, shelf_of, after_adding}
+use Rattle.gl_table.specs.PassView.{PassView, view_of, after_adding}
 use Rattle.gl_table.specs.Putting.{MayAbort, opened}
 use Rattle.gl_txn.specs.Attempts.{Attempting}
-use Rattle.gl_txn.specs.Changing.{IsChange, IsFirstChange, look_in}
+use Rattle.gl_txn.specs.Changing.{IsFirstChange, look_in}
 use Rattle.gl_txn.specs.Drawing.{end_of, numbered, drew_on, MayNumber, HasDrawn, with_entry}
 use Rattle.gl_txn.specs.Holding.{vars_of, row_at, AreHeld, AreUnused, undrawn, row_held, held_by}
 use Rattle.gl_txn.specs.Trying.{Draws}

@@ -1,9 +1,9 @@
 -- What is held after each thing that an attempt's end does.
-use Rattle.std.proofs.Common.{◌≡◌, ◌≢◌, ℕ, zero, suc, ◌+◌, ◌<◌, ◌≤◌, ◌==◌, List, [], ◌∷◌, ◌++◌, length, map, true, false, Bool, refl, sym, ap, ◌∙◌, subst, arith, Some, None, inl, inr, eq-eqb, ne_eqb}
-use Rattle.std.specs.Prelude.{Contains, Option, ◌⊎◌, if◌then◌else◌}
+use Rattle.std.proofs.Common.{◌≡◌, ◌≢◌, ℕ, zero, suc, ◌<◌, ◌==◌, List, [], ◌∷◌, ◌++◌, length, true, false, refl, sym, ap, ◌∙◌, subst, arith, Some, None, inr, eq-eqb, ne_eqb}
+use Rattle.std.specs.Prelude.{Contains, Option}
 use Rattle.std.specs.List.{AllByRecursion}
 use native.Mathlib.Decide.{ℕ_discrete}
-use Rattle.gl_model.specs.declared.limits.TheConstants.{VARIABLES, TX_VARIABLES}
+use Rattle.gl_model.specs.declared.limits.TheConstants.{VARIABLES}
 use Rattle.gl_model.specs.declared.row.Row.{Row}
 use Rattle.gl_model.specs.Kept.{AreVariables}
 use Rattle.gl_model.specs.Machine.{Setting}
@@ -11,15 +11,13 @@ use Rattle.gl_model.specs.Rising.{Rises}
 use Rattle.gl_draws.specs.Draws.{Draw, is_write, is_read}
 use Rattle.gl_draws.specs.RowFacts.{RowStands}
 use Rattle.gl_draws.proofs.RowGrowth.{row_stays}
-use Rattle.gl_rule.specs.declared.slot.Slot.{Slot}
 use Rattle.gl_rule.specs.declared.slot.Slot.TheVariants as slot
-use Rattle.gl_rule.specs.Fitting.{MayPut, Stays}
 use Rattle.gl_rule.specs.Values.{with_draw}
-use Rattle.gl_rule.specs.View.{View, Held, Shelf, new_held, without, with_tail, took, left}
-use Rattle.gl_table.specs.Putting.{MayPutBack, held_at, DoesNotHold}
+use Rattle.gl_rule.specs.View.{View, Held, Shelf, new_held, without}
+use Rattle.gl_table.specs.Putting.{MayPutBack, DoesNotHold}
 use Rattle.gl_txn.specs.declared.taken.TakenRow.{TakenRow}
 use Rattle.gl_txn.specs.Holding.{vars_of, found, row_at, row_held, held_by, held_of, AreHeld, AreUnused, undrawn}
-use Rattle.gl_txn.proofs.Finding.{found_here, found_past, found_held, found_at, found_mapped, changed, found_gone, found_still, once_more, once_mapped, once_without, none_held}
+use Rattle.gl_txn.proofs.Finding.{found_here, found_past, found_held, found_gone, found_still, once_more, once_without, none_held}
 
 -- the row of a variable among others
 pub row_here : (r : TakenRow) (rs : List TakenRow) (y : ℕ) → r.var ≡ y → row_at (r ∷ rs) y ≡ Some r

@@ -1,23 +1,22 @@
 -- A look, from taking the row to putting it back.
-use Rattle.std.proofs.Common.{◌≡◌, ◌≢◌, ℕ, zero, suc, ◌+◌, ◌<◌, ◌≤◌, ◌==◌, List, [], ◌∷◌, ◌++◌, true, false, Bool, refl, sym, ap, ◌∙◌, subst, arith, Some, None, inl, inr, add-one, ne_eqb}
-use Rattle.std.specs.Prelude.{Contains, Option, ◌⊎◌, ◌↔◌, ◌||◌, ℤ, ◌^◌, if◌then◌else◌}
+use Rattle.std.proofs.Common.{◌≡◌, ℕ, suc, ◌+◌, ◌<◌, ◌==◌, List, [], ◌∷◌, ◌++◌, true, false, Bool, refl, sym, ap, ◌∙◌, subst, arith, Some, inr, add-one, ne_eqb}
+use Rattle.std.specs.Prelude.{Contains, Option, ◌||◌, ℤ, ◌^◌, if◌then◌else◌}
 use Rattle.gl_model.specs.declared.row.Row.{Row}
 use Rattle.gl_model.specs.Machine.{Setting}
 use Rattle.gl_model.specs.Entries.{Entry}
-use Rattle.gl_draws.specs.Draws.{Draw, draw, Looked}
+use Rattle.gl_draws.specs.Draws.{draw, Looked}
 use Rattle.gl_draws.specs.Ties.{Drawn, counted, last_position}
 use Rattle.gl_rule.specs.declared.slot.Slot.TheVariants as slot
-use Rattle.gl_rule.specs.Fitting.{MayDraw, MayOpen, MayPut}
+use Rattle.gl_rule.specs.Fitting.{MayOpen}
 use Rattle.gl_rule.specs.Lives.{Running, life_of}
 use Rattle.gl_rule.specs.Numbers.{count_on}
-use Rattle.gl_rule.specs.Told.{what_of}
-use Rattle.gl_rule.specs.View.{View, Held, Shelf, new_held, without, took, marked, left, Taken}
+use Rattle.gl_rule.specs.View.{Held, new_held, without, left, Taken}
 use Rattle.gl_rule.proofs.Lasting.{no_end, has_block}
 use Rattle.gl_table.specs.CaughtUp.{block_of, or_zero}
 use Rattle.gl_table.specs.PassView.{PassView, view_of, shelf_of, after}
 use Rattle.gl_table.specs.Putting.{MayOpenOn, MayPutBack, held_at, opened}
 use Rattle.gl_table.proofs.Doing.{with_row}
-use Rattle.gl_txn.proofs.Finding.{found_here, found_at, found_gone, without_here}
+use Rattle.gl_txn.proofs.Finding.{found_here, found_at, without_here}
 
 -- the block of a thread that runs
 pub block_is : (es : List Entry) → life_of es ≡ Running → last_position es ≡ Some (block_of es)

@@ -1,5 +1,5 @@
 -- What a look makes of the attempt.
-use Rattle.std.proofs.Common.{◌≡◌, ◌≢◌, ℕ, zero, suc, ◌+◌, ◌<◌, ◌≤◌, ◌==◌, List, [], ◌∷◌, ◌++◌, map, true, false, Bool, refl, sym, ap, ◌∙◌, subst, arith, Some, None, inl, inr, eq-eqb, ne_eqb}
+use Rattle.std.proofs.Common.{◌≡◌, ◌≢◌, ℕ, zero, suc, ◌+◌, ◌<◌, ◌==◌, List, [], ◌∷◌, ◌++◌, map, true, false, Bool, refl, sym, ap, ◌∙◌, subst, arith, Some, None, inl, inr, eq-eqb, ne_eqb}
 use Rattle.std.specs.Prelude.{Contains, Option, ◌⊎◌, ◌↔◌, ℤ, if◌then◌else◌}
 use Rattle.std.proofs.lemmas.List.Elements.{Contains-push_cases, Contains-append_left, Contains-append_right}
 use native.Mathlib.Decide.{ℕ_discrete}
@@ -10,11 +10,11 @@ use Rattle.gl_model.specs.Rising.{with_part}
 use Rattle.gl_draws.specs.Ties.{Drawn}
 use Rattle.gl_rule.specs.Numbers.{count_on}
 use Rattle.gl_table.specs.PassView.{Own, PassView}
-use Rattle.gl_txn.specs.Attempts.{Attempting, written, looked, is_in, size, with_look}
+use Rattle.gl_txn.specs.Attempts.{Attempting, written, looked, size, with_look}
 use Rattle.gl_txn.specs.Looked.{IsLookAt, drawn_of}
 use Rattle.gl_txn.specs.Reading.{IsRead, ReadBy, HasLooked, LooksBy}
 use Rattle.gl_txn.specs.Trying.{Draws}
-use Rattle.gl_txn.proofs.Sizes.{of_look, is_no_variable, neither}
+use Rattle.gl_txn.proofs.Sizes.{of_look}
 use Rattle.gl_txn.proofs.Unions.{with_new, with_first, with_old, not_found}
 
 -- no number on x waits where none is among them

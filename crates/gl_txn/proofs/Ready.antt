@@ -1,12 +1,11 @@
 -- From the rows that were taken to an end that is certain.
 use Rattle.gl_txn.proofs.Changes.{look_found}
-use Rattle.std.proofs.Common.{◌≡◌, ◌≢◌, ℕ, zero, suc, ◌+◌, ◌-◌, ◌<◌, ◌≤◌, List, [], ◌∷◌, ◌++◌, length, map, true, false, Bool, refl, sym, ap, ◌∙◌, subst, arith, Some, None, inl, inr}
+use Rattle.std.proofs.Common.{◌≡◌, ℕ, zero, suc, ◌-◌, ◌<◌, ◌≤◌, List, [], ◌∷◌, ◌++◌, map, refl, sym, ap, ◌∙◌, subst, arith, Some, None}
 use Rattle.std.specs.Prelude.{Contains, Option, ◌⊎◌, slice_get}
 use Rattle.gl_model.specs.declared.event.Stamp.{Stamp}
 use Rattle.gl_model.specs.declared.limits.TheConstants.{THREADS}
 use Rattle.gl_model.specs.declared.row.Question.{Question}
 use Rattle.gl_model.specs.declared.row.Row.{Row}
-use Rattle.gl_model.specs.declared.tx.Pair.{Pair}
 use Rattle.gl_model.specs.declared.tx.Tx.{Tx}
 use Rattle.gl_model.specs.Infos.{AreLeastOwned}
 use Rattle.gl_model.specs.Kept.{AreVariables}
@@ -16,11 +15,11 @@ use Rattle.gl_draws.specs.Events.{AreEvents}
 use Rattle.gl_draws.specs.RowFacts.{IsWithin, SomeFails}
 use Rattle.gl_rule.specs.declared.slot.Slot.TheVariants as slot
 use Rattle.gl_rule.specs.Knowledge.{AreBelow}
-use Rattle.gl_rule.specs.View.{View, Held, saw_tail, with_tail}
+use Rattle.gl_rule.specs.View.{Held, saw_tail, with_tail}
 use Rattle.gl_table.specs.PassView.{PassView, view_of, shelf_of, after}
 use Rattle.gl_table.specs.TableView.{TableView}
 use Rattle.gl_txn.specs.Changing.{AreUnchangedIn, IsFirstChange, look_in}
-use Rattle.gl_txn.specs.Drawing.{attempt_in, MayNumber, HasDropped, with_entry}
+use Rattle.gl_txn.specs.Drawing.{attempt_in, MayNumber, HasDropped}
 use Rattle.gl_txn.specs.Ending.{entry_of, AreUnchanged, OverEach, IsClear, IsCauseBy, IsWaitBy}
 use Rattle.gl_rule.specs.Fitting.{IsFitting}
 use Rattle.gl_rule.specs.View.{Read, Busy, Taken, Hold}
@@ -36,7 +35,7 @@ use Rattle.gl_txn.specs.declared.stops.TxWait.{TxWait}
 use Rattle.gl_txn.specs.declared.stops.TxWait.TheVariants as wait
 use Rattle.gl_txn.proofs.Sizes.{of_look}
 use Rattle.gl_txn.proofs.Unions.{found_part}
-use Rattle.gl_txn.specs.Holding.{vars_of, found, row_at, row_held, held_by, held_of, AreHeld, undrawn, HaveTaken, HaveWrites, takes}
+use Rattle.gl_txn.specs.Holding.{vars_of, found, row_at, row_held, held_by, held_of, AreHeld, undrawn, HaveTaken, HaveWrites}
 use Rattle.gl_txn.specs.Publishing.{IsReady}
 use Rattle.gl_txn.specs.Racing.{asked_on, asked_of, MayJudge, KnowsOn, Over, AreClear, IsFirstRace, RacesOn}
 use Rattle.gl_txn.specs.Stages.{HoldsRows, EndsAs, IsPutBack}

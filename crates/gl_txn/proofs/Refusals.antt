@@ -2,12 +2,9 @@
 use Rattle.gl_txn.specs.Changing.{look_in}
 use Rattle.gl_txn.proofs.Changes.{look_found}
 use Rattle.std.proofs.Common.{◌≡◌, ◌≢◌, ℕ, zero, suc, ◌+◌, ◌<◌, ◌≤◌, ◌==◌, List, [], ◌∷◌, ◌++◌, length, map, true, false, Bool, refl, sym, ap, ◌∙◌, subst, arith, Some, None, inl, inr}
-use Rattle.std.specs.Prelude.{Contains, Option, ◌↔◌, ℤ, slice_get}
-use Rattle.std.proofs.lemmas.Bool.{cases_lt}
-use Rattle.std.proofs.lemmas.Option.{slice_get_within}
+use Rattle.std.specs.Prelude.{Contains, slice_get}
 use native.Mathlib.Decide.{ℕ_discrete}
 use Rattle.gl_model.specs.declared.event.Stamp.{Stamp}
-use Rattle.gl_model.specs.declared.row.Row.{Row}
 use Rattle.gl_model.specs.declared.tx.Number.{Number}
 use Rattle.gl_model.specs.declared.tx.Tx.{Tx}
 use Rattle.gl_model.specs.declared.tx.Why.TheVariants.{Raised}
@@ -17,16 +14,14 @@ use Rattle.gl_model.specs.Rising.{Rises}
 use Rattle.gl_model.specs.Trace.{is_in}
 use Rattle.gl_draws.specs.RowFacts.{SomeFails}
 use Rattle.gl_draws.proofs.EntryKinds.{is_in-contains, contains-is_in}
-use Rattle.gl_rule.specs.Commits.{MayRefuse}
-use Rattle.gl_rule.specs.Fitting.{IsFitting, InfosStand}
+use Rattle.gl_rule.specs.Fitting.{InfosStand}
 use Rattle.gl_rule.specs.Lives.{Running, life_of}
-use Rattle.gl_rule.specs.View.{Held}
 use Rattle.gl_table.specs.CaughtUp.{block_of}
-use Rattle.gl_table.specs.PassView.{PassView, view_of, shelf_of}
+use Rattle.gl_table.specs.PassView.{PassView}
 use Rattle.gl_table.specs.Putting.{MayAbort}
 use Rattle.gl_txn.specs.Drawing.{attempt_in, numbered, drew_on, HasDrawn}
 use Rattle.gl_txn.specs.Holding.{vars_of, row_at, AreHeld}
-use Rattle.gl_txn.specs.Racing.{asked_of, Over, RacesOn}
+use Rattle.gl_txn.specs.Racing.{asked_of, RacesOn}
 use Rattle.gl_txn.specs.Trying.{Draws}
 use Rattle.gl_txn.specs.declared.taken.TakenRow.{TakenRow}
 use Rattle.gl_txn.proofs.EndFacts.{may_drop, names_one}

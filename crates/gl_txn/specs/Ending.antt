@@ -1,7 +1,6 @@
 -- How an attempt ends, and why; and why it has not ended yet.
-use Rattle.std.specs.Prelude.{◌≡◌, ◌≢◌, ◌⊎◌, ℕ, ℤ, zero, suc, ◌+◌, ◌*◌, ◌<◌, ◌≤◌, Bool, List, [], ◌∷◌, ◌++◌, map, Contains, Some}
+use Rattle.std.specs.Prelude.{◌≡◌, ◌≢◌, ◌⊎◌, ℕ, ℤ, suc, ◌+◌, ◌*◌, ◌<◌, ◌≤◌, Bool, List, [], ◌∷◌, ◌++◌, map, Contains, Some}
 use Rattle.gl_model.specs.declared.event.Stamp.{Stamp}
-use Rattle.gl_model.specs.declared.event.Event.TheVariants.{Commit as Commits}
 use Rattle.gl_model.specs.declared.limits.TheConstants.{THREADS}
 use Rattle.gl_model.specs.declared.row.Question.{Question}
 use Rattle.gl_model.specs.declared.tx.Look.{Look}
@@ -16,7 +15,7 @@ use Rattle.gl_rule.specs.Fitting.{IsFitting, InfosStand}
 use Rattle.gl_rule.specs.Objects.{capacity}
 use Rattle.gl_rule.specs.View.{Shelf, Read, Busy, Taken, Hold}
 use Rattle.gl_state.specs.ListView.{ListView}
-use Rattle.gl_table.specs.PassView.{Own, PassView, view_of, shelf_of}
+use Rattle.gl_table.specs.PassView.{Own, PassView, shelf_of}
 use Rattle.gl_table.specs.TableView.{TableView}
 use Rattle.gl_txn.specs.Attempts.{Attempting, variables_in, writes_at}
 use Rattle.gl_txn.specs.Holding.{takes, vars_of, WereBusy}

@@ -1,13 +1,11 @@
-use Rattle.std.proofs.Common.{◌≡◌, sym, ap, ◌∙◌, subst, refl, rules, FitsSigned, w64, List, [], ◌∷◌, None}
+use Rattle.std.proofs.Common.{◌≡◌, sym, ap, subst, refl, rules, FitsSigned, w64, [], ◌∷◌}
 use Rattle.std.proofs.lemmas.Int.{to_z-of_z}
-use Rattle.gl_model.specs.declared.tx.Number.{Number}
 use Rattle.gl_model.specs.declared.tx.Tx.{Tx}
 use Rattle.gl_model.specs.declared.tx.Why.TheVariants.{Changed}
 use Rattle.gl_model.specs.Entries.{Abort}
-use Rattle.gl_table.specs.PassView.{PassView, after_adding}
+use Rattle.gl_table.specs.PassView.{after_adding}
 use Rattle.gl_table.specs.Putting.{MayAbort}
-use Rattle.gl_txn.specs.Drawing.{attempt_in, HasDrawn, HasDropped}
-use Rattle.gl_txn.specs.Holding.{AreUnused}
+use Rattle.gl_txn.specs.Drawing.{attempt_in}
 use Rattle.gl_txn.proofs.Drops.{change_near, change_open, change_drawn, may_change, change_unused, change_stored, tx_is}
 use Rattle.gl_txn.proofs.dropping.drop_changed.Goals as goal
 

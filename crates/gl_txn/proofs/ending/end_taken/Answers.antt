@@ -1,8 +1,8 @@
-use Rattle.std.proofs.Common.{◌≡◌, sym, ap, ◌∙◌, subst, map, List}
+use Rattle.std.proofs.Common.{sym, subst, map, List}
 use Rattle.gl_model.specs.declared.tx.Tx.{Tx}
 use Rattle.gl_model.specs.declared.tx.Why.TheVariants.{Changed}
 use Rattle.gl_model.specs.Kept.{AreVariables}
-use Rattle.gl_table.specs.PassView.{PassView, shelf_of}
+use Rattle.gl_table.specs.PassView.{shelf_of}
 use Rattle.gl_txn.specs.Changing.{IsFirstChange}
 use Rattle.gl_txn.specs.Drawing.{attempt_in}
 use Rattle.gl_txn.specs.Ending.{IsCauseBy}

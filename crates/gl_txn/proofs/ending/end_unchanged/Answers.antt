@@ -1,8 +1,7 @@
-use Rattle.std.proofs.Common.{◌≡◌, sym, ap, ◌∙◌, subst, List, Some, false, map}
+use Rattle.std.proofs.Common.{sym, ap, ◌∙◌, subst, List, Some, false, map}
 use Rattle.gl_model.specs.declared.row.Question.{Question}
 use Rattle.gl_model.specs.declared.tx.Tx.{Tx}
 use Rattle.gl_model.specs.Kept.{AreVariables}
-use Rattle.gl_model.specs.Records.{variables_of}
 use Rattle.gl_table.specs.PassView.{PassView, shelf_of}
 use Rattle.gl_model.specs.declared.tx.Why.TheVariants.{Raised}
 use Rattle.gl_txn.specs.Drawing.{attempt_in}

@@ -4,7 +4,7 @@ use Rattle.std.proofs.lemmas.Int.{to_z-of_z}
 use Rattle.gl_model.specs.declared.row.Row.{Row}
 use Rattle.gl_table.specs.PassView.{PassView}
 use Rattle.gl_table.specs.Putting.{opened}
-use Rattle.gl_txn.proofs.LookSteps.{with_look_on, may_look, may_put_looked, after_look}
+use Rattle.gl_txn.proofs.LookSteps.{may_look, may_put_looked, after_look}
 use Rattle.gl_txn.proofs.looking.look_at.Goals as goal
 
 pub mark_open-nth-requires-clause-may : goal.mark_open-nth-requires-clause-may

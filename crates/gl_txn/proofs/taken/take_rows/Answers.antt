@@ -1,5 +1,5 @@
 use Rattle.gl_txn.proofs.Holdings.{lacks_next}
-use Rattle.std.proofs.Common.{◌≡◌, sym, ap, ◌∙◌, subst, ◌++◌, ◌+◌, [], ◌∷◌, take, get_or}
+use Rattle.std.proofs.Common.{sym, ◌∙◌, subst, ◌++◌, ◌+◌, [], ◌∷◌, take, get_or}
 use Rattle.std.specs.Prelude.{List, ℕ}
 use Rattle.std.proofs.lemmas.List.{take_more}
 use Rattle.gl_model.specs.Kept.{AreVariables}

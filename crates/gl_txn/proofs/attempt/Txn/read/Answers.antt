@@ -1,17 +1,15 @@
 use Rattle.std.proofs.Common.{◌≡◌, sym, ap, ◌∙◌, subst, refl, rules, arith, FitsSigned, w64, None}
-use Rattle.std.specs.Prelude.{IsErr, ◌⊎◌, true, false, ◌<◌, ◌≤◌, length, map, Contains, suc, ◌==◌}
+use Rattle.std.specs.Prelude.{IsErr, true, false, ◌<◌, map, ◌==◌}
 use Rattle.std.specs.List.{find}
 use Rattle.std.proofs.lemmas.Int.{to_z-of_z}
 use Rattle.gl_model.specs.declared.limits.TheConstants.{TX_VARIABLES}
 use Rattle.gl_model.specs.declared.tx.Tx.{Tx}
 use Rattle.gl_model.specs.Rising.{with_one, with_part}
-use Rattle.gl_table.specs.PassView.{PassView}
 use Rattle.gl_txn.specs.Attempts.{Attempting, IsTooLarge, is_in, size, variables_in, written, looked, with_look}
-use Rattle.gl_txn.specs.Reading.{IsRead, HasLooked, IsReadStop}
+use Rattle.gl_txn.specs.Reading.{IsRead, HasLooked}
 use Rattle.gl_txn.specs.Trying.{Draws}
 use Rattle.gl_txn.specs.TxnInside.{txn_view}
-use Rattle.gl_txn.specs.declared.stops.TxStop.TheVariants.{Busy, TooLarge}
-use Rattle.gl_txn.proofs.Sizes.{too_large, has_room, neither, look_fits, looked_all, looked_keys, of_write, of_look}
+use Rattle.gl_txn.proofs.Sizes.{too_large, neither, look_fits, looked_all, looked_keys, of_look}
 use Rattle.gl_txn.proofs.NewLooks.{is_read, has_looked, none_waits}
 use Rattle.gl_txn.proofs.attempt.Txn.read.Goals as goal
 
