@@ -135,8 +135,10 @@ takes_turn key slots id k v c s near one unheld st rule long here fits =
                 tries = tries_took w.stopped w.takers v s k y one few mine.tries;
                 turns = record { held = All-cons (HeldOne b'.turn holder' id v.shelves) h v.held (record { named = near; here = with_here w.holder k id; shelf = s; one = one; busy = hh }) still.turns.held };
                 positions = record { shelves = still.positions.shelves };
-                values = record { held = All-cons (HeldStands key.setting w' b'.hold) h v.held (stands_held key.setting w' b'.hold k y (stands_same key.setting w holder' takers' w.stopped b.hold b'.hold k y (holds k near) stands))
-                    (all_map (HeldStands key.setting w1 b'.hold) (HeldStands key.setting w' b'.hold) v.held (λ g q. held_same key.setting w1 holder' takers' w.stopped b'.hold b'.hold g.drew g.object g.taken refl q) still.values.held) };
+                values = record {
+                  held = All-cons (HeldStands key.setting w' b'.hold) h v.held (stands_held key.setting w' b'.hold k y (stands_same key.setting w holder' takers' w.stopped b.hold b'.hold k y (holds k near) stands))
+                      (all_map (HeldStands key.setting w1 b'.hold) (HeldStands key.setting w' b'.hold) v.held (λ g q. held_same key.setting w1 holder' takers' w.stopped b'.hold b'.hold g.drew g.object g.taken refl q) still.values.held);
+                };
                 numbers = record { shelves = still.numbers.shelves };
                 knowledge = record {
                   seen = still.knowledge.seen;

@@ -135,4 +135,3 @@ pub tx_is : (t d : Tx) (ns : List Number) (n : Number) → d ≡ t → t.numbers
 tx_is t d ns n is none more =
     ap (λ (l : List Number). record d { numbers = l }) more ∙ ap (λ (t : Tx). record t { numbers = t.numbers ++ n ∷ [] }) is
     ∙ ap (λ (l : List Number). record t { numbers = l ++ n ∷ [] }) none
-

@@ -226,4 +226,3 @@ module _ (setting : Setting) (q r : PassView) (l : ListView) (t : Held) (object 
         back ∙ ap (λ (s : PassView). record s { own = record s.own { held = [] } }) whole
         ∙ ap (λ (q : PassView). record (after (published_tx q tx n l) (left (view_of (published_tx q tx n l)) 0 false)) { own = record (after (published_tx q tx n l) (left (view_of (published_tx q tx n l)) 0 false)).own { held = [] } }) drawn
         ∙ ap (λ b. record (with_entry p (Commit n tx)) { seen = suc n; known = p.known ++ (n, commit_stamp p.own.id tx) ∷ []; stored = []; quiet = b }) (or_no p.quiet)
-

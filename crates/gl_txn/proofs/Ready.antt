@@ -338,4 +338,3 @@ cause_ok z (Err w) P Q f h = tt
 pub cause_err : {A B : Type 0} (z : TableView) (r : Result A (B × TxWait)) (P Q : TxWait → Type 0) → ((w : TxWait) → P w → Q w) → IfErr r (λ w. P w.1) → IfErr r (λ w. Q w.1)
 cause_err z (Ok e) P Q f h = tt
 cause_err z (Err w) P Q f h = f w.1 h
-

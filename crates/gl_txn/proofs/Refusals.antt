@@ -139,4 +139,3 @@ module _ (tx : Tx) (p q : PassView) (rows : List TakenRow) (x : ℕ) (numbers : 
     where
       names : Rattle.gl_model.specs.Form.NumbersName (record { looks = tx.looks; writes = tx.writes; numbers = numbers }) (variables_of tx)
       names = names_one (attempt_in tx) tx.writes p q.own.held None rows (p.seen ∷ []) numbers (variables_of tx) draws are rises held drawn.above in_rows runs
-

@@ -1,4 +1,4 @@
-use Rattle.std.proofs.Common.{◌≡◌, ◌≤◌}
+use Rattle.std.proofs.Common.{◌≡◌, ◌≤◌, []}
 use Rattle.gl_table.proofs.tests.rounds.Given as goal
 
 abbrev pub invariant-loop : goal.invariant-loop
