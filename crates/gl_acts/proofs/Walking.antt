@@ -72,7 +72,7 @@ module _ (setting : Setting) (R : Lists) (cs : List Place) (places : AreEventPla
 
   -- no monitor was entered more often than there were events
   pub are_shallow : (k : ℕ) (l : ListView) → k ≤ length cs → length cs < 2 ^ 62 → IsFar setting R k l → AreShallow l
-  are_shallow k l le few far o = record {
+  are_shallow k l le few far o near = record {
     few = λ m owned.
         let low : m.1 ≤ k = within_run setting R k (walk_events k le) far.run k (omega arith) o m.0 m.1
             (far.is.monitors o ∙ ap monitor_state owned) in

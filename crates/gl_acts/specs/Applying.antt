@@ -1,8 +1,9 @@
 -- Whether an event is a step of the machine from the states that the coded state stands for.
-use Rattle.std.specs.Prelude.{◌≡◌, ℕ, ℤ, Bool, List, MatchBool}
+use Rattle.std.specs.Prelude.{◌≡◌, ℕ, ℤ, ◌<◌, Bool, List, MatchBool}
 use Rattle.gl_model.specs.declared.event.Act.{Act}
 use Rattle.gl_model.specs.declared.event.Event.TheVariants.{Act as Does, Commit}
 use Rattle.gl_model.specs.declared.event.Stamp.{Stamp}
+use Rattle.gl_model.specs.declared.limits.TheConstants.{MONITORS}
 use Rattle.gl_model.specs.Machine.{Setting, State, Step}
 use Rattle.gl_state.specs.Entering.{IsShallow}
 use Rattle.gl_state.specs.ListView.{ListView}
@@ -35,4 +36,4 @@ Applies setting s value old new made =
 
 -- no monitor was entered so often that it could not be counted once more
 abbrev pub AreShallow : ListView → Type 0
-AreShallow l = (o : ℕ) → IsShallow l o
+AreShallow l = (o : ℕ) → o < MONITORS → IsShallow l o

@@ -153,7 +153,8 @@ pub(crate) fn take(inputs: &Inputs, state: &mut ListState, by: By) -> bool
             if next != by.value {
                 return false;
             }
-            inputs.len();
+            // no more were taken than there are, and those can be counted
+            let _few = inputs.len();
             state.take_input();
             true
         }

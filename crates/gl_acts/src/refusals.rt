@@ -71,7 +71,8 @@ fn is_not_owner(state: &ListState, by: By) -> bool
 fn is_full(program: &Program, state: &ListState, by: By) -> bool
     ensures { (inputs : List ℤ) → Tells result (IsFull (setting_of program.now inputs) state.now by.value) }
 {
-    let _main = program.main();
+    // the program is valid, so it has no class beyond the limit
+    let _valid = program.main();
     let class = match named(by.value, CLASSES) {
         None => return false,
         Some(class) => class,
