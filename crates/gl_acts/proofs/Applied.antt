@@ -79,8 +79,13 @@ module _ (setting : Setting) (t : ℕ) (value : ℤ) (l : ListView) (runs : stag
 
   -- of a monitor that the thread is not in
   outside : (now : State) → IsStateOf l now → Refuses setting now t 5 value → IsNotOwner l t value
-  outside now is (not_owner code o named near not_in) = (o, named, near, λ depth owned. not_in
-      (depth, is.monitors o ∙ ap monitor_state owned))
+  outside now is (not_owner code o named near not_in) = (
+    o,
+    named,
+    near,
+    λ depth owned. not_in
+        (depth, is.monitors o ∙ ap monitor_state owned),
+  )
   outside now is (heap_full code c named fields class full) = absurd (omega arith)
   outside now is (threads_full code full) = absurd (omega arith)
   outside now is (input_end code end) = absurd (omega arith)
@@ -146,7 +151,7 @@ module _ (setting : Setting) (t : ℕ) (value : ℤ) (l : ListView) (runs : stag
   fails_as_unforked code b is_code answer =
       subst (λ n. Applies setting (act_by t (Fail n)) value l l b) (sym is_code)
       (told 11 (IsUnforked l value) b (λ q now is. bad_thread refl q.0 q.1 q.2 (is.threads q.0 ∙ ap thread_state q.3)) unforked_there
-          answer)
+      answer)
 
 -- the machine is set up with the classes of the program
 pub class_in : (P : Bytecode) (inputs : List ℤ) (c : ℕ) (o : Option (ℕ × ℕ)) (fields : ℕ × ℕ)
@@ -179,11 +184,11 @@ forkable P f n is = by (args_of (function_at P f) == 1) refl (ap (λ k. k == 1) 
         → MatchBool (n == 1) (Contains (forkable_of P) f) (Contains (forkable_of P) f → ⊥)
     by true one same = subst (λ b. MatchBool b (Contains (forkable_of P) f) (Contains (forkable_of P) f → ⊥)) (sym (same ∙ one))
         (in_range (λ g. args_of (function_at P g) == 1) 0 (length P.functions) f (omega arith)
-            (let less = function_below P f (function_at P f) refl one in omega arith) one)
+        (let less = function_below P f (function_at P f) refl one in omega arith) one)
     by false one same = subst (λ b. MatchBool b (Contains (forkable_of P) f) (Contains (forkable_of P) f → ⊥)) (sym (same ∙ one))
         (λ in'. let yes' : (args_of (function_at P f) == 1) ≡ true = All-contains (λ x. (args_of (function_at P x) == 1) ≡ true)
-            (forkable_of P) f (filter_passes (λ g. args_of (function_at P g) == 1) (range_with_len 0 (length P.functions))) in' in absurd
-                (cc))
+        (forkable_of P) f (filter_passes (λ g. args_of (function_at P g) == 1) (range_with_len 0 (length P.functions))) in' in absurd
+        (cc))
 
 abbrev depth_in : Option (ℕ × ℕ) → ℕ
 depth_in None = 0
@@ -216,7 +221,7 @@ module _ (setting : Setting) (t : ℕ) (l l' : ListView) (b : Bool) where
       let same : Does act ≡ s.event = cc in
       let stamp : act_by t act ≡ s = λ i. record { thread = sym own i; event = same i } in
       subst (λ (z : Stamp). Applies setting z (value_of e) l l' b) stamp
-          (subst (λ (z : Entry). Applies setting (act_by t act) (value_of z) l l' b) (sym is) applies)
+      (subst (λ (z : Entry). Applies setting (act_by t act) (value_of z) l l' b) (sym is) applies)
 
   pub of_commit : (e : Entry) (at : ℕ) (tx : Tx) → e ≡ Commit at tx
       → ((xs : List ℕ) → Applies setting (record { thread = t; event = Commits xs }) (pos 0) l l' b)
@@ -228,4 +233,4 @@ module _ (setting : Setting) (t : ℕ) (l l' : ListView) (b : Bool) where
       let first : Stamp = record { thread = t; event = Commits xs } in
       let stamp : first ≡ s = λ i. record { thread = sym own i; event = same i } in
       subst (λ (z : Stamp). Applies setting z (value_of e) l l' b) stamp
-          (subst (λ (z : Entry). Applies setting first (value_of z) l l' b) (sym is) (applies xs))
+      (subst (λ (z : Entry). Applies setting first (value_of z) l l' b) (sym is) (applies xs))

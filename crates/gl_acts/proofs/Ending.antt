@@ -50,7 +50,7 @@ module _ (setting : Setting) (R : Lists) (n : ℕ) (events : HasEvents R n) (run
       let more : suc p ≡ p + 1 = omega arith in
       let now : (run.at (p + 1)).threads t ≢ NeverForked = subst (λ z. (run.at z).threads t ≢ NeverForked) more forked in
       by_case e.0 e.1.0 there less now (becomes setting (run.at p) (run.at (p + 1)) e.1.0 t (value_of there.entry)
-          (run.steps e.0 p e.1.0 less there)) (has_list main p (omega arith) t)
+      (run.steps e.0 p e.1.0 less there)) (has_list main p (omega arith) t)
     where
       by_case : (c : Place) (s : Stamp) (there : IsEventAt R c p s) → p < n → (run.at (p + 1)).threads t ≢ NeverForked
           → Becomes (run.at p) (run.at (p + 1)) s t
@@ -72,7 +72,7 @@ module _ (setting : Setting) (R : Lists) (n : ℕ) (events : HasEvents R n) (run
       let more : (p + d) + 1 ≡ p + suc d = omega arith in
       subst (λ z. (run.at z).threads t ≡ Ended) more
       (stays_ended setting (run.at (p + d)) (run.at (p + d + 1)) e.1.0 t (value_of there.entry) (run.steps e.0 (p + d) e.1.0 less there)
-          (ended_on t p d (omega arith) ended))
+      (ended_on t p d (omega arith) ended))
 
 -- the entry before an entry
 at_before : (es : List Entry) (i : ℕ) (e : Entry) → At es (suc i) e → (f : Entry) × At es i f
@@ -132,9 +132,19 @@ has_end R t form some = let over = form.ends t some in by_place over.0 over.1.0 
         let more : suc i ≡ i + 1 = omega arith in
         let is_end : IsEnd before.0 = (formed.over_after_end i before.0 e before.1 (subst (λ z. At (R t) z e) more there)).1 over in
         let known = end_entry before.0 is_end in
-        let entry : Entry = Sync known.0 End known.1.0 in
-        (i, (known.0, record { entry = entry; there = subst (λ (z : Entry). At (R t) i z) known.1.1 before.1; position = refl; event = refl;
-            own = refl }))
+        let entry : Entry = Sync known.0 End known.1.0 in (
+          i,
+          (
+            known.0,
+            record {
+              entry = entry;
+              there = subst (λ (z : Entry). At (R t) i z) known.1.1 before.1;
+              position = refl;
+              event = refl;
+              own = refl;
+            },
+          ),
+        )
 
 -- after the last event each thread that was forked has ended
 pub all_ended : (setting : Setting) (R : Lists) (n : ℕ) → HasEvents R n → AreAllBelow R n → Form R → (run : StepsUpTo setting R n) (t : ℕ)
@@ -150,7 +160,7 @@ all_ended setting R n events all form run t = by (is_new ((run.at n).threads t))
         let there : IsEventAt R c p s = e.1.1 in
         let less : p < n = all c p s there in
         let here : (run.at (p + 1)).threads t ≡ Ended = ends setting (run.at p) (run.at (p + 1)) t (value_of there.entry)
-            (run.steps c p s less there) in
+        (run.steps c p s less there) in
         let far : (p + 1) + (n - (p + 1)) ≡ n = omega arith in
         subst (λ z. (run.at z).threads t ≡ Ended) far (ended_on setting R n events run t (p + 1) (n - (p + 1)) (omega arith) here)
 

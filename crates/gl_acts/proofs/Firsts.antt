@@ -63,7 +63,7 @@ module _ (setting : Setting) (R : Lists) where
   lives_lives : (h : List Stamp) → IsEventList h R → (c d : Place) → LivesAt setting R (length h) c → LivesAt setting R (length h) d → c ≡ d
   lives_lives h list c d x y =
       let same : x.all.at (length h) ≡ y.all.at (length h) = settled setting R (length h) (list_events R h list) x.all y.all (length h)
-          (omega arith) in
+      (omega arith) in
       elim (cases_order c.thread d.thread) [
         | inl thread ↦ place_same c d thread (x.last ∙ ap (λ t. length (R t)) thread ∙ sym y.last)
         | inr (inl less) ↦ absurd (y.least c.thread less (subst (λ (z : State). IsLive z c.thread) same x.live))
@@ -80,8 +80,13 @@ module _ (setting : Setting) (R : Lists) where
 
   -- a run of the machine is one up to each position
   abbrev part_of : (h : List Stamp) → IsMachineRun setting R h → (n : ℕ) → StepsUpTo setting R n
-  part_of h run n = record { at = run.at; first = run.first; steps = λ c p s less e. run.steps c p s e; lists = λ c p u f value less there.
-      run.lists c p u f value there }
+  part_of h run n = record {
+    at = run.at;
+    first = run.first;
+    steps = λ c p s less e. run.steps c p s e;
+    lists = λ c p u f value less there.
+        run.lists c p u f value there;
+  }
 
   -- a run of the machine has no such place
   pub runs_do_not_fail : (c : Place) → RunsMachine setting R → ActFailsFirst setting R c → ⊥
@@ -89,10 +94,10 @@ module _ (setting : Setting) (R : Lists) where
   runs_do_not_fail c runs (inr x) =
       let long : length runs.0 ≡ length x.0 = lists_agree R runs.0 x.0 runs.1 x.1 in
       let same : x.2.all.at (length x.0) ≡ runs.2.at (length x.0) = settled setting R (length x.0) (list_events R x.0 x.1) x.2.all
-          (part_of runs.0 runs.2 (length x.0)) (length x.0) (omega arith) in
+      (part_of runs.0 runs.2 (length x.0)) (length x.0) (omega arith) in
       let live : IsLive (runs.2.at (length x.0)) c.thread = subst (λ (z : State). IsLive z c.thread) same x.2.live in
       over (runs.2.at (length x.0)) (subst (λ n. ((runs.2.at n).threads c.thread ≡ NeverForked) ⊎ ((runs.2.at n).threads c.thread ≡ Ended))
-          long (runs.2.ended c.thread)) live
+      long (runs.2.ended c.thread)) live
     where
       over : (s : State) → (s.threads c.thread ≡ NeverForked) ⊎ (s.threads c.thread ≡ Ended) → IsLive s c.thread → ⊥
       over s (inl new) live = live.0 new

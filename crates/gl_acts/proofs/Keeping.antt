@@ -59,7 +59,7 @@ pub forks : {A : Type 0} (g : A → List Entry) (ls : List (ℕ × List Entry)) 
     → MatchBool b (HasForked (lists_of ls) e) (HasForked (lists_of ls) e → ⊥)
 forks g ls kept e at u f value is None none b same =
     subst (λ z. MatchBool z (HasForked (lists_of ls) e) (HasForked (lists_of ls) e → ⊥)) (sym same)
-        (λ has. has at u f value is (no_list ls u none))
+    (λ has. has at u f value is (no_list ls u none))
 forks g ls kept e at u f value is (Some es) some b same =
     subst (λ z. MatchBool z (HasForked (lists_of ls) e) (HasForked (lists_of ls) e → ⊥)) (sym same) (λ at' u' f' value' is'.
     let two : Sync at (Fork u f) value ≡ Sync at' (Fork u' f') value' = sym is ∙ is' in

@@ -46,9 +46,9 @@ settled setting R n events a b (suc p) le =
     let there : IsEventAt R c p s = e.1.1 in
     let same : a.at p ≡ b.at p = settled setting R n events a b p (omega arith) in
     let one : Step setting (b.at p) s (value_of there.entry) (a.at (p + 1)) = subst
-        (λ (z : State). Step setting z s (value_of there.entry) (a.at (p + 1))) same (a.steps c p s less there) in
+    (λ (z : State). Step setting z s (value_of there.entry) (a.at (p + 1))) same (a.steps c p s less there) in
     let next : a.at (p + 1) ≡ b.at (p + 1) = one_next setting (b.at p) (a.at (p + 1)) (b.at (p + 1)) s (value_of there.entry) one
-        (b.steps c p s less there) in
+    (b.steps c p s less there) in
     let more : p + 1 ≡ suc p = omega arith in
     subst (λ z. a.at z ≡ b.at z) more next
 
@@ -120,8 +120,13 @@ module _ (setting : Setting) (R : Lists) (n : ℕ) (run : StepsUpTo setting R n)
     where
       at_last : (d : Place) (p : ℕ) (r : Stamp) (f : IsEventAt R d p r) → p ≡ n → IsStepOf p r (value_of f.entry)
       at_last d p r f same =
-          let here : IsEventAt R d n r = record { entry = f.entry; there = f.there; position = f.position ∙ ap Some same; event = f.event;
-              own = f.own } in
+          let here : IsEventAt R d n r = record {
+            entry = f.entry;
+            there = f.there;
+            position = f.position ∙ ap Some same;
+            event = f.event;
+            own = f.own;
+          } in
           subst (λ z. IsStepOf z r (value_of f.entry)) (sym same) (same_step d r here (only d r here) (last_step step))
 
       forked : (d : Place) (p u f : ℕ) (value : ℤ) → EntryAt R d (Sync p (Fork u f) value) → p ≡ n → R u ≢ []
@@ -149,5 +154,5 @@ within_run setting R n events run (suc p) le =
     let there : IsEventAt R e.0 p e.1.0 = e.1.1 in
     let more : p + 1 ≡ suc p = omega arith in
     let next : AreWithin (p + 1) (run.at (p + 1)) = within_step p (run.at p) (run.at (p + 1))
-        (within_run setting R n events run p (omega arith)) setting e.1.0 (value_of there.entry) (run.steps e.0 p e.1.0 less there) in
+    (within_run setting R n events run p (omega arith)) setting e.1.0 (value_of there.entry) (run.steps e.0 p e.1.0 less there) in
     subst (λ z. AreWithin z (run.at z)) more next

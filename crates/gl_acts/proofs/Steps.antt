@@ -23,18 +23,21 @@ same_act setting old a b t (Begin f) value x y = x ∙ sym y
 same_act setting old a b t End value x y = x ∙ sym y
 same_act setting old a b t (Acq o) value x y =
     x.2 ∙ ap (λ (m : MonitorState). record old { monitors = with_at old.monitors o m }) (one_entered t (old.monitors o) x.0 y.0 x.1 y.1)
-        ∙ sym y.2
+    ∙ sym y.2
 same_act setting old a b t (Rel o) value x y =
     x.2 ∙ ap (λ (d : ℕ). record old { monitors = with_at old.monitors o (left_once t d) }) (one_depth (old.monitors o) t x.0 y.0 x.1 y.1)
-        ∙ sym y.2
+    ∙ sym y.2
 same_act setting old a b t (VRead v) value x y = x.1 ∙ sym y.1
 same_act setting old a b t (VWrite v) value x y = x ∙ sym y
 same_act setting old a b t (Fork u f) value x y = x.1 ∙ sym y.1
 same_act setting old a b t (Join u) value x y = x.1 ∙ sym y.1
 same_act setting old a b t (Alloc c) value x y =
     let same : x.0 ≡ y.0 = some_same x.0 y.0 (sym x.1 ∙ y.1) in
-    x.4 ∙ ap (λ (n : ℕ × ℕ). record old { next_object = old.next_object + 1; next_variable = old.next_variable + n.0;
-        next_volatile = old.next_volatile + n.1 }) same ∙ sym y.4
+    x.4 ∙ ap (λ (n : ℕ × ℕ). record old {
+      next_object = old.next_object + 1;
+      next_variable = old.next_variable + n.0;
+      next_volatile = old.next_volatile + n.1;
+    }) same ∙ sym y.4
   where
     some_same : (m n : ℕ × ℕ) → Some m ≡ Some n → m ≡ n
     some_same m n e = cc
@@ -150,7 +153,7 @@ module _ (most : ℕ) (old new : State) (within : AreWithin most old) where
   left_within a g zero at t d is = absurd (cc)
   left_within a g (suc k) at t d is =
       let z : left_once a (suc k) ≡ Owned a (suc k) = ap (λ b. if b then Free else Owned a (suc k))
-          (ne_eqb (suc k) 0 (λ e. absurd (omega arith))) in
+      (ne_eqb (suc k) 0 (λ e. absurd (omega arith))) in
       let e : suc k ≡ d = owned_depth a t (suc k) d (sym z ∙ is) in
       let low = within g a (suc k + 1) at in
       omega arith

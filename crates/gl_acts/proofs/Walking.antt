@@ -46,7 +46,7 @@ module _ (setting : Setting) (R : Lists) (cs : List Place) (places : AreEventPla
       let next = (goes k s there).1 (far.run.at k) far.is in
       let only : (d : Place) (r : Stamp) → IsEventAt R d k r → d ≡ c = λ d r f. place_one cs k c d here ((places k d).1 (r, f)) in
       let lists : (u f : ℕ) (value : ℤ) → there.entry ≡ Sync k (Fork u f) value → R u ≢ [] = λ u f value is. (goes k s there).0 k u f value
-          is in
+      is in
       record {
         run = longer setting R k far.run c s there next.0 only next.1 lists;
         is = subst (λ (z : State). IsStateOf l' z) (sym (longer_at setting R k far.run c s there next.0 only next.1 lists)) next.2;
@@ -67,7 +67,7 @@ module _ (setting : Setting) (R : Lists) (cs : List Place) (places : AreEventPla
           (subst (λ (z : Entry). EntryAt R c z) (fork_at there.entry at k u f value is there.position) there.there))
       wrong s there more (inr none) =
           let same : far.run.at k ≡ more.at k = settled setting R k (walk_events k le) far.run
-              (shorter setting R k (k + 1) (omega arith) more) k (omega arith) in
+          (shorter setting R k (k + 1) (omega arith) more) k (omega arith) in
           none (more.at k) (more.at (k + 1)) (subst (λ (z : State). IsStateOf l z) same far.is) (more.steps c k s (omega arith) there)
 
   -- no monitor was entered more often than there were events
@@ -75,7 +75,7 @@ module _ (setting : Setting) (R : Lists) (cs : List Place) (places : AreEventPla
   are_shallow k l le few far o near = record {
     few = λ m owned.
         let low : m.1 ≤ k = within_run setting R k (walk_events k le) far.run k (omega arith) o m.0 m.1
-            (far.is.monitors o ∙ ap monitor_state owned) in
+        (far.is.monitors o ∙ ap monitor_state owned) in
         omega arith;
   }
 
@@ -92,13 +92,15 @@ module _ (setting : Setting) (R : Lists) (c : Place) (l l' : ListView) (e : Entr
   pub makes : (b : Bool) → HasForked R e
       → ((s : Stamp) → s.thread ≡ c.thread → event_of e ≡ Some s.event → Applies setting s (value_of e) l l' b) → Makes setting R c l l' b
   makes true forked applies = λ p s x.
-      let same : e ≡ x.entry = same_entry (R c.thread) c.index e x.entry there x.there in
-      (subst (λ (z : Entry). HasForked R z) same forked, subst (λ (z : Entry). Rattle.gl_acts.specs.Applying.IsStepFrom setting s
-          (value_of z) l l') same (applies s x.own (ap event_of same ∙ x.event)))
+      let same : e ≡ x.entry = same_entry (R c.thread) c.index e x.entry there x.there in (
+        subst (λ (z : Entry). HasForked R z) same forked,
+        subst (λ (z : Entry). Rattle.gl_acts.specs.Applying.IsStepFrom setting s
+            (value_of z) l l') same (applies s x.own (ap event_of same ∙ x.event)),
+      )
   makes false forked applies = λ p s x.
       let same : e ≡ x.entry = same_entry (R c.thread) c.index e x.entry there x.there in
       inr (subst (λ (z : Entry). Rattle.gl_acts.specs.Applying.IsNoStepFrom setting s (value_of z) l) same
-          (applies s x.own (ap event_of same ∙ x.event)).0)
+      (applies s x.own (ap event_of same ∙ x.event)).0)
 
   pub forks_none : (HasForked R e → ⊥) → Stops setting R c l
   forks_none none p s x =

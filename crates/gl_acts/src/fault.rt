@@ -4,16 +4,11 @@ ghost use Rattle.gl_acts.specs.Acting.{IsActFault};
 ghost use Rattle.gl_acts.specs.Applying.{AreShallow, Tells};
 ghost use Rattle.gl_acts.specs.Making.{HasForked, Makes};
 ghost use Rattle.gl_bytecode.specs.Lawful.{setting_of};
-ghost use Rattle.gl_model.specs.declared.event.Act.TheVariants.{Fork};
-ghost use Rattle.gl_model.specs.declared.event.Stamp.{Stamp};
-ghost use Rattle.gl_model.specs.declared.limits.TheConstants.{THREADS};
-ghost use Rattle.gl_model.specs.Entries.{seen, Sync};
-ghost use Rattle.gl_model.specs.Form.{Form, Listed, value_of};
-ghost use Rattle.gl_model.specs.Kept.{IsEntryKept};
+ghost use Rattle.gl_model.specs.Entries.{seen};
+ghost use Rattle.gl_model.specs.Form.{Form, Listed};
 ghost use Rattle.gl_model.specs.Lists.{lists_of};
-ghost use Rattle.gl_model.specs.Records.{EntryAt, event_of, IsEventAt};
+ghost use Rattle.gl_model.specs.Records.{EntryAt};
 ghost use Rattle.gl_places.specs.Places.{seen as seen_place};
-ghost use Rattle.gl_state.specs.ListView.{ListView};
 
 use crate::apply::apply_entry;
 use gl_bytecode::Program;
@@ -49,7 +44,7 @@ fn has_forked(made: &Record, entry: &Entry) -> bool
 }
 
 // Makes the step of the event at the place, if it is one, and if a thread that it forks has a list.
-fn makes_step(
+pub(crate) fn makes_step(
     program: &Program,
     inputs: &Inputs,
     made: &Record,
@@ -84,7 +79,6 @@ pub fn act_fault(
     requires listed { Listed (lists_of made.now) }
     ensures { IfOk result (λ found. IsActFault (setting_of program.now inputs.now) (lists_of made.now) (option_map seen_place found)) }
 {
-    made.keeps();
     let places = event_places(alloc, made)?;
     let mut state = ListState::new(alloc, program.main())?;
     for place in &places {

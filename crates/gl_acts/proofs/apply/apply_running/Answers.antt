@@ -38,7 +38,7 @@ pub returns-in-Fork : goal.returns-in-Fork
 returns-in-Fork c =
     let setting = setting_of c.args.program.now c.args.inputs.now in
     of_act setting c.args.by.thread c.args.state.now c.fork.new.state c.fork.result c.args.by.value c.args.act
-        (Fork c.in-Fork.child c.in-Fork.func)
+    (Fork c.in-Fork.child c.in-Fork.func)
     c.in-Fork.is (c.fork.ensures c.args.inputs.now)
 
 pub returns-in-Join : goal.returns-in-Join

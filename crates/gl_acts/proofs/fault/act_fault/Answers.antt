@@ -30,7 +30,7 @@ loop-place-init c =
     let setting = setting_of c.args.program.now c.args.inputs.now in
     at_start setting (lists_of c.args.made.now) c.in_ok-state.state
     (subst (λ (z : ListView). IsStateOf z (start (setting_of c.args.program.now c.args.inputs.now))) (sym c.in_ok-state.ensures)
-        (first_is setting c.main.result (sym c.main.ensures.value)))
+    (first_is setting c.main.result (sym c.main.ensures.value)))
 
 pub makes_step-requires : goal.makes_step-requires
 makes_step-requires c =
@@ -77,7 +77,7 @@ returns c =
     let places = walks (lists_of c.args.made.now) xs c.in_ok-places.places.items c.deref-place-items.ensures.value c.in_ok-places.ensures in
     let many : length (map seen_place xs) ≡ length xs = long xs in
     let all : c.loop-place.place-index ≡ length (map seen_place xs) = omega
-        (arith, c.loop-place.auto.place-index-end, c.loop-place-test.false) in
+    (arith, c.loop-place.auto.place-index-end, c.loop-place-test.false) in
     walked setting R (map seen_place xs) places
     c.loop-place.state c.requires.form c.requires.listed
     (subst (λ n. IsFar (setting_of c.args.program.now c.args.inputs.now) (lists_of c.args.made.now) n c.loop-place.state) all

@@ -17,5 +17,5 @@ apply_entry-requires-clause-kept c = (place_kept c.args.made.now c.keeps.ensures
 pub returns-else-not-has_forked : goal.returns-else-not-has_forked
 returns-else-not-has_forked c =
     makes (setting_of c.args.program.now c.args.inputs.now) (lists_of c.args.made.now) (seen_place c.args.place) c.args.state.now
-        c.apply_entry.new.state
+    c.apply_entry.new.state
     (seen c.in-Some.entry.now) c.in-Some.ensures.some c.apply_entry.result c.if-not-has_forked.ensures c.apply_entry.ensures
