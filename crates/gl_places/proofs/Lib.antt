@@ -3,3 +3,4 @@ pub mod UsesMade
 pub mod Gathered
 pub mod ListedLaw
 pub mod EventPlaces
+pub mod First
