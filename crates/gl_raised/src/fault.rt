@@ -1,7 +1,7 @@
 // The first place of a record where the race law fails.
 ghost use Rattle.std.specs.Prelude.{◌≡◌, ℕ, IfOk, OnOk, MatchOption, length, map, slice_get, Some};
 ghost use Rattle.gl_core.specs.Cells.{at, cell};
-ghost use Rattle.gl_model.specs.Form.{Form, Numbered};
+ghost use Rattle.gl_model.specs.Form.{Form, Listed, Numbered};
 ghost use Rattle.gl_model.specs.HappensBefore.{Races};
 ghost use Rattle.gl_model.specs.Lists.{lists_of};
 ghost use Rattle.gl_places.specs.Places.{AreEventPlaces, Before, IsFirstBy, seen};
@@ -15,7 +15,7 @@ use crate::judge::least_races;
 use crate::learn::{learn, no_clock};
 use crate::rows::{ALL, block_clocks};
 use gl_model::Record;
-use gl_places::Place;
+use gl_places::{Place, event_places};
 use std::alloc::{AllocError, Global};
 
 // Puts the accesses in the order of their numbers.
@@ -65,11 +65,8 @@ fn first_other(claims: &[Claim], least: &[Option<u16>]) -> Option<Place>
     None
 }
 
-/// The first place of a record where an entry is raised, or is not, against the race law, by thread and then by place; `None` where the law holds
-/// of the record. These are the places of its events, by position. For each event and each access there is one clock of 64
-/// bytes, and for each variable of an access one of 48 bytes. The only error is want of memory, for which too many events to be
-/// counted also stand.
-pub fn race_fault(
+// The same, where these are the places of the record's events, by position.
+fn fault_by_places(
     alloc: Global,
     made: &Record,
     places: &[Place],
@@ -88,4 +85,19 @@ pub fn race_fault(
     learn(alloc, &rows, &all.accesses, &mut known)?;
     let least = least_races(alloc, &all.accesses, &known)?;
     Ok(first_other(&all.claims, &least))
+}
+
+/// The first place of a record where an entry is raised, or is not, against the race law, by thread and then by place; `None` where the law holds
+/// of the record. For each event and each access there is one clock of 64 bytes, and for each variable of an access 40 bytes. It takes as many
+/// steps as there are events and accesses times the threads, and a sort. The only error is want of memory, for which too many
+/// events to be counted also stand.
+pub fn race_fault(alloc: Global, made: &Record) -> Result<Option<Place>, AllocError>
+    requires form { Form (lists_of made.now) }
+    requires listed { Listed (lists_of made.now) }
+    requires numbered { Numbered (lists_of made.now) }
+    requires steps { AreSteps (lists_of made.now) }
+    ensures { IfOk result (λ found. MatchOption found (Races (lists_of made.now)) (λ c. IsFirstBy Before (RaceFailsAt (lists_of made.now)) (seen c))) }
+{
+    let places = event_places(alloc, made)?;
+    fault_by_places(alloc, made, &places)
 }
