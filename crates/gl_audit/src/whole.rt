@@ -15,7 +15,7 @@ use gl_follow::program_fault;
 use gl_form::form_fault;
 use gl_listing::{number_fault, position_fault};
 use gl_model::{Inputs, Record};
-use gl_places::{Place, event_places};
+use gl_places::Place;
 use gl_raised::race_fault;
 use std::alloc::{AllocError, Global};
 
@@ -61,8 +61,7 @@ pub fn audit(
     if let Some(place) = act_fault(alloc, program, inputs, made)? {
         return Ok(fails(place, MACHINE));
     }
-    let places = event_places(alloc, made)?;
-    if let Some(place) = race_fault(alloc, made, &places)? {
+    if let Some(place) = race_fault(alloc, made)? {
         return Ok(fails(place, RACES));
     }
     if let Some(place) = word_fault(alloc, made)? {

@@ -1,17 +1,8 @@
-use Rattle.std.proofs.Common.{List, map, subst, sym}
 use Rattle.std.proofs.lemmas.Option.{MatchOption-at_none}
 use Rattle.gl_bytecode.specs.Lawful.{setting_of}
-use Rattle.gl_model.specs.Lists.{lists_of}
-use Rattle.gl_places.specs.declared.place.Place.{Place as StoredPlace}
-use Rattle.gl_places.specs.Places.{AreEventPlaces, seen}
 use Rattle.gl_audit.specs.Clauses.{OfForm, OfList, OfNumbers, OfMachine, OfRaces, OfWords, OfProgram}
 use Rattle.gl_audit.proofs.Composing.{below_first, below_list, below_machine, below_numbers, below_program, below_races, below_words, first_at, first_at_some, found, found_lawful, holds_at}
 use Rattle.gl_audit.proofs.whole.audit.Goals as goal
-
-pub race_fault-requires-clause-places : goal.race_fault-requires-clause-places
-race_fault-requires-clause-places c =
-    let P : List StoredPlace → Type 0 = λ ps. AreEventPlaces (lists_of c.args.made.now) (map seen ps) in
-    subst P (sym c.deref.ensures.value) c.in_ok-places.ensures
 
 pub returns-in-Some : goal.returns-in-Some
 returns-in-Some c =
