@@ -4,7 +4,9 @@ use Rattle.std.specs.Prelude.{IfSome, MatchOption}
 use Rattle.std.proofs.lemmas.Bool.{cases_lt}
 use Rattle.gl_model.specs.Entries.{Entry}
 use Rattle.gl_model.specs.Lists.{lists_of}
-use Rattle.gl_bytecode.specs.Lawful.{Lawful as LawfulOf}
+use Rattle.std.specs.Option.{option_map}
+use Rattle.gl_acts.specs.Acting.{IsActFault}
+use Rattle.gl_bytecode.specs.Lawful.{Lawful as LawfulOf, setting_of}
 use Rattle.gl_bytecode.specs.Programs.{Bytecode}
 use Rattle.gl_places.specs.declared.place.Place.{Place as StoredPlace}
 use Rattle.gl_places.specs.Places.{seen}
@@ -77,6 +79,17 @@ module _ (P : Bytecode) (inputs : List ℤ) (steps : ℕ) (made : List (ℕ × L
       FailsFirst P inputs steps made k (seen c)
   first_at_some k None c says is = absurd (cc)
   first_at_some k (Some d) c says is = (let same : d ≡ c = cc in subst (λ b. FailsFirst P inputs steps made k (seen b)) same says)
+
+  -- what the answer of the machine's call says
+  pub runs_at : (o : Option StoredPlace) → IsActFault (setting_of P inputs) (lists_of made) (option_map seen o) → o ≡ None → S OfMachine
+  runs_at None says is = says
+  runs_at (Some c) says is = absurd (cc)
+
+  pub act_at :
+      (o : Option StoredPlace) (c : StoredPlace) → IsActFault (setting_of P inputs) (lists_of made) (option_map seen o) → o ≡ Some c →
+      FailsFirst P inputs steps made OfMachine (seen c)
+  act_at None c says is = absurd (cc)
+  act_at (Some d) c says is = (let same : d ≡ c = cc in subst (λ b. FailsFirst P inputs steps made OfMachine (seen b)) same says)
 
   pub every : Below OfProgram → S OfProgram → (k : Clause) → S k
   every below program OfForm = below OfForm (omega arith)

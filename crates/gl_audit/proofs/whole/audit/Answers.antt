@@ -1,7 +1,7 @@
 use Rattle.std.proofs.lemmas.Option.{MatchOption-at_none}
 use Rattle.gl_bytecode.specs.Lawful.{setting_of}
 use Rattle.gl_audit.specs.Clauses.{OfForm, OfList, OfNumbers, OfMachine, OfRaces, OfWords, OfProgram}
-use Rattle.gl_audit.proofs.Composing.{below_first, below_list, below_machine, below_numbers, below_program, below_races, below_words, first_at, first_at_some, found, found_lawful, holds_at}
+use Rattle.gl_audit.proofs.Composing.{act_at, below_first, below_list, below_machine, below_numbers, below_program, below_races, below_words, first_at, first_at_some, found, found_lawful, holds_at, runs_at}
 use Rattle.gl_audit.proofs.whole.audit.Goals as goal
 
 pub returns-in-Some : goal.returns-in-Some
@@ -30,7 +30,7 @@ returns-in-Some-4 c =
     let form = holds_at c.args.program.now c.args.inputs.now c.args.steps c.args.made.now OfForm c.in_ok-place.field-0 c.in_ok-place.ensures c.in_default.is in
     let list = holds_at c.args.program.now c.args.inputs.now c.args.steps c.args.made.now OfList c.in_ok-place-2.field-0 c.in_ok-place-2.ensures c.in_default-2.is in
     let numbers = holds_at c.args.program.now c.args.inputs.now c.args.steps c.args.made.now OfNumbers c.in_ok-place-3.field-0 c.in_ok-place-3.ensures c.in_default-3.is in
-    let first = first_at c.args.program.now c.args.inputs.now c.args.steps c.args.made.now OfMachine _ c.in_ok-place-4.field-0 c.in-Some-4.place c.in_ok-place-4.ensures c.in-Some-4.is in
+    let first = act_at c.args.program.now c.args.inputs.now c.args.steps c.args.made.now c.in_ok-place-4.field-0 c.in-Some-4.place c.in_ok-place-4.ensures c.in-Some-4.is in
     found c.args.program.now c.args.inputs.now c.args.steps c.args.made.now OfMachine c.in-Some-4.place c.fails-in-Some-4.result c.fails-in-Some-4.ensures
     (below_machine c.args.program.now c.args.inputs.now c.args.steps c.args.made.now form list numbers) first
 
@@ -39,7 +39,7 @@ returns-in-Some-5 c =
     let form = holds_at c.args.program.now c.args.inputs.now c.args.steps c.args.made.now OfForm c.in_ok-place.field-0 c.in_ok-place.ensures c.in_default.is in
     let list = holds_at c.args.program.now c.args.inputs.now c.args.steps c.args.made.now OfList c.in_ok-place-2.field-0 c.in_ok-place-2.ensures c.in_default-2.is in
     let numbers = holds_at c.args.program.now c.args.inputs.now c.args.steps c.args.made.now OfNumbers c.in_ok-place-3.field-0 c.in_ok-place-3.ensures c.in_default-3.is in
-    let machine = holds_at c.args.program.now c.args.inputs.now c.args.steps c.args.made.now OfMachine c.in_ok-place-4.field-0 c.in_ok-place-4.ensures c.in_default-4.is in
+    let machine = runs_at c.args.program.now c.args.inputs.now c.args.steps c.args.made.now c.in_ok-place-4.field-0 c.in_ok-place-4.ensures c.in_default-4.is in
     let first = first_at c.args.program.now c.args.inputs.now c.args.steps c.args.made.now OfRaces _ c.in_ok-place-5.field-0 c.in-Some-5.place c.in_ok-place-5.ensures c.in-Some-5.is in
     found c.args.program.now c.args.inputs.now c.args.steps c.args.made.now OfRaces c.in-Some-5.place c.fails-in-Some-5.result c.fails-in-Some-5.ensures
     (below_races c.args.program.now c.args.inputs.now c.args.steps c.args.made.now form list numbers machine) first
@@ -49,7 +49,7 @@ returns-in-Some-6 c =
     let form = holds_at c.args.program.now c.args.inputs.now c.args.steps c.args.made.now OfForm c.in_ok-place.field-0 c.in_ok-place.ensures c.in_default.is in
     let list = holds_at c.args.program.now c.args.inputs.now c.args.steps c.args.made.now OfList c.in_ok-place-2.field-0 c.in_ok-place-2.ensures c.in_default-2.is in
     let numbers = holds_at c.args.program.now c.args.inputs.now c.args.steps c.args.made.now OfNumbers c.in_ok-place-3.field-0 c.in_ok-place-3.ensures c.in_default-3.is in
-    let machine = holds_at c.args.program.now c.args.inputs.now c.args.steps c.args.made.now OfMachine c.in_ok-place-4.field-0 c.in_ok-place-4.ensures c.in_default-4.is in
+    let machine = runs_at c.args.program.now c.args.inputs.now c.args.steps c.args.made.now c.in_ok-place-4.field-0 c.in_ok-place-4.ensures c.in_default-4.is in
     let races = holds_at c.args.program.now c.args.inputs.now c.args.steps c.args.made.now OfRaces c.in_ok-place-5.field-0 c.in_ok-place-5.ensures c.in_default-5.is in
     let first = first_at c.args.program.now c.args.inputs.now c.args.steps c.args.made.now OfWords _ c.in_ok-place-6.field-0 c.in-Some-6.place c.in_ok-place-6.ensures.first c.in-Some-6.is in
     found c.args.program.now c.args.inputs.now c.args.steps c.args.made.now OfWords c.in-Some-6.place c.fails-in-Some-6.result c.fails-in-Some-6.ensures
@@ -60,7 +60,7 @@ returns-in-Some-7 c =
     let form = holds_at c.args.program.now c.args.inputs.now c.args.steps c.args.made.now OfForm c.in_ok-place.field-0 c.in_ok-place.ensures c.in_default.is in
     let list = holds_at c.args.program.now c.args.inputs.now c.args.steps c.args.made.now OfList c.in_ok-place-2.field-0 c.in_ok-place-2.ensures c.in_default-2.is in
     let numbers = holds_at c.args.program.now c.args.inputs.now c.args.steps c.args.made.now OfNumbers c.in_ok-place-3.field-0 c.in_ok-place-3.ensures c.in_default-3.is in
-    let machine = holds_at c.args.program.now c.args.inputs.now c.args.steps c.args.made.now OfMachine c.in_ok-place-4.field-0 c.in_ok-place-4.ensures c.in_default-4.is in
+    let machine = runs_at c.args.program.now c.args.inputs.now c.args.steps c.args.made.now c.in_ok-place-4.field-0 c.in_ok-place-4.ensures c.in_default-4.is in
     let races = holds_at c.args.program.now c.args.inputs.now c.args.steps c.args.made.now OfRaces c.in_ok-place-5.field-0 c.in_ok-place-5.ensures c.in_default-5.is in
     let words = (c.in_ok-place-6.ensures.legal (setting_of c.args.program.now c.args.inputs.now) machine.0 machine.1 machine.2).0 c.in_default-6.is in
     let first = first_at_some c.args.program.now c.args.inputs.now c.args.steps c.args.made.now OfProgram c.in_ok-place-7.field-0 c.in-Some-7.place c.in_ok-place-7.ensures.first c.in-Some-7.is in
@@ -72,7 +72,7 @@ returns c =
     let form = holds_at c.args.program.now c.args.inputs.now c.args.steps c.args.made.now OfForm c.in_ok-place.field-0 c.in_ok-place.ensures c.in_default.is in
     let list = holds_at c.args.program.now c.args.inputs.now c.args.steps c.args.made.now OfList c.in_ok-place-2.field-0 c.in_ok-place-2.ensures c.in_default-2.is in
     let numbers = holds_at c.args.program.now c.args.inputs.now c.args.steps c.args.made.now OfNumbers c.in_ok-place-3.field-0 c.in_ok-place-3.ensures c.in_default-3.is in
-    let machine = holds_at c.args.program.now c.args.inputs.now c.args.steps c.args.made.now OfMachine c.in_ok-place-4.field-0 c.in_ok-place-4.ensures c.in_default-4.is in
+    let machine = runs_at c.args.program.now c.args.inputs.now c.args.steps c.args.made.now c.in_ok-place-4.field-0 c.in_ok-place-4.ensures c.in_default-4.is in
     let races = holds_at c.args.program.now c.args.inputs.now c.args.steps c.args.made.now OfRaces c.in_ok-place-5.field-0 c.in_ok-place-5.ensures c.in_default-5.is in
     let words = (c.in_ok-place-6.ensures.legal (setting_of c.args.program.now c.args.inputs.now) machine.0 machine.1 machine.2).0 c.in_default-6.is in
     let program = MatchOption-at_none _ _ c.in_default-7.is c.in_ok-place-7.ensures.runs in
