@@ -48,7 +48,7 @@ fn has_unhalted(entries: &[(u8, &Entry)]) -> bool
 
 // The status of a run that left these entries.
 #[tactic(auto, using(crate::proofs::Entries::any_map))]
-fn entries_status(entries: &[(u8, &Entry)]) -> u8
+pub(crate) fn entries_status(entries: &[(u8, &Entry)]) -> u8
     ensures value { result ≡ entries_status (map (λ p. seen p.1.now) entries.now) }
     ensures few { IsVerdict result }
 {

@@ -1,4 +1,4 @@
-use Rattle.std.proofs.Common.{rules, ◌≡◌, ◌<◌, ℕ, Some, List, length, IfOk, IfSome, refl}
+use Rattle.std.proofs.Common.{rules, ◌<◌, ℕ, Some, List, length, IfOk, IfSome, refl}
 use Rattle.std.specs.Io.KnownBytes.{Consumes}
 use Rattle.gl_asm.specs.declared.limits.TheConstants.{LONGEST}
 use Rattle.gl_run.specs.Texts.{AnswersLonger}
@@ -17,4 +17,4 @@ returns-in-Err-TooLong-clause-page g c = λ keep.
     let longer : IfOk c.map_err-in-Err-TooLong.result (λ p. AnswersLonger command p.status p.text.items p.kept) =
     mapped _ _ c.answer_longer.result c.map_err-in-Err-TooLong.result c.map_err-in-Err-TooLong.ensures.cases c.map_err-in-Err-TooLong.ensures.variant
     c.answer_longer.ensures.answer in
-    more_if_ok _ _ c.map_err-in-Err-TooLong.result (λ p answer. long_reply keep (Some command) command left now over.0 p refl over.1 over.2 long answer) longer
+    more_if_ok _ _ c.map_err-in-Err-TooLong.result (λ p answer. long_reply keep (Some command) command LONGEST left now over.0 p refl refl over.1 over.2 long answer) longer
