@@ -4,19 +4,19 @@ use Rattle.std.specs.Prelude.{unwrap_or}
 use Rattle.gl_asm.specs.Listing.{listing}
 use Rattle.gl_asm.specs.Texts.{IsText, IsFirstFault}
 use Rattle.gl_bytecode.specs.Programs.{Bytecode, Draft, draft_of}
-use Rattle.gl_model.specs.Report.{report_of, summary_of}
+use Rattle.gl_model.specs.Report.{summary_of}
 use Rattle.gl_table.specs.SealedView.{SealedView}
-use Rattle.gl_threads.specs.declared.options.Options.{Options}
 use Rattle.gl_run.specs.Laws.{ChecksAreOne, ListingsAreApart, ListingsAreOne, LoadsAreLawful, LoadsAreTold, RepliesAreOne, RepliesAreTold, RunsAreApart, RunsAreLawful, RunsAreTold, IsKeptLoad, IsKeptRun, IsOneAnswer, IsToldByKept}
 use Rattle.gl_run.specs.Listed.{AcceptsProgram, Refuses}
 use Rattle.gl_run.specs.Output.{refusal}
-use Rattle.gl_run.specs.Runs.{AcceptsRun, RefusesRun, run_status}
+use Rattle.gl_run.specs.Runs.{AcceptsRun, RefusesRun, run_status, run_text}
 use Rattle.gl_run.specs.Texts.{AnswersText}
 use Rattle.gl_run.specs.Words.{run_part}
 use Rattle.gl_run.specs.declared.keep.Keep.{Keep}
 use Rattle.gl_run.specs.declared.kept.Kept.{Kept}
 use Rattle.gl_run.specs.declared.kept.Kept.TheVariants.{Run}
 use Rattle.gl_run.specs.declared.options.LoadOptions.{LoadOptions}
+use Rattle.gl_run.specs.declared.options.RunOptions.{RunOptions}
 use Rattle.gl_run.specs.declared.words.Command.{Command}
 use Rattle.gl_run.specs.declared.words.Command.TheVariants as commands
 
@@ -64,12 +64,12 @@ module _ (apart : (text : List ℕ) (program : Bytecode) (inputs : List ℤ) (li
   pub runs_apart : RunsAreApart
   runs_apart options input s t a b j k one two = apart input one.program one.inputs two.line two.kind one.meaning two.fault
 
-  ran_same : (options : Options) (input : List ℕ) (s t : ℕ) (a b : List ℕ) (kept : Option Kept) → AcceptsRun options input s a kept → AcceptsRun options input t b kept → (s ≡ t) × (a ≡ b)
+  ran_same : (options : RunOptions) (input : List ℕ) (s t : ℕ) (a b : List ℕ) (kept : Option Kept) → AcceptsRun options input s a kept → AcceptsRun options input t b kept → (s ≡ t) × (a ≡ b)
   ran_same options input s t a b kept one two =
       let x = one.answer in
       let y = two.answer in
       let same : x.made ≡ y.made = same_kept x.made y.made kept x.kept_is y.kept_is in
-      (x.status_is ∙ ap (λ (m : SealedView). run_status m.entries) same ∙ sym y.status_is, x.bytes_are ∙ ap (λ (m : SealedView). report_of m.entries) same ∙ sym y.bytes_are)
+      (x.status_is ∙ ap (λ (m : SealedView). run_status m.entries) same ∙ sym y.status_is, x.bytes_are ∙ ap (λ (m : SealedView). run_text options m.entries) same ∙ sym y.bytes_are)
 
   pub runs_told : RunsAreTold
   runs_told options input s t a b kept one two =
@@ -101,6 +101,7 @@ runs_lawful options input s a made one =
             run = x.answer.run;
             status_is = x.answer.status_is;
             bytes_are = x.answer.bytes_are;
+            read_back = x.answer.read_back;
           })
       | inr refused ↦ absurd (refused_none made input s a refused)
     ]
@@ -125,7 +126,7 @@ some_same c d asked one two = cc
 not_both : (c : Command) (asked : Option Command) → asked ≡ None → asked ≡ Some c → ⊥
 not_both c asked none some = cc
 
-no_run : (options : Options) (asked : Option Command) → asked ≡ Some (commands.Run options) → run_part asked ≡ None → ⊥
+no_run : (options : RunOptions) (asked : Option Command) → asked ≡ Some (commands.Run options) → run_part asked ≡ None → ⊥
 no_run options asked is none = let runs : run_part asked ≡ Some (commands.Run options) = ap run_part is in cc
 
 no_load : (load : LoadOptions) (asked : Option Command) → asked ≡ Some (commands.Load load) → run_part asked ≡ None → ⊥

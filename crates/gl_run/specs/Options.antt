@@ -1,5 +1,5 @@
 -- The options of the commands that run a program, by the words that give them.
-use Rattle.std.specs.Prelude.{◌≡◌, ◌≤◌, ◌+◌, ◌==◌, ◌&&◌, ℕ, Bool, List, [], ◌∷◌, Option, Some, None, bytes_eq, codes, length, take, drop, nat_lt, nat_le, is_none, option_and_then, option_map, unwrap_or, if◌then◌else◌}
+use Rattle.std.specs.Prelude.{◌≡◌, ◌≤◌, ◌+◌, ◌==◌, ◌&&◌, ℕ, Bool, true, false, not, List, [], ◌∷◌, Option, Some, None, bytes_eq, codes, length, take, drop, nat_lt, nat_le, is_none, option_and_then, option_map, unwrap_or, if◌then◌else◌}
 use Rattle.std.specs.List.{position}
 use Rattle.gl_gen.specs.declared.accounts.TheConstants.{MOST_TRANSFERS}
 use Rattle.gl_segments.specs.declared.Ring.{Ring}
@@ -9,6 +9,7 @@ use Rattle.gl_threads.specs.declared.options.Options.{Options}
 use Rattle.gl_run.specs.declared.options.Given.{Given}
 use Rattle.gl_run.specs.declared.options.Limits.{Limits}
 use Rattle.gl_run.specs.declared.options.LoadOptions.{LoadOptions}
+use Rattle.gl_run.specs.declared.options.RunOptions.{RunOptions}
 use Rattle.gl_run.specs.declared.options.NumberOption.{NumberOption}
 use Rattle.gl_run.specs.declared.options.NumberOption.TheVariants.{Workers, Steps, Segments, Cells, Size}
 use Rattle.gl_run.specs.declared.options.TheConstants.{DEFAULT_STEPS, DEFAULT_WORKERS, MOST_DIGITS, MOST_STEPS, MOST_WORKERS}
@@ -50,7 +51,7 @@ with_number Cells n g = record g { cells = Some n }
 with_number Size n g = record g { size = Some n }
 
 abbrev pub nothing_given : Given
-nothing_given = record { workers = None; steps = None; segments = None; cells = None; size = None }
+nothing_given = record { workers = None; steps = None; segments = None; cells = None; size = None; journal = false }
 
 -- ## What each command makes of them
 
@@ -63,12 +64,12 @@ abbrev pub options_of : Given → Options
 options_of g = record { workers = unwrap_or g.workers DEFAULT_WORKERS; steps = unwrap_or g.steps DEFAULT_STEPS; ring = ring_of g }
 
 -- a run takes no size
-abbrev pub run_of : Given → Option Options
-run_of g = if is_none g.size then Some (options_of g) else None
+abbrev pub run_of : Given → Option RunOptions
+run_of g = if is_none g.size then Some (record { threads = options_of g; journal = g.journal }) else None
 
 -- no option is given that a load does not take
 abbrev pub suits_load : Given → Bool
-suits_load g = is_none g.steps && is_none g.segments && is_none g.cells
+suits_load g = is_none g.steps && is_none g.segments && is_none g.cells && not g.journal
 
 abbrev pub load_with : Given → ℕ → LoadOptions
 load_with g size = record { size = size; workers = unwrap_or g.workers DEFAULT_WORKERS }
@@ -109,6 +110,17 @@ give o n g = elim (given_for o g) [ None ↦ Some (with_number o n g) | Some m �
 abbrev pub give_named : Given → Word → Word → Option Given
 give_named g name word = option_and_then (λ o. option_and_then (λ n. give o n g) (number_of o word)) (option_named name)
 
+-- the option without a number
+abbrev pub is_journal : Word → Bool
+is_journal name = bytes_eq name (codes "journal")
+
+abbrev pub give_journal : Given → Option Given
+give_journal g = if g.journal then None else Some (record g { journal = true })
+
+-- what a name says with no number
+abbrev pub give_alone : Given → Word → Option Given
+give_alone g name = if is_journal name then give_journal g else None
+
 abbrev pub is_equals : ℕ → Bool
 is_equals byte = byte == 61
 
@@ -120,18 +132,20 @@ name_and_number text = elim (position is_equals text) [ None ↦ (text, None) | 
 abbrev pub named : Word → Option (Word × Option Word)
 named word = if bytes_eq (take 2 word) (codes "--") then Some (name_and_number (drop 2 word)) else None
 
--- the numbers that the words give behind those that are given: `--NAME=NUMBER` in one word or `--NAME NUMBER` in two, each option at most once,
--- in any order
+-- what the words give behind what is given: `--NAME=NUMBER` in one word or `--NAME NUMBER` in two, or the name alone of the option without a number;
+-- each option at most once, in any order
 abbrev pub read_options : Given → List Word → Option Given
 read_options g [] = Some g
-read_options g (word ∷ []) = option_and_then (λ p. option_and_then (λ number. give_named g p.0 number) p.1) (named word)
+read_options g (word ∷ []) = option_and_then (λ p. elim p.1 [ Some number ↦ give_named g p.0 number | None ↦ give_alone g p.0 ]) (named word)
 read_options g (word ∷ next ∷ rest) = option_and_then (λ p. elim p.1 [
   | Some number ↦ option_and_then (λ more. read_options more (next ∷ rest)) (give_named g p.0 number)
-  | None ↦ option_and_then (λ more. read_options more rest) (give_named g p.0 next)
+  | None ↦
+      if is_journal p.0 then option_and_then (λ more. read_options more (next ∷ rest)) (give_journal g)
+      else option_and_then (λ more. read_options more rest) (give_named g p.0 next)
 ]) (named word)
 
 -- the options that the words of a run say
-abbrev pub run_options : List Word → Option Options
+abbrev pub run_options : List Word → Option RunOptions
 run_options words = option_and_then run_of (read_options nothing_given words)
 
 -- the options that the words of a load say

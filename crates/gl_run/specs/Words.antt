@@ -2,14 +2,14 @@
 use Rattle.std.specs.Prelude.{ℕ, List, [], ◌∷◌, Option, Some, None, bytes_eq, codes, if◌then◌else◌}
 use Rattle.gl_asm.specs.declared.limits.TheConstants.{LONGEST}
 use Rattle.gl_threads.specs.Options.{AreOptions}
-use Rattle.gl_threads.specs.declared.options.Options.{Options}
 use Rattle.gl_trace.specs.declared.limits.TheConstants.{TRACE_BYTES}
 use Rattle.gl_run.specs.declared.words.Command.{Command}
 use Rattle.gl_run.specs.declared.words.Command.TheVariants as commands
 use Rattle.gl_run.specs.Options.{IsLoad, Word, load_options, run_options}
 use Rattle.gl_run.specs.declared.options.LoadOptions.{LoadOptions}
+use Rattle.gl_run.specs.declared.options.RunOptions.{RunOptions}
 
-abbrev pub as_run : Option Options → Option Command
+abbrev pub as_run : Option RunOptions → Option Command
 as_run None = None
 as_run (Some options) = Some (commands.Run options)
 
@@ -21,7 +21,7 @@ as_load (Some load) = Some (commands.Load load)
 abbrev pub HasLimits : Command → Type 0
 HasLimits commands.Check = Unit {0}
 HasLimits commands.List = Unit {0}
-HasLimits (commands.Run options) = AreOptions options
+HasLimits (commands.Run options) = AreOptions options.threads
 HasLimits (commands.Load load) = IsLoad load
 
 -- a command without options

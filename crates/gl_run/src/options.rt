@@ -4,7 +4,7 @@ ghost use Rattle.std.specs.List.{position};
 ghost use Rattle.gl_segments.specs.Rings.{IsRing};
 ghost use Rattle.gl_threads.specs.Options.{AreOptions};
 ghost use Rattle.gl_run.specs.declared.options.NumberOption.TheVariants.{Workers};
-ghost use Rattle.gl_run.specs.Options.{AreWithin, IsLoad, IsWithin, give, give_named, given_for, is_equals, limits_of, load_of, load_options, name_and_number, named, nothing_given, number_of, option_named, options_of, read_options, ring_of, run_of, run_options, suits_load, with_number, within};
+ghost use Rattle.gl_run.specs.Options.{AreWithin, IsLoad, IsWithin, give, give_alone, give_journal, give_named, given_for, is_equals, is_journal, limits_of, load_of, load_options, name_and_number, named, nothing_given, number_of, option_named, options_of, read_options, ring_of, run_of, run_options, suits_load, with_number, within};
 
 use gl_gen::MOST_TRANSFERS;
 use gl_segments::{LEAST_CELLS, LEAST_SEGMENTS, MOST_CELLS, MOST_SEGMENTS, Ring};
@@ -100,7 +100,14 @@ pub struct LoadOptions {
     pub workers: u8,
 }
 
-/// The numbers that are given.
+/// How a run is asked for: how its threads are run, and whether its record is written after the report.
+#[derive(Clone, Copy)]
+pub struct RunOptions {
+    pub threads: Options,
+    pub journal: bool,
+}
+
+/// The numbers that are given, and whether the option without a number is.
 #[derive(Clone, Copy, Debug, PartialEq, Eq)]
 pub struct Given {
     pub workers: Option<u32>,
@@ -108,6 +115,7 @@ pub struct Given {
     pub segments: Option<u32>,
     pub cells: Option<u32>,
     pub size: Option<u32>,
+    pub journal: bool,
 }
 
 impl Given {
@@ -121,6 +129,7 @@ impl Given {
             segments: None,
             cells: None,
             size: None,
+            journal: false,
         }
     }
 
@@ -214,14 +223,17 @@ impl Given {
         }
     }
 
-    // The options of a run, if these numbers are given to one: it takes no size.
-    fn run(self) -> Option<Options>
+    // The options of a run, if these are given to one: it takes no size.
+    fn run(self) -> Option<RunOptions>
         requires { AreWithin self }
         ensures value { result ≡ run_of self }
-        ensures valid { IfSome result AreOptions }
+        ensures valid { IfSome result (λ asked. AreOptions asked.threads) }
     {
         if self.size.is_none() {
-            Some(self.options())
+            Some(RunOptions {
+                threads: self.options(),
+                journal: self.journal,
+            })
         } else {
             None
         }
@@ -231,10 +243,10 @@ impl Given {
     fn suits_load(self) -> bool
         ensures { result ≡ suits_load self }
     {
-        self.steps.is_none() && self.segments.is_none() && self.cells.is_none()
+        self.steps.is_none() && self.segments.is_none() && self.cells.is_none() && !self.journal
     }
 
-    // The options of a load, if these numbers are given to one: it takes a size and workers alone, and needs the size.
+    // The options of a load, if these are given to one: it takes a size and workers alone, and needs the size.
     fn load(self) -> Option<LoadOptions>
         requires { AreWithin self }
         ensures value { result ≡ load_of self }
@@ -305,6 +317,41 @@ fn give_named(given: Given, name: &[u8], word: &[u8]) -> Option<Given>
     give(given, option, number)
 }
 
+// Whether it is the name of the option without a number.
+fn is_journal(name: &[u8]) -> bool
+    ensures { result ≡ is_journal name.now }
+{
+    matches!(name, b"journal")
+}
+
+// Asks for the journal, where it is not asked for yet.
+#[tactic(auto, using(crate::proofs::OptionWords::journal_within))]
+fn give_journal(given: Given) -> Option<Given>
+    ensures value { result ≡ give_journal given }
+    ensures within { AreWithin given → IfSome result AreWithin }
+{
+    if given.journal {
+        None
+    } else {
+        Some(Given {
+            journal: true,
+            ..given
+        })
+    }
+}
+
+// Gives what the name of an option says with no number.
+fn give_alone(given: Given, name: &[u8]) -> Option<Given>
+    ensures value { result ≡ give_alone given name.now }
+    ensures within { AreWithin given → IfSome result AreWithin }
+{
+    if is_journal(name) {
+        give_journal(given)
+    } else {
+        None
+    }
+}
+
 // The name that a word of the form `--NAME` or `--NAME=NUMBER` has, and what stands behind the first `=`.
 fn named(word: &[u8]) -> Option<(&[u8], Option<&[u8]>)>
     ensures { option_map (λ p. (p.0.now, option_map (λ v. v.now) p.1)) result ≡ named word.now }
@@ -332,7 +379,7 @@ fn equals_at(text: &[u8]) -> Option<usize>
     text.iter().position(|byte| *byte == b'=')
 }
 
-// The numbers that the words give, each option at most once, in any order.
+// What the words give, each option at most once, in any order.
 fn read_options(given: Given, words: &[String]) -> Option<Given>
     ensures value { result ≡ read_options given (map string_bytes words.now) }
     ensures within { AreWithin given → IfSome result AreWithin }
@@ -341,20 +388,26 @@ fn read_options(given: Given, words: &[String]) -> Option<Given>
         [] => Some(given),
         [word] => match named(word.as_bytes())? {
             (name, Some(number)) => give_named(given, name, number),
-            (_, None) => None,
+            (name, None) => give_alone(given, name),
         },
         [word, next, rest @ ..] => match named(word.as_bytes())? {
             (name, Some(number)) => read_options(give_named(given, name, number)?, &words[1..]),
-            (name, None) => read_options(give_named(given, name, next.as_bytes())?, rest),
+            (name, None) => {
+                if is_journal(name) {
+                    read_options(give_journal(given)?, &words[1..])
+                } else {
+                    read_options(give_named(given, name, next.as_bytes())?, rest)
+                }
+            }
         },
     }
 }
 
 /// The options that the words of a run say.
 #[tactic(auto, using(crate::proofs::OptionWords::none_within))]
-pub fn run_options(words: &[String]) -> Option<Options>
+pub fn run_options(words: &[String]) -> Option<RunOptions>
     ensures value { result ≡ run_options (map string_bytes words.now) }
-    ensures valid { IfSome result AreOptions }
+    ensures valid { IfSome result (λ asked. AreOptions asked.threads) }
 {
     match read_options(Given::nothing(), words) {
         Some(given) => given.run(),

@@ -15,7 +15,7 @@ use crate::check::check;
 use crate::keep::Keep;
 use crate::listed::list;
 use crate::load::load;
-use crate::options::LoadOptions;
+use crate::options::{LoadOptions, RunOptions};
 use crate::output::usage;
 use crate::page::{Page, Stop, refused};
 use crate::run::run;
@@ -24,7 +24,7 @@ use crate::words::{Command, PROGRAM_BYTES};
 use gl_io::{ReadStop, Source, read_all};
 use gl_shortcut::Cuts;
 use gl_text::kinds::TOO_LONG;
-use gl_threads::{Gate, Options};
+use gl_threads::Gate;
 use std::alloc::{AllocError, Global};
 use std::sync::Wait;
 use std::thread::Threads;
@@ -101,21 +101,21 @@ pub fn text_reply<S: Source>(
 fn run_reply<S: Source, G: Gate, R: Threads + Wait + Sync>(
     rt: &R,
     alloc: Global,
-    options: Options,
+    asked: RunOptions,
     source: &mut S,
     cuts: &Cuts,
     gate: &G,
 ) -> Result<Page, Stop>
-    requires { AreOptions options }
-    ensures cause { ReplyCause (Some (commands.Run options)) (S.faults source.old) (S.faults source.new) result }
+    requires { AreOptions asked.threads }
+    ensures cause { ReplyCause (Some (commands.Run asked)) (S.faults source.old) (S.faults source.new) result }
     ensures accepted { IfOk result (λ p. IsAccepted p.status → IsAtEnd (S.left source.new)) }
     ensures read { OnOk result (HasRead LONGEST (S.left source.old) (S.left source.new)) }
-    ensures page { (keep : Keep) → IfOk result (RepliesTo keep (Some (commands.Run options)) (S.left source.old)) }
+    ensures page { (keep : Keep) → IfOk result (RepliesTo keep (Some (commands.Run asked)) (S.left source.old)) }
 {
     match read_all(alloc, source, PROGRAM_BYTES) {
-        Ok(input) => run(rt, alloc, &input, &options, cuts, gate).map_err(|_| Stop::Memory),
+        Ok(input) => run(rt, alloc, &input, asked, cuts, gate).map_err(|_| Stop::Memory),
         Err(ReadStop::TooLong) => {
-            answer_longer(alloc, Command::Run(options)).map_err(|_| Stop::Memory)
+            answer_longer(alloc, Command::Run(asked)).map_err(|_| Stop::Memory)
         }
         Err(ReadStop::Fault) => Err(Stop::Read),
         Err(ReadStop::Memory(_)) => Err(Stop::Memory),

@@ -34,7 +34,7 @@ fn checked<R: Threads + Wait + Sync>(
 ) -> Result<(u8, bool), Fail> {
     let bytes = input.as_bytes().to_vec(alloc)?;
     let mut source = MemorySource::new(bytes, source_fails.to_vec(alloc)?, 8);
-    let mut sink = match MemorySink::new(alloc, 100, sink_fails.to_vec(alloc)?, 4) {
+    let mut sink = match MemorySink::new(alloc, 200, sink_fails.to_vec(alloc)?, 4) {
         Ok(sink) => sink,
         Err((_, refused)) => return Err(Fail::from(refused)),
     };
@@ -144,8 +144,14 @@ const FORKS: &str =
 fn runs(rt: HostRuntime) -> Result<(), Fail> {
     let one = "func main 0 0\n  push 5\n  print\n  halt\n";
     let two = "func main 0 0\npush 1\nprint\npush 2\nprint\nhalt\n";
-    let rows: [(&[&str], &str, u8, &str); 7] = [
+    let rows: [(&[&str], &str, u8, &str); 8] = [
         (&["goldi", "run"], one, 0, "out 5\nend 0 halt\nraces 0\n"),
+        (
+            &["goldi", "run", "--journal", "--steps", "7"],
+            one,
+            0,
+            "out 5\nend 0 halt\nraces 0\nrecord 1 7\nthread 0\nsync 0 begin 0 0\nsync 1 print 0 5\nsync 2 end 0 0\nover halt\ndone\n",
+        ),
         (
             &["goldi", "run", "--steps=3"],
             one,
@@ -204,7 +210,7 @@ fn runs(rt: HostRuntime) -> Result<(), Fail> {
 // Each row: the options of a run, and the status. The text is refused, so nothing is run.
 #[test]
 fn options(rt: HostRuntime) -> Result<(), Fail> {
-    let rows: [(&[&str], u8); 19] = [
+    let rows: [(&[&str], u8); 26] = [
         (&["goldi", "run"], 4),
         (&["goldi", "run", "--workers", "1"], 4),
         (&["goldi", "run", "--workers=16", "--steps=1000000"], 4),
@@ -234,6 +240,16 @@ fn options(rt: HostRuntime) -> Result<(), Fail> {
         (&["goldi", "run", "--workers", "00000004"], 1),
         (&["goldi", "list", "--workers", "2"], 1),
         (&["goldi", "run", "--size", "3"], 1),
+        (&["goldi", "run", "--journal"], 4),
+        (
+            &["goldi", "run", "--workers", "2", "--journal", "--steps=3"],
+            4,
+        ),
+        (&["goldi", "run", "--journal", "--journal"], 1),
+        (&["goldi", "run", "--journal", "1"], 1),
+        (&["goldi", "run", "--journal=1"], 1),
+        (&["goldi", "run", "--workers", "--journal"], 1),
+        (&["goldi", "load", "--size", "3", "--journal"], 1),
         (&["goldi", "load", "--size", "3", "--steps=2"], 1),
         (&["goldi", "load", "--size=10001"], 1),
     ];

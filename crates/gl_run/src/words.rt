@@ -2,8 +2,7 @@
 ghost use Rattle.std.specs.Prelude.{◌≡◌, IfSome, None, Some, string_bytes, map};
 ghost use Rattle.gl_run.specs.Words.{HasLimits, alone, command_named, command_of, most_of, run_command_of, run_part, text_command_of, text_part};
 
-use crate::options::{LoadOptions, load_options, run_options};
-use gl_threads::Options;
+use crate::options::{LoadOptions, RunOptions, load_options, run_options};
 use gl_trace::TRACE_BYTES;
 
 /// A command.
@@ -14,7 +13,7 @@ pub enum Command {
     /// Lists a program in its canonical form.
     List,
     /// Runs a program.
-    Run(Options),
+    Run(RunOptions),
     /// Makes a bank and runs it.
     Load(LoadOptions),
 }

@@ -9,7 +9,7 @@ use Rattle.gl_run.proofs.reply.run_reply.Goals as goal
 
 pub returns-in-Err-TooLong-clause-page : goal.returns-in-Err-TooLong-clause-page
 returns-in-Err-TooLong-clause-page g c = λ keep.
-    let command = commands.Run c.args.options in
+    let command = commands.Run c.args.asked in
     let left = g.S.Source.left c.args.source.now in
     let now = g.S.Source.left c.read_all.new.source in
     let long : IfSome left (λ xs. LONGEST < length xs) = search rules in
