@@ -15,9 +15,9 @@ use Rattle.gl_core.specs.Follows.{Follows, IsStepped}
 use Rattle.gl_core.specs.declared.detector.Detector.{Detector}
 use Rattle.gl_compare.specs.declared.compare.Tally.{Tally}
 use Rattle.gl_compare.specs.Counted.{AreJudged, one_trace, one_line, counted}
-use Rattle.gl_slow.specs.Follows.{Follows as FollowsPlainly, IsStepped as IsPlainlyStepped}
-use Rattle.gl_slow.specs.declared.judge.SlowJudge.{SlowJudge}
-use Rattle.gl_slow.proofs.Places.{get_kept}
+use Rattle.gl_reference.specs.Follows.{Follows as FollowsPlainly, IsStepped as IsPlainlyStepped}
+use Rattle.gl_reference.specs.declared.judge.SlowJudge.{SlowJudge}
+use Rattle.gl_reference.proofs.Places.{get_kept}
 
 -- both were given these steps, with right verdicts, and they were counted
 pub record AreGiven (steps : List Step) (d : Detector) (j : SlowJudge) (old new : Tally) : Type 0 where

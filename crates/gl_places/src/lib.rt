@@ -2,5 +2,7 @@
 #![tactic(auto)]
 
 mod place;
+mod uses;
 
 pub use place::Place;
+pub use uses::{Use, event_places, positions};

@@ -1,3 +1,0 @@
-pub mod Truths
-pub mod Marks
-pub mod CommitParts

@@ -1,5 +1,0 @@
-use Rattle.gl_closure.proofs.Truths.{eq_test, either}
-use Rattle.gl_closure.proofs.reach.leads.Goals as goal
-
-pub returns : goal.returns
-returns c = either _ _ _ _ (eq_test c.args.s.now.thread c.args.r.now.thread) c.synchronizes-edge.ensures

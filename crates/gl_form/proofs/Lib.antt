@@ -1,0 +1,12 @@
+pub mod Allowing
+pub mod Attempts
+pub mod Draws
+pub mod Exact
+pub mod Lasts
+pub mod Parted
+pub mod Parts
+pub mod Places
+pub mod Stable
+pub mod StableRight
+pub mod Stages
+pub mod Walks

@@ -1,0 +1,3 @@
+pub mod Come
+pub mod Passed
+pub mod Rules

@@ -1,0 +1,6 @@
+pub mod Pigeons
+pub mod UsesMade
+pub mod Gathered
+pub mod ListedLaw
+pub mod EventPlaces
+pub mod First

@@ -1,5 +1,0 @@
-pub mod Unions
-pub mod Places
-pub mod Bridge
-pub mod Growth
-pub mod Steps

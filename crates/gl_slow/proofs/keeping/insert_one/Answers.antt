@@ -1,5 +1,0 @@
-use Rattle.gl_slow.proofs.Unions.{inserted}
-use Rattle.gl_slow.proofs.keeping.insert_one.Goals as goal
-
-pub returns : goal.returns
-returns c = inserted c.insert.result c.args.var c.args.all.now c.insert.new.self c.insert.ensures.ok c.insert.ensures.full

@@ -1,7 +1,0 @@
-use Rattle.gl_draws.proofs.EntryKinds.{is_in-contains, contains-is_in}
-use Rattle.gl_model.specs.Trace.{is_in}
-use Rattle.gl_slow.proofs.Unions.{same_bool}
-use Rattle.gl_slow.proofs.keeping.writes_to.Goals as goal
-
-pub returns : goal.returns
-returns c = same_bool c.has.result (is_in c.args.var c.args.writes.now) (λ e. contains-is_in c.args.var c.args.writes.now (c.has.ensures.0 e), λ e. c.has.ensures.1 (is_in-contains c.args.var c.args.writes.now e))

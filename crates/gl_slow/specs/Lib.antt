@@ -1,3 +1,0 @@
-pub mod Performed
-pub mod Lines
-pub mod Follows
