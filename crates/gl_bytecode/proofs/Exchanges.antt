@@ -1,8 +1,8 @@
 -- The entries of a list force its exchanges.
-use Rattle.std.proofs.Common.{◌≡◌, ℕ, ℤ, Bool, true, false, ◌==◌, ◌&&◌, ◌||◌, not, nat_lt, ◌<◌, if◌then◌else◌, List, [], ◌∷◌, map, Option, Some, None, refl, sym, ◌∙◌, ap, is_some, is_none, rules, arith}
+use Rattle.std.proofs.Common.{◌≡◌, ℕ, ℤ, Bool, true, false, ◌==◌, ◌&&◌, ◌||◌, not, nat_lt, ◌<◌, if◌then◌else◌, List, [], ◌∷◌, Option, Some, None, refl, sym, ◌∙◌, ap, is_some, is_none, rules, arith}
 use Rattle.std.specs.Option.{option_and_then}
 use Rattle.std.proofs.lemmas.Bool.{eqb-true}
-use Rattle.gl_model.specs.Entries.{Entry, Sync, Commit as Committed, Plain, Abort, Trim, Over as Ended}
+use Rattle.gl_model.specs.Entries.{Sync, Commit as Committed, Plain, Abort, Trim, Over as Ended}
 use Rattle.gl_model.specs.declared.event.Act.{Act}
 use Rattle.gl_model.specs.declared.limits.TheConstants.{TX_VARIABLES}
 use Rattle.gl_model.specs.declared.tx.Tx.{Tx}
@@ -17,20 +17,20 @@ use Rattle.gl_bytecode.specs.Machine.{Attempt, next, takes, ask_of}
 use Rattle.gl_bytecode.specs.Programs.{Bytecode}
 use Rattle.gl_bytecode.specs.Runs.{Exchange, Made, Quiet, Progress, entries_of, is_its_end, is_quiet, is_quiet_within, is_word, known_word, knows, looks_after, writes_after, reply_of, reply_of_abort, reply_of_act, reply_of_commit, reply_of_plain, told, told_one, touched, when, with_word, word_of}
 use Rattle.gl_bytecode.proofs.Answers.{one_way}
-use Rattle.gl_bytecode.specs.Forced.{EndsMade}
+use Rattle.gl_bytecode.specs.Forced.{EndsMade, looks_of, word_ahead}
 use Rattle.gl_bytecode.proofs.RunningAttempts.{IsNoEnd, next_lives}
 use Rattle.gl_bytecode.proofs.AttemptWords.{word_put, word_kept, one_int, words_same, none_known, some_known, not_known}
 
 -- ## One exchange
 
-record Told (P : Bytecode) (x : Exchange) (p q : Progress) : Type 0 where
-  reply : Reply
-  gives : reply_of p (ask_of p.config.stage) x ≡ Some reply
-  fits : takes p.config reply ≡ true
-  config : q.config ≡ next P p.config reply
-  looks : q.looks ≡ looks_after p (ask_of p.config.stage) reply
+pub record Told (P : Bytecode) (x : Exchange) (p q : Progress) : Type 0 where
+  pub reply : Reply
+  pub gives : reply_of p (ask_of p.config.stage) x ≡ Some reply
+  pub fits : takes p.config reply ≡ true
+  pub config : q.config ≡ next P p.config reply
+  pub looks : q.looks ≡ looks_after p (ask_of p.config.stage) reply
 
-told_of : (P : Bytecode) (x : Exchange) (p q : Progress) → told_one P x p ≡ Some q → Told P x p q
+pub told_of : (P : Bytecode) (x : Exchange) (p q : Progress) → told_one P x p ≡ Some q → Told P x p q
 told_of P x p q is = by_reply (reply_of p (ask_of p.config.stage) x) refl where
   made : Reply → Progress
   made r = record {
@@ -50,41 +50,28 @@ told_of P x p q is = by_reply (reply_of p (ask_of p.config.stage) x) refl where
   by_reply None none = (let e : told_one P x p ≡ None = rw none refl in cc)
   by_reply (Some r) gives = by_test r (takes p.config r) gives refl
 
-record Parts (P : Bytecode) (x : Exchange) (xs : List Exchange) (p q : Progress) : Type 0 where
-  mid : Progress
-  first : told_one P x p ≡ Some mid
-  rest : told P mid xs ≡ Some q
+pub record Parts (P : Bytecode) (x : Exchange) (xs : List Exchange) (p q : Progress) : Type 0 where
+  pub mid : Progress
+  pub first : told_one P x p ≡ Some mid
+  pub rest : told P mid xs ≡ Some q
 
-told_cons : (P : Bytecode) (x : Exchange) (xs : List Exchange) (p q : Progress) → told P p (x ∷ xs) ≡ Some q → Parts P x xs p q
+pub told_cons : (P : Bytecode) (x : Exchange) (xs : List Exchange) (p q : Progress) → told P p (x ∷ xs) ≡ Some q → Parts P x xs p q
 unfolding told
 told_cons P x xs p q is = by_first (told_one P x p) refl is where
   by_first : (o : Option Progress) → told_one P x p ≡ o → option_and_then (λ m. told P m xs) o ≡ Some q → Parts P x xs p q
   by_first None first rest = cc
   by_first (Some m) first rest = record { mid = m; first = first; rest = rest }
 
-told_none : (P : Bytecode) (p q : Progress) → told P p [] ≡ Some q → p ≡ q
+pub told_none : (P : Bytecode) (p q : Progress) → told P p [] ≡ Some q → p ≡ q
 unfolding told
 told_none P p q is = cc
 
 -- a reply that stands where a test holds
-when_true : (t : Bool) (r s : Reply) → when t r ≡ Some s → (t ≡ true) × (r ≡ s)
+pub when_true : (t : Bool) (r s : Reply) → when t r ≡ Some s → (t ≡ true) × (r ≡ s)
 when_true true r s is = (refl, cc)
 when_true false r s is = cc
 
 -- ## The words of an attempt are those of its end
-
--- what the next commit or abort of the list looked at in x
-abbrev looks_of : Tx → List (ℕ × ℤ)
-looks_of tx = map (λ l. (l.var, l.value)) tx.looks
-
-abbrev word_ahead : List Entry → ℕ → Option ℤ
-word_ahead [] x = None
-word_ahead (Sync at act value ∷ es) x = word_ahead es x
-word_ahead (Committed at tx ∷ es) x = word_of (looks_of tx) x
-word_ahead (Plain var nth cached write value raised ∷ es) x = word_ahead es x
-word_ahead (Abort tx why ∷ es) x = word_of (looks_of tx) x
-word_ahead (Trim low ∷ es) x = word_ahead es x
-word_ahead (Ended ending ∷ es) x = word_ahead es x
 
 first_of : (a b : Bool) → (a && b) ≡ true → a ≡ true
 first_of true b is = refl
@@ -285,7 +272,7 @@ go_only p (Raise code) is = cc
 go_only p (Start f a) is = cc
 go_only p Retry is = cc
 
-outside_only : (p : Progress) (ask : Ask) (r : Reply) → is_quiet None p ask r ≡ true → r ≡ Gone
+pub outside_only : (p : Progress) (ask : Ask) (r : Reply) → is_quiet None p ask r ≡ true → r ≡ Gone
 outside_only p ask Gone is = refl
 outside_only p Go (Value z) is = cc
 outside_only p TxBegin (Value z) is = cc
@@ -442,7 +429,7 @@ quiet_same p (Some a) ask r s look first second = inside_same p ask r s (look a 
 
 module _ (P : Bytecode) where
   -- what an unknown word is, by what follows
-  word_told :
+  pub word_told :
       (x : ℕ) (a : ℤ) (at : Attempt) (xs : List Exchange) (p m q : Progress) → p.config.attempt ≡ Some at → ask_of p.config.stage ≡ Read x →
       known_word (word_of p.writes x) (word_of p.looks x) ≡ None → told_one P (Quiet (Value a)) p ≡ Some m → told P m xs ≡ Some q →
       q.config.attempt ≡ None → word_ahead (entries_of xs) x ≡ Some a

@@ -8,6 +8,8 @@ mod last;
 mod laws;
 mod rights;
 mod stage;
+#[cfg(test)]
+mod tests;
 mod walk;
 
 pub use fault::form_fault;

@@ -1,0 +1,16 @@
+pub mod FlatOrder
+pub mod LastWords
+pub mod Walked
+pub mod Blocks
+pub mod FlatList
+pub mod FlatWords
+pub mod FlatRuns
+pub mod KeptEntries
+pub mod Tables
+pub mod Passing
+pub mod Members
+pub mod Gathering
+pub mod Search
+pub mod RightLooks
+pub mod OneHistory
+pub mod Faulty

@@ -1,0 +1,4 @@
+pub mod Words
+pub mod Walk
+pub mod Below
+pub mod Sorted

@@ -1,0 +1,10 @@
+pub mod Beginnings
+pub mod Driving
+pub mod Moving
+pub mod Peeling
+pub mod Quiet
+pub mod Stopping
+pub mod Threads
+pub mod Turning
+pub mod Unions
+pub mod WordLemmas
