@@ -21,8 +21,8 @@ def compare(what, wanted, came):
         failures.append(f"failed: {what}\n wanted: {wanted!r}\n came:   {came!r}")
 
 
-def goldi(command, text):
-    run = subprocess.run([os.path.join(TOP, "goldi"), command], input=text, stdout=subprocess.PIPE)
+def goldi(words, text):
+    run = subprocess.run([os.path.join(TOP, "goldi"), *words], input=text, stdout=subprocess.PIPE)
     return run.stdout.decode(), run.returncode
 
 
@@ -53,24 +53,25 @@ def check_kinds(guide):
     compare("the kinds of the guide", sorted(known), sorted(named))
     for command, (kind, name, _, cell, says) in told:
         compare(f"the guide's kind {kind}, {name}", kind, says.strip("`").split()[2])
-        compare(f"the guide's {cell} at {command}", (says.strip("`") + "\n", 4), goldi(command, text_of(cell)))
+        compare(f"the guide's {cell} at {command}", (says.strip("`") + "\n", 4), goldi([command], text_of(cell)))
 
 
-# each `$ ./goldi COMMAND < FILE` of a page, with the file of the repository, or else the text that is shown before it
+# each `$ ./goldi WORDS < FILE` of a page, with the file of the repository, or else the text that is shown before it; or `$ ./goldi WORDS`, with nothing
+# to read
 def check_sessions(page, said):
     shown = ""
     for kind, block in re.findall(r"^```(\w*)\n(.*?)^```$", said, re.M | re.S):
-        session = re.match(r"\$ \./goldi (\w+) < (\S+)\n", block)
+        session = re.match(r"\$ \./goldi ([^<\n]*\w)(?: < (\S+))?\n", block)
         if not session:
             shown = block
             continue
-        command, name = session.groups()
-        if os.path.exists(os.path.join(TOP, name)):
+        words, name = session.groups()
+        if name and os.path.exists(os.path.join(TOP, name)):
             compare(f"{name} in {page}", read(name), shown)
         wanted, _, status = block[session.end() :].partition("$ echo $?\n")
-        text, came = goldi(command, shown.encode())
-        compare(f"the session of {name} in {page}", wanted, text)
-        compare(f"the status of {name} in {page}", int(status or came), came)
+        text, came = goldi(words.split(), shown.encode() if name else b"")
+        compare(f"the session of {words} on {name} in {page}", wanted, text)
+        compare(f"the status of {words} on {name} in {page}", int(status or came), came)
 
 
 def check_embedding(guide):

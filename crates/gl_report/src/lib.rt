@@ -14,4 +14,4 @@ mod totals_tests;
 pub use entries::entries_of;
 pub use lines::is_raised;
 pub use page::{report, report_of_entries};
-pub use totals::summary;
+pub use totals::{summary, summary_of_entries};

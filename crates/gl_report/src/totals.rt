@@ -1,8 +1,9 @@
-ghost use Rattle.std.specs.Prelude.{◌≡◌, ◌++◌, IfOk, List, codes, count_by, option_to_list, string_bytes, Some, ℤ};
+ghost use Rattle.std.specs.Prelude.{◌≡◌, ◌++◌, IfOk, List, codes, count_by, map, option_to_list, string_bytes, Some, ℕ, ℤ};
 ghost use Rattle.std.specs.Fmt.{decimal, signed_decimal};
 ghost use Rattle.std.specs.List.{flat_map};
-ghost use Rattle.gl_model.specs.Entries.{seen};
+ghost use Rattle.gl_model.specs.Entries.{Entry as SeenEntry, seen};
 ghost use Rattle.gl_model.specs.Report.{entry_prints, is_commit, last_or_zero, line_of, summary_of};
+ghost use Rattle.gl_report.specs.ByThread.{by_thread};
 ghost use Rattle.gl_report.specs.Summary.{prints_at};
 
 use crate::entries::entries_of;
@@ -73,15 +74,22 @@ fn text_of(alloc: Global, total: i64, commits: usize, races: usize) -> Result<St
     Ok(text)
 }
 
-/// The summary of a record: the value that was printed last in the order of the list of events, or 0 where none was; how many commits
-/// there are; and how many races. The only error is want of memory.
+/// The summary of a record whose entries these are: the value that was printed last in the order of the list of events, or 0 where none
+/// was; how many commits there are; and how many races. The only error is want of memory.
+pub fn summary_of_entries(alloc: Global, entries: &[(u8, &Entry)]) -> Result<String, AllocError>
+    ensures { (made : List (ℕ × List SeenEntry)) → map (λ p. (p.0, seen p.1.now)) entries.now ≡ by_thread made → IfOk result (λ text. string_bytes text ≡ summary_of made) }
+{
+    let firsts = firsts(alloc, entries)?;
+    let total = total(&firsts);
+    let commits = commits(entries);
+    let races = races(entries);
+    text_of(alloc, total, commits, races)
+}
+
+/// The summary of a record. The only error is want of memory.
 pub fn summary(alloc: Global, made: &Record) -> Result<String, AllocError>
     ensures { IfOk result (λ text. string_bytes text ≡ summary_of made.now) }
 {
     let entries = entries_of(alloc, made)?;
-    let firsts = firsts(alloc, &entries)?;
-    let total = total(&firsts);
-    let commits = commits(&entries);
-    let races = races(&entries);
-    text_of(alloc, total, commits, races)
+    summary_of_entries(alloc, &entries)
 }

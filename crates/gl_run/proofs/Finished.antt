@@ -1,17 +1,16 @@
 -- What was to be written, and what came of writing it, tell what the top calls promise.
-use Rattle.std.proofs.Common.{arith, ◌≡◌, ℕ, List, Option, None, Some, Result, Ok, Err, IfOk, OnOk, refl, sym, subst, ◌∙◌, inl, inr, take}
+use Rattle.std.proofs.Common.{arith, ◌≡◌, ℕ, List, Option, None, Some, Result, Ok, Err, IfOk, OnOk, refl, sym, subst, ◌∙◌, inl, inr}
 use Rattle.std.specs.Prelude.{◌⊎◌}
-use Rattle.std.specs.Io.KnownBytes.{Appends, IsAtEnd}
-use Rattle.gl_run.specs.Command.{HasCauses, HasLeft, HasRead, HasWritten, IsAnswered, IsNoCommand, IsWhole, Replies, Serves}
+use Rattle.std.specs.Io.KnownBytes.{IsAtEnd}
+use Rattle.gl_run.specs.Command.{HasCauses, HasLeft, HasRead, IsAnswered, IsNoCommand, IsWhole, ReadsNothing, Replies, Serves}
 use Rattle.gl_run.specs.Finishing.{Finishes, IsCut, IsNothing, IsWritten}
 use Rattle.gl_run.specs.Replies.{IsAccepted, IsPageStatus, IsVerdict, RepliesTo, ReplyCause}
 use Rattle.gl_run.specs.Words.{most_of}
 use Rattle.gl_run.specs.declared.keep.Keep.{Keep}
-use Rattle.gl_run.specs.declared.kept.Kept.{Kept}
 use Rattle.gl_run.specs.declared.page.Page.{Page}
 use Rattle.gl_run.specs.declared.page.Stop.{Stop}
 use Rattle.gl_run.specs.declared.page.Stop.TheVariants.{Read, Memory}
-use Rattle.gl_run.specs.declared.status.TheConstants.{ALL_WELL, NO_COMMAND, READ_FAILED, WRITE_FAILED, REFUSED, NO_MEMORY, RACES, NOT_HALTED}
+use Rattle.gl_run.specs.declared.status.TheConstants.{NO_COMMAND, READ_FAILED, WRITE_FAILED, NO_MEMORY}
 use Rattle.gl_run.specs.declared.top.Answer.{Answer}
 use Rattle.gl_run.specs.declared.words.Command.{Command}
 use Rattle.gl_run.proofs.LongPrograms.{stopped}
@@ -34,6 +33,11 @@ usage_of asked s (inr some) is = absurd (no_usage_of s some.1 is)
 is_usage : (asked : Option Command) (s : ℕ) → IsPageStatus asked s → IsNoCommand asked → s ≡ NO_COMMAND
 is_usage asked s (inl none) asks = none.1
 is_usage asked s (inr some) asks = absurd (some.0 asks)
+
+-- nothing is read for words that are no command
+nothing_read : (asked : Option Command) → IsNoCommand asked → ReadsNothing asked
+nothing_read None none = refl
+nothing_read (Some command) none = absurd (cc none)
 
 -- all of a page is written under its status
 whole_of : (asked : Option Command) (s : ℕ) → IsPageStatus asked s → IsWhole s
@@ -65,7 +69,8 @@ module _ (asked : Option Command) (source_before source_now sink_before sink_now
       let status : IsPageStatus asked a.status = subst (IsPageStatus asked) (sym written.status_is) cause.1 in
       record {
         usage = usage_of asked a.status status;
-        no_usage = λ none. (inl (is_usage asked a.status status none), cause.0);
+        no_usage = λ none. inl (is_usage asked a.status status none);
+        unread = λ none. cause.0;
         read = λ is. absurd (no_stop asked a.status status (inl is));
         no_read = λ other. cause.0;
         write = λ is. absurd (no_stop asked a.status status (inr is));
@@ -73,7 +78,8 @@ module _ (asked : Option Command) (source_before source_now sink_before sink_now
       }
   page_causes p a cause (kept, inr cut) = record {
     usage = λ is. let other : WRITE_FAILED ≡ NO_COMMAND = not_two a.status WRITE_FAILED NO_COMMAND cut.status_is is in absurd (omega arith);
-    no_usage = λ none. (inr (inl cut.status_is), cause.0);
+    no_usage = λ none. inr (inl cut.status_is);
+    unread = λ none. cause.0;
     read = λ is. let other : WRITE_FAILED ≡ READ_FAILED = not_two a.status WRITE_FAILED READ_FAILED cut.status_is is in absurd (omega arith);
     no_read = λ other. cause.0;
     write = λ is. cut.faults;
@@ -85,7 +91,8 @@ module _ (asked : Option Command) (source_before source_now sink_before sink_now
   causes_of (Ok p) a cause done = page_causes p a cause done
   causes_of (Err Read) a cause done = record {
     usage = λ is. let other : READ_FAILED ≡ NO_COMMAND = not_two a.status READ_FAILED NO_COMMAND done.status_is is in absurd (omega arith);
-    no_usage = λ none. absurd (cause.0 none);
+    no_usage = λ none. absurd (cause.0 (nothing_read asked none));
+    unread = λ none. absurd (cause.0 none);
     read = λ is. cause;
     no_read = λ other. absurd (other done.status_is);
     write = λ is. let other : READ_FAILED ≡ WRITE_FAILED = not_two a.status READ_FAILED WRITE_FAILED done.status_is is in absurd (omega arith);
@@ -93,7 +100,8 @@ module _ (asked : Option Command) (source_before source_now sink_before sink_now
   }
   causes_of (Err Memory) a cause done = record {
     usage = λ is. let other : NO_MEMORY ≡ NO_COMMAND = not_two a.status NO_MEMORY NO_COMMAND done.status_is is in absurd (omega arith);
-    no_usage = λ none. (inr (inr done.status_is), cause);
+    no_usage = λ none. inr (inr done.status_is);
+    unread = λ none. cause;
     read = λ is. let other : NO_MEMORY ≡ READ_FAILED = not_two a.status NO_MEMORY READ_FAILED done.status_is is in absurd (omega arith);
     no_read = λ other. cause;
     write = λ is. let other : NO_MEMORY ≡ WRITE_FAILED = not_two a.status NO_MEMORY WRITE_FAILED done.status_is is in absurd (omega arith);
@@ -109,28 +117,29 @@ not_answered : (s stop : ℕ) → s ≡ stop → (stop ≡ READ_FAILED) ⊎ (sto
 not_answered s stop is one answered = grind arith
 
 module _ (asked : Option Command) (left left_now : Option (List ℕ)) (sink_before sink_now : ℕ) (before now : Option (List ℕ)) where
-  pub left_of : (r : Result Page Stop) (a : Answer) → (IsNoCommand asked → left_now ≡ left) → IfOk r (λ p. IsAccepted p.status → IsAtEnd left_now)
-      → ((command : Command) → asked ≡ Some command → OnOk r (HasRead (most_of command) left left_now)) → Finishes r a sink_before sink_now before now
+  pub left_of : (r : Result Page Stop) (a : Answer) → (ReadsNothing asked → left_now ≡ left)
+      → ((most : ℕ) → most_of asked ≡ Some most → IfOk r (λ p. IsAccepted p.status → IsAtEnd left_now))
+      → ((most : ℕ) → most_of asked ≡ Some most → OnOk r (HasRead most left left_now)) → Finishes r a sink_before sink_now before now
       → HasLeft asked left left_now a.status
   left_of (Ok p) a unread accepted read (kept, inl written) = record {
     unread = unread;
-    accepted = λ is. accepted (subst IsAccepted written.status_is is);
-    read = λ command is answered. read command is;
+    accepted = λ most reads is. accepted most reads (subst IsAccepted written.status_is is);
+    read = λ most reads answered. read most reads;
   }
   left_of (Ok p) a unread accepted read (kept, inr cut) = record {
     unread = unread;
-    accepted = λ is. absurd (not_accepted a.status WRITE_FAILED cut.status_is (inr (inl refl)) is);
-    read = λ command is answered. read command is;
+    accepted = λ most reads is. absurd (not_accepted a.status WRITE_FAILED cut.status_is (inr (inl refl)) is);
+    read = λ most reads answered. read most reads;
   }
   left_of (Err Read) a unread accepted read done = record {
     unread = unread;
-    accepted = λ is. absurd (not_accepted a.status READ_FAILED done.status_is (inl refl) is);
-    read = λ command is answered. absurd (not_answered a.status READ_FAILED done.status_is (inl refl) answered);
+    accepted = λ most reads is. absurd (not_accepted a.status READ_FAILED done.status_is (inl refl) is);
+    read = λ most reads answered. absurd (not_answered a.status READ_FAILED done.status_is (inl refl) answered);
   }
   left_of (Err Memory) a unread accepted read done = record {
     unread = unread;
-    accepted = λ is. absurd (not_accepted a.status NO_MEMORY done.status_is (inr (inr refl)) is);
-    read = λ command is answered. absurd (not_answered a.status NO_MEMORY done.status_is (inr refl) answered);
+    accepted = λ most reads is. absurd (not_accepted a.status NO_MEMORY done.status_is (inr (inr refl)) is);
+    read = λ most reads answered. absurd (not_answered a.status NO_MEMORY done.status_is (inr refl) answered);
   }
 
 -- ## What is written

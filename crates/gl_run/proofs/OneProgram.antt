@@ -1,21 +1,22 @@
--- The answer of `list` is settled, and that of a run by its record.
+-- The answer of `list` is settled, and those of a run and of a load by what is kept.
 use Rattle.std.proofs.Common.{◌≡◌, ℕ, ℤ, List, Option, None, Some, ap, sym, subst, ◌∙◌, inl, inr}
 use Rattle.std.specs.Prelude.{unwrap_or}
 use Rattle.gl_asm.specs.Listing.{listing}
 use Rattle.gl_asm.specs.Texts.{IsText, IsFirstFault}
 use Rattle.gl_bytecode.specs.Programs.{Bytecode, Draft, draft_of}
-use Rattle.gl_model.specs.Report.{report_of}
+use Rattle.gl_model.specs.Report.{summary_of}
 use Rattle.gl_table.specs.SealedView.{SealedView}
-use Rattle.gl_threads.specs.declared.options.Options.{Options}
-use Rattle.gl_run.specs.Laws.{ChecksAreOne, ListingsAreApart, ListingsAreOne, RepliesAreOne, RepliesAreTold, RunsAreApart, RunsAreLawful, RunsAreTold, IsKeptRun, IsOneAnswer, IsToldByKept}
+use Rattle.gl_run.specs.Laws.{ChecksAreOne, ListingsAreApart, ListingsAreOne, LoadsAreLawful, LoadsAreTold, RepliesAreOne, RepliesAreTold, RunsAreApart, RunsAreLawful, RunsAreTold, IsKeptLoad, IsKeptRun, IsOneAnswer, IsToldByKept}
 use Rattle.gl_run.specs.Listed.{AcceptsProgram, Refuses}
 use Rattle.gl_run.specs.Output.{refusal}
-use Rattle.gl_run.specs.Runs.{AcceptsRun, RefusesRun, run_status}
+use Rattle.gl_run.specs.Runs.{AcceptsRun, RefusesRun, run_status, run_text}
 use Rattle.gl_run.specs.Texts.{AnswersText}
 use Rattle.gl_run.specs.Words.{run_part}
 use Rattle.gl_run.specs.declared.keep.Keep.{Keep}
 use Rattle.gl_run.specs.declared.kept.Kept.{Kept}
 use Rattle.gl_run.specs.declared.kept.Kept.TheVariants.{Run}
+use Rattle.gl_run.specs.declared.options.LoadOptions.{LoadOptions}
+use Rattle.gl_run.specs.declared.options.RunOptions.{RunOptions}
 use Rattle.gl_run.specs.declared.words.Command.{Command}
 use Rattle.gl_run.specs.declared.words.Command.TheVariants as commands
 
@@ -63,12 +64,12 @@ module _ (apart : (text : List ℕ) (program : Bytecode) (inputs : List ℤ) (li
   pub runs_apart : RunsAreApart
   runs_apart options input s t a b j k one two = apart input one.program one.inputs two.line two.kind one.meaning two.fault
 
-  ran_same : (options : Options) (input : List ℕ) (s t : ℕ) (a b : List ℕ) (kept : Option Kept) → AcceptsRun options input s a kept → AcceptsRun options input t b kept → (s ≡ t) × (a ≡ b)
+  ran_same : (options : RunOptions) (input : List ℕ) (s t : ℕ) (a b : List ℕ) (kept : Option Kept) → AcceptsRun options input s a kept → AcceptsRun options input t b kept → (s ≡ t) × (a ≡ b)
   ran_same options input s t a b kept one two =
       let x = one.answer in
       let y = two.answer in
       let same : x.made ≡ y.made = same_kept x.made y.made kept x.kept_is y.kept_is in
-      (x.status_is ∙ ap (λ (m : SealedView). run_status m.entries) same ∙ sym y.status_is, x.bytes_are ∙ ap (λ (m : SealedView). report_of m.entries) same ∙ sym y.bytes_are)
+      (x.status_is ∙ ap (λ (m : SealedView). run_status m.entries) same ∙ sym y.status_is, x.bytes_are ∙ ap (λ (m : SealedView). run_text options m.entries) same ∙ sym y.bytes_are)
 
   pub runs_told : RunsAreTold
   runs_told options input s t a b kept one two =
@@ -100,9 +101,22 @@ runs_lawful options input s a made one =
             run = x.answer.run;
             status_is = x.answer.status_is;
             bytes_are = x.answer.bytes_are;
+            read_back = x.answer.read_back;
           })
       | inr refused ↦ absurd (refused_none made input s a refused)
     ]
+
+-- ## Loads
+
+pub loads_told : LoadsAreTold
+loads_told load s t a b kept one two =
+    let same : one.made ≡ two.made = same_kept one.made two.made kept one.kept_is two.kept_is in
+    (one.status_is ∙ ap (λ (m : SealedView). run_status m.entries) same ∙ sym two.status_is, one.bytes_are ∙ ap (λ (m : SealedView). summary_of m.entries) same ∙ sym two.bytes_are)
+
+pub loads_lawful : LoadsAreLawful
+loads_lawful load s a made one =
+    let same : one.made ≡ made = some_made made one.made one.kept_is in
+    subst (IsKeptLoad load s a) same (record { run = one.run; status_is = one.status_is; bytes_are = one.bytes_are })
 
 -- ## All commands
 
@@ -112,19 +126,24 @@ some_same c d asked one two = cc
 not_both : (c : Command) (asked : Option Command) → asked ≡ None → asked ≡ Some c → ⊥
 not_both c asked none some = cc
 
-no_run : (options : Options) (asked : Option Command) → asked ≡ Some (commands.Run options) → run_part asked ≡ None → ⊥
+no_run : (options : RunOptions) (asked : Option Command) → asked ≡ Some (commands.Run options) → run_part asked ≡ None → ⊥
 no_run options asked is none = let runs : run_part asked ≡ Some (commands.Run options) = ap run_part is in cc
 
-module _ (checks : ChecksAreOne) (listings : ListingsAreOne) (runs : RunsAreTold) where
+no_load : (load : LoadOptions) (asked : Option Command) → asked ≡ Some (commands.Load load) → run_part asked ≡ None → ⊥
+no_load load asked is none = let runs : run_part asked ≡ Some (commands.Load load) = ap run_part is in cc
+
+module _ (checks : ChecksAreOne) (listings : ListingsAreOne) (runs : RunsAreTold) (loads : LoadsAreTold) where
   texts_one : (keep : Keep) (asked : Option Command) (command : Command) (input : List ℕ) → asked ≡ Some command → run_part asked ≡ None → IsOneAnswer (AnswersText keep command input)
   texts_one keep asked commands.Check input is none = checks keep input
   texts_one keep asked commands.List input is none = listings input
   texts_one keep asked (commands.Run options) input is none = absurd (no_run options asked is none)
+  texts_one keep asked (commands.Load load) input is none = absurd (no_load load asked is none)
 
   texts_told : (keep : Keep) (command : Command) (input : List ℕ) → IsToldByKept (AnswersText keep command input)
   texts_told keep commands.Check input s t a b kept one two = let same = checks keep input s t a b kept kept one two in (same.0, same.1)
   texts_told keep commands.List input s t a b kept one two = let same = listings input s t a b kept kept one two in (same.0, same.1)
   texts_told keep (commands.Run options) input s t a b kept one two = runs options input s t a b kept one two
+  texts_told keep (commands.Load load) input s t a b kept one two = loads load s t a b kept one two
 
   pub replies_one : RepliesAreOne
   replies_one keep asked input none s t a b j k one two =

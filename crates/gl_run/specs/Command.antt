@@ -29,16 +29,21 @@ pub record AnswersCommand (keep : Keep) (asked : Option Command) (input : List �
 abbrev pub Replies : Keep → Option Command → List ℕ → ℕ → List ℕ → Option Kept → Type 0
 Replies keep asked input status bytes kept = AnswersUsage asked status bytes kept ⊎ AnswersCommand keep asked input status bytes kept
 
--- the words ask for nothing that is read
+-- the words are no command
 abbrev pub IsNoCommand : Option Command → Type 0
 IsNoCommand asked = asked ≡ None
 
+-- nothing is read for these words: they are no command, or one that reads nothing
+abbrev pub ReadsNothing : Option Command → Type 0
+ReadsNothing asked = most_of asked ≡ None
+
 -- the causes of a status, at each command: that of no command for such words, and those of a read and of a write that failed where the counts of the
--- source and the sink rose and never else
+-- source and the sink rose and never else; that of a read only for words for which something is read
 pub record HasCauses (asked : Option Command) (source_before source_now sink_before sink_now : ℕ) (status : ℕ) : Type 0 where
   pub usage : status ≡ NO_COMMAND → IsNoCommand asked
-  pub no_usage : IsNoCommand asked → ((status ≡ NO_COMMAND) ⊎ ((status ≡ WRITE_FAILED) ⊎ (status ≡ NO_MEMORY))) × (source_now ≡ source_before)
-  pub read : status ≡ READ_FAILED → (IsNoCommand asked → ⊥) × Rose source_before source_now
+  pub no_usage : IsNoCommand asked → (status ≡ NO_COMMAND) ⊎ ((status ≡ WRITE_FAILED) ⊎ (status ≡ NO_MEMORY))
+  pub unread : ReadsNothing asked → source_now ≡ source_before
+  pub read : status ≡ READ_FAILED → (ReadsNothing asked → ⊥) × Rose source_before source_now
   pub no_read : (status ≡ READ_FAILED → ⊥) → source_now ≡ source_before
   pub write : status ≡ WRITE_FAILED → Rose sink_before sink_now
   pub no_write : (status ≡ WRITE_FAILED → ⊥) → sink_now ≡ sink_before
@@ -70,9 +75,9 @@ pub record HasRead (most : ℕ) (before now : Option (List ℕ)) : Type 0 where
 abbrev pub IsAnswered : ℕ → Type 0
 IsAnswered status = (status ≡ ALL_WELL) ⊎ ((status ≡ WRITE_FAILED) ⊎ ((status ≡ REFUSED) ⊎ ((status ≡ RACES) ⊎ (status ≡ NOT_HALTED))))
 
--- what a source has left: all where the words ask for nothing; nothing where the input was accepted; and else what was not read of a text that is
+-- what a source has left: all where nothing is read for the words; nothing where an input was accepted; and else what was not read of a text that is
 -- too long
 pub record HasLeft (asked : Option Command) (before now : Option (List ℕ)) (status : ℕ) : Type 0 where
-  pub unread : IsNoCommand asked → now ≡ before
-  pub accepted : (status ≡ ALL_WELL) ⊎ ((status ≡ RACES) ⊎ (status ≡ NOT_HALTED)) → IsAtEnd now
-  pub read : (command : Command) → asked ≡ Some command → IsAnswered status → HasRead (most_of command) before now
+  pub unread : ReadsNothing asked → now ≡ before
+  pub accepted : (most : ℕ) → most_of asked ≡ Some most → (status ≡ ALL_WELL) ⊎ ((status ≡ RACES) ⊎ (status ≡ NOT_HALTED)) → IsAtEnd now
+  pub read : (most : ℕ) → most_of asked ≡ Some most → IsAnswered status → HasRead most before now

@@ -1,14 +1,17 @@
 -- That an answer is settled: by the words and the input, or by what is kept of a run.
-use Rattle.std.specs.Prelude.{◌≡◌, ℕ, ℤ, List, Option, Some, None}
+use Rattle.std.specs.Prelude.{◌≡◌, ℕ, ℤ, List, [], Option, Some, None}
 use Rattle.gl_asm.specs.Texts.{IsText}
 use Rattle.gl_bytecode.specs.Programs.{Bytecode}
-use Rattle.gl_model.specs.Report.{report_of}
+use Rattle.gl_gen.specs.Bank.{bank_program}
+use Rattle.gl_model.specs.Report.{summary_of}
 use Rattle.gl_run.specs.Check.{AcceptsTrace, ChecksText, RefusesTrace}
 use Rattle.gl_run.specs.Command.{Replies}
 use Rattle.gl_run.specs.Listed.{AcceptsProgram, ListsText, RefusesProgram}
 use Rattle.gl_table.specs.SealedView.{SealedView}
-use Rattle.gl_threads.specs.declared.options.Options.{Options}
-use Rattle.gl_run.specs.Runs.{AcceptsRun, IsRunOf, RefusesRun, RunsText, run_status}
+use Rattle.gl_run.specs.Loads.{AnswersLoad, bank_options}
+use Rattle.gl_run.specs.declared.options.LoadOptions.{LoadOptions}
+use Rattle.gl_run.specs.declared.options.RunOptions.{RunOptions}
+use Rattle.gl_run.specs.Runs.{AcceptsRun, IsReadBack, IsRunOf, RefusesRun, RunsText, run_status, run_text}
 use Rattle.gl_run.specs.Words.{run_part}
 use Rattle.gl_run.specs.declared.keep.Keep.{Keep}
 use Rattle.gl_run.specs.declared.kept.Kept.{Kept}
@@ -40,25 +43,39 @@ abbrev pub ListingsAreApart : Type 0
 ListingsAreApart = (input : List ℕ) (s t : ℕ) (a b : List ℕ) (j k : Option Kept) → AcceptsProgram input s a j → RefusesProgram input t b k → ⊥
 
 abbrev pub RunsAreTold : Type 0
-RunsAreTold = (options : Options) (input : List ℕ) → IsToldByKept (RunsText options input)
+RunsAreTold = (asked : RunOptions) (input : List ℕ) → IsToldByKept (RunsText asked input)
 
 abbrev pub RunsAreApart : Type 0
-RunsAreApart = (options : Options) (input : List ℕ) (s t : ℕ) (a b : List ℕ) (j k : Option Kept) → AcceptsRun options input s a j → RefusesRun input t b k → ⊥
+RunsAreApart = (asked : RunOptions) (input : List ℕ) (s t : ℕ) (a b : List ℕ) (j k : Option Kept) → AcceptsRun asked input s a j → RefusesRun input t b k → ⊥
 
 -- what is kept of a run is the closed table of a run of the program and the inputs that the text says, with these options; the status and the bytes are
 -- read off it
-pub record IsKeptRun (options : Options) (input : List ℕ) (status : ℕ) (bytes : List ℕ) (made : SealedView) : Type 0 where
+pub record IsKeptRun (asked : RunOptions) (input : List ℕ) (status : ℕ) (bytes : List ℕ) (made : SealedView) : Type 0 where
   pub program : Bytecode
   pub inputs : List ℤ
   pub meaning : IsText input program inputs
-  pub run : IsRunOf program inputs options made
+  pub run : IsRunOf program inputs asked.threads made
   pub status_is : status ≡ run_status made.entries
-  pub bytes_are : bytes ≡ report_of made.entries
+  pub bytes_are : bytes ≡ run_text asked made.entries
+  pub read_back : IsReadBack asked made.entries
 
 abbrev pub RunsAreLawful : Type 0
 RunsAreLawful =
-    (options : Options) (input : List ℕ) (status : ℕ) (bytes : List ℕ) (made : SealedView) → RunsText options input status bytes (Some (Run made))
-    → IsKeptRun options input status bytes made
+    (asked : RunOptions) (input : List ℕ) (status : ℕ) (bytes : List ℕ) (made : SealedView) → RunsText asked input status bytes (Some (Run made))
+    → IsKeptRun asked input status bytes made
+
+abbrev pub LoadsAreTold : Type 0
+LoadsAreTold = (load : LoadOptions) → IsToldByKept (AnswersLoad load)
+
+-- what is kept of a load is the closed table of a run of the bank of its size; the status and the bytes are read off it
+pub record IsKeptLoad (load : LoadOptions) (status : ℕ) (bytes : List ℕ) (made : SealedView) : Type 0 where
+  pub run : IsRunOf (bank_program load.size) [] (bank_options load) made
+  pub status_is : status ≡ run_status made.entries
+  pub bytes_are : bytes ≡ summary_of made.entries
+
+abbrev pub LoadsAreLawful : Type 0
+LoadsAreLawful =
+    (load : LoadOptions) (status : ℕ) (bytes : List ℕ) (made : SealedView) → AnswersLoad load status bytes (Some (Run made)) → IsKeptLoad load status bytes made
 
 -- ## All commands
 

@@ -10,4 +10,5 @@ pub mod Command
 pub mod Replies
 pub mod Finishing
 pub mod Runs
+pub mod Loads
 pub mod Laws

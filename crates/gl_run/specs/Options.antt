@@ -1,13 +1,17 @@
--- The options of `run`, by the words that give them.
-use Rattle.std.specs.Prelude.{◌≡◌, ◌≤◌, ◌+◌, ◌==◌, ◌&&◌, ℕ, Bool, List, [], ◌∷◌, Option, Some, None, bytes_eq, codes, length, take, drop, nat_lt, nat_le, option_and_then, option_map, unwrap_or, if◌then◌else◌}
+-- The options of the commands that run a program, by the words that give them.
+use Rattle.std.specs.Prelude.{◌≡◌, ◌≤◌, ◌+◌, ◌==◌, ◌&&◌, ℕ, Bool, true, false, not, List, [], ◌∷◌, Option, Some, None, bytes_eq, codes, length, take, drop, nat_lt, nat_le, is_none, option_and_then, option_map, unwrap_or, if◌then◌else◌}
 use Rattle.std.specs.List.{position}
+use Rattle.gl_gen.specs.declared.accounts.TheConstants.{MOST_TRANSFERS}
+use Rattle.gl_segments.specs.declared.Ring.{Ring}
 use Rattle.gl_segments.specs.declared.TheConstants.{LEAST_CELLS, LEAST_SEGMENTS, MOST_CELLS, MOST_SEGMENTS}
 use Rattle.gl_text.specs.Number.{magnitude_of}
 use Rattle.gl_threads.specs.declared.options.Options.{Options}
 use Rattle.gl_run.specs.declared.options.Given.{Given}
 use Rattle.gl_run.specs.declared.options.Limits.{Limits}
-use Rattle.gl_run.specs.declared.options.RunOption.{RunOption}
-use Rattle.gl_run.specs.declared.options.RunOption.TheVariants.{Workers, Steps, Segments, Cells}
+use Rattle.gl_run.specs.declared.options.LoadOptions.{LoadOptions}
+use Rattle.gl_run.specs.declared.options.RunOptions.{RunOptions}
+use Rattle.gl_run.specs.declared.options.NumberOption.{NumberOption}
+use Rattle.gl_run.specs.declared.options.NumberOption.TheVariants.{Workers, Steps, Segments, Cells, Size}
 use Rattle.gl_run.specs.declared.options.TheConstants.{DEFAULT_STEPS, DEFAULT_WORKERS, MOST_DIGITS, MOST_STEPS, MOST_WORKERS}
 
 abbrev pub Word : Type 0
@@ -15,74 +19,107 @@ Word = List ℕ
 
 -- ## The table: a row in each definition for each option
 
-abbrev pub option_named : Word → Option RunOption
+abbrev pub option_named : Word → Option NumberOption
 option_named name =
     if bytes_eq name (codes "workers") then Some Workers
     else if bytes_eq name (codes "steps") then Some Steps
     else if bytes_eq name (codes "segments") then Some Segments
     else if bytes_eq name (codes "cells") then Some Cells
+    else if bytes_eq name (codes "size") then Some Size
     else None
 
--- which numbers it takes, and its number where the words give none
-abbrev pub limits_of : RunOption → Limits
-limits_of Workers = record { least = 1; most = MOST_WORKERS; standard = DEFAULT_WORKERS }
-limits_of Steps = record { least = 1; most = MOST_STEPS; standard = DEFAULT_STEPS }
-limits_of Segments = record { least = LEAST_SEGMENTS; most = MOST_SEGMENTS; standard = MOST_SEGMENTS }
-limits_of Cells = record { least = LEAST_CELLS; most = MOST_CELLS; standard = MOST_CELLS }
+-- which numbers it takes
+abbrev pub limits_of : NumberOption → Limits
+limits_of Workers = record { least = 1; most = MOST_WORKERS }
+limits_of Steps = record { least = 1; most = MOST_STEPS }
+limits_of Segments = record { least = LEAST_SEGMENTS; most = MOST_SEGMENTS }
+limits_of Cells = record { least = LEAST_CELLS; most = MOST_CELLS }
+limits_of Size = record { least = 1; most = MOST_TRANSFERS }
 
-abbrev pub given_for : RunOption → Given → Option ℕ
+abbrev pub given_for : NumberOption → Given → Option ℕ
 given_for Workers g = g.workers
 given_for Steps g = g.steps
 given_for Segments g = g.segments
 given_for Cells g = g.cells
+given_for Size g = g.size
 
-abbrev pub with_number : RunOption → ℕ → Given → Given
+abbrev pub with_number : NumberOption → ℕ → Given → Given
 with_number Workers n g = record g { workers = Some n }
 with_number Steps n g = record g { steps = Some n }
 with_number Segments n g = record g { segments = Some n }
 with_number Cells n g = record g { cells = Some n }
+with_number Size n g = record g { size = Some n }
 
 abbrev pub nothing_given : Given
-nothing_given = record { workers = None; steps = None; segments = None; cells = None }
+nothing_given = record { workers = None; steps = None; segments = None; cells = None; size = None; journal = false }
 
--- the number that is given for an option, or else its standard
-abbrev pub number_or_standard : RunOption → Given → ℕ
-number_or_standard o g = unwrap_or (given_for o g) (limits_of o).standard
+-- ## What each command makes of them
 
+-- the ring: what is given of it, and else the greatest
+abbrev pub ring_of : Given → Ring
+ring_of g = record { segments = unwrap_or g.segments MOST_SEGMENTS; cells = unwrap_or g.cells MOST_CELLS }
+
+-- the options of a run: the numbers that are given, and else those that stand here
 abbrev pub options_of : Given → Options
-options_of g = record {
-  workers = number_or_standard Workers g;
-  steps = number_or_standard Steps g;
-  ring = record { segments = number_or_standard Segments g; cells = number_or_standard Cells g };
-}
+options_of g = record { workers = unwrap_or g.workers DEFAULT_WORKERS; steps = unwrap_or g.steps DEFAULT_STEPS; ring = ring_of g }
+
+-- a run takes no size
+abbrev pub run_of : Given → Option RunOptions
+run_of g = if is_none g.size then Some (record { threads = options_of g; journal = g.journal }) else None
+
+-- no option is given that a load does not take
+abbrev pub suits_load : Given → Bool
+suits_load g = is_none g.steps && is_none g.segments && is_none g.cells && not g.journal
+
+abbrev pub load_with : Given → ℕ → LoadOptions
+load_with g size = record { size = size; workers = unwrap_or g.workers DEFAULT_WORKERS }
+
+-- a load takes a size and workers alone, and needs the size
+abbrev pub load_of : Given → Option LoadOptions
+load_of g = if suits_load g then option_map (load_with g) g.size else None
 
 -- ## Numbers
 
-abbrev pub IsWithin : RunOption → ℕ → Type 0
+abbrev pub IsWithin : NumberOption → ℕ → Type 0
 IsWithin o n = ((limits_of o).least ≤ n) × (n ≤ (limits_of o).most)
 
 -- each number that is given is within its limits
 abbrev pub AreWithin : Given → Type 0
-AreWithin g = (o : RunOption) (n : ℕ) → given_for o g ≡ Some n → IsWithin o n
+AreWithin g = (o : NumberOption) (n : ℕ) → given_for o g ≡ Some n → IsWithin o n
+
+-- the size and the workers of a load are within their limits
+abbrev pub IsLoad : LoadOptions → Type 0
+IsLoad load = IsWithin Size load.size × IsWithin Workers load.workers
 
 -- the number, if the option takes it
-abbrev pub within : RunOption → Option ℕ → Option ℕ
+abbrev pub within : NumberOption → Option ℕ → Option ℕ
 within o None = None
 within o (Some n) = if nat_le (limits_of o).least n && nat_le n (limits_of o).most then Some n else None
 
 -- 1 to 7 digits
-abbrev pub number_of : RunOption → Word → Option ℕ
+abbrev pub number_of : NumberOption → Word → Option ℕ
 number_of o word = if nat_lt MOST_DIGITS (length word) then None else within o (magnitude_of word)
 
 -- ## Words
 
 -- a number for an option, where none is given for it yet
-abbrev pub give : RunOption → ℕ → Given → Option Given
+abbrev pub give : NumberOption → ℕ → Given → Option Given
 give o n g = elim (given_for o g) [ None ↦ Some (with_number o n g) | Some m ↦ None ]
 
 -- the number that a word says, for the option of this name
 abbrev pub give_named : Given → Word → Word → Option Given
 give_named g name word = option_and_then (λ o. option_and_then (λ n. give o n g) (number_of o word)) (option_named name)
+
+-- the option without a number
+abbrev pub is_journal : Word → Bool
+is_journal name = bytes_eq name (codes "journal")
+
+abbrev pub give_journal : Given → Option Given
+give_journal g = if g.journal then None else Some (record g { journal = true })
+
+-- what a name says with no number
+abbrev pub give_alone : Given → Word → Option Given
+give_alone g name = if is_journal name then give_journal g else None
 
 abbrev pub is_equals : ℕ → Bool
 is_equals byte = byte == 61
@@ -95,16 +132,22 @@ name_and_number text = elim (position is_equals text) [ None ↦ (text, None) | 
 abbrev pub named : Word → Option (Word × Option Word)
 named word = if bytes_eq (take 2 word) (codes "--") then Some (name_and_number (drop 2 word)) else None
 
--- the numbers that the words give behind those that are given: `--NAME=NUMBER` in one word or `--NAME NUMBER` in two, each option at most once,
--- in any order
+-- what the words give behind what is given: `--NAME=NUMBER` in one word or `--NAME NUMBER` in two, or the name alone of the option without a number;
+-- each option at most once, in any order
 abbrev pub read_options : Given → List Word → Option Given
 read_options g [] = Some g
-read_options g (word ∷ []) = option_and_then (λ p. option_and_then (λ number. give_named g p.0 number) p.1) (named word)
+read_options g (word ∷ []) = option_and_then (λ p. elim p.1 [ Some number ↦ give_named g p.0 number | None ↦ give_alone g p.0 ]) (named word)
 read_options g (word ∷ next ∷ rest) = option_and_then (λ p. elim p.1 [
   | Some number ↦ option_and_then (λ more. read_options more (next ∷ rest)) (give_named g p.0 number)
-  | None ↦ option_and_then (λ more. read_options more rest) (give_named g p.0 next)
+  | None ↦
+      if is_journal p.0 then option_and_then (λ more. read_options more (next ∷ rest)) (give_journal g)
+      else option_and_then (λ more. read_options more rest) (give_named g p.0 next)
 ]) (named word)
 
 -- the options that the words of a run say
-abbrev pub run_options : List Word → Option Options
-run_options words = option_map options_of (read_options nothing_given words)
+abbrev pub run_options : List Word → Option RunOptions
+run_options words = option_and_then run_of (read_options nothing_given words)
+
+-- the options that the words of a load say
+abbrev pub load_options : List Word → Option LoadOptions
+load_options words = option_and_then load_of (read_options nothing_given words)

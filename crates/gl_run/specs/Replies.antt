@@ -2,7 +2,7 @@
 use Rattle.std.specs.Prelude.{◌≡◌, ◌⊎◌, ℕ, List, Option, Result, Ok, Err}
 use Rattle.gl_io.specs.Faults.{Rose}
 use Rattle.gl_io.specs.Whole.{IsTaken}
-use Rattle.gl_run.specs.Command.{IsNoCommand, Replies}
+use Rattle.gl_run.specs.Command.{IsNoCommand, ReadsNothing, Replies}
 use Rattle.gl_run.specs.declared.keep.Keep.{Keep}
 use Rattle.gl_run.specs.declared.status.TheConstants.{ALL_WELL, NO_COMMAND, REFUSED, RACES, NOT_HALTED}
 use Rattle.gl_run.specs.declared.words.Command.{Command}
@@ -10,11 +10,11 @@ use Rattle.gl_run.specs.declared.page.Page.{Page}
 use Rattle.gl_run.specs.declared.page.Stop.{Stop}
 use Rattle.gl_run.specs.declared.page.Stop.TheVariants.{Read, Memory}
 
--- the statuses of a text that was read
+-- the statuses of a command that is answered
 abbrev pub IsVerdict : ℕ → Type 0
 IsVerdict status = (status ≡ ALL_WELL) ⊎ ((status ≡ REFUSED) ⊎ ((status ≡ RACES) ⊎ (status ≡ NOT_HALTED)))
 
--- those of a text that is accepted
+-- those of one whose text, if it reads one, is accepted
 abbrev pub IsAccepted : ℕ → Type 0
 IsAccepted status = (status ≡ ALL_WELL) ⊎ ((status ≡ RACES) ⊎ (status ≡ NOT_HALTED))
 
@@ -23,7 +23,7 @@ IsPageStatus asked status = (IsNoCommand asked × (status ≡ NO_COMMAND)) ⊎ (
 
 abbrev pub ReplyCause : Option Command → ℕ → ℕ → Result Page Stop → Type 0
 ReplyCause asked before now (Ok p) = (now ≡ before) × IsPageStatus asked p.status
-ReplyCause asked before now (Err Read) = (IsNoCommand asked → ⊥) × Rose before now
+ReplyCause asked before now (Err Read) = (ReadsNothing asked → ⊥) × Rose before now
 ReplyCause asked before now (Err Memory) = now ≡ before
 
 -- it is the page for some input, which is all that the source had left, where it tells that

@@ -1,5 +1,5 @@
 // Laws of the answers: each is settled.
-ghost use Rattle.gl_run.specs.Laws.{ChecksAreApart, ChecksAreOne, ListingsAreApart, ListingsAreOne, RepliesAreOne, RepliesAreTold, RunsAreApart, RunsAreLawful, RunsAreTold};
+ghost use Rattle.gl_run.specs.Laws.{ChecksAreApart, ChecksAreOne, ListingsAreApart, ListingsAreOne, LoadsAreLawful, LoadsAreTold, RepliesAreOne, RepliesAreTold, RunsAreApart, RunsAreLawful, RunsAreTold};
 
 /// A text has one answer of `check`, and is not both accepted and refused.
 pub fn checks_are_settled()
@@ -23,6 +23,12 @@ pub fn programs_are_settled()
     gl_asm::one_meaning();
 }
 
+/// A load's answer is told by the closed table that is kept, whose record is lawful for the bank of its size.
+pub fn loads_are_settled()
+    ensures told { LoadsAreTold }
+    ensures lawful { LoadsAreLawful }
+{}
+
 /// Words that run no program have one answer for each input: one status, one text, and one record that is kept. Whatever the words
 /// are, the status and the text are told by what is kept.
 pub fn answers_are_settled()
@@ -31,4 +37,5 @@ pub fn answers_are_settled()
 {
     checks_are_settled();
     programs_are_settled();
+    loads_are_settled();
 }

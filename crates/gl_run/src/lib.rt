@@ -6,6 +6,7 @@ mod keep;
 mod kept;
 mod laws;
 mod listed;
+mod load;
 mod options;
 mod output;
 mod page;
@@ -18,7 +19,7 @@ mod verdicts;
 mod words;
 
 pub use kept::Kept;
-pub use laws::{answers_are_settled, checks_are_settled, programs_are_settled};
+pub use laws::{answers_are_settled, checks_are_settled, loads_are_settled, programs_are_settled};
 pub use stated::{limits_are_stated, statuses_are_stated};
 pub use top::{Answer, goldi, goldi_run, goldi_text, goldi_without_trace};
 

@@ -1,9 +1,10 @@
 // What a command, or words that are none, and the input are answered.
-ghost use Rattle.std.specs.Prelude.{◌≡◌, IfOk, IfSome, OnOk, None, Some};
+ghost use Rattle.std.specs.Prelude.{◌≡◌, ℕ, List, Option, IfOk, IfSome, OnOk, None, Some};
 ghost use Rattle.std.specs.Io.KnownBytes.{IsAtEnd};
 ghost use Rattle.gl_asm.specs.declared.limits.TheConstants.{LONGEST};
 ghost use Rattle.gl_threads.specs.Options.{AreOptions};
-ghost use Rattle.gl_run.specs.Command.{HasRead, IsNoCommand};
+ghost use Rattle.gl_run.specs.Command.{HasRead, ReadsNothing};
+ghost use Rattle.gl_run.specs.Options.{IsLoad};
 ghost use Rattle.gl_run.specs.Output.{usage};
 ghost use Rattle.gl_run.specs.Replies.{IsAccepted, IsVerdict, ReplyCause, RepliesTo};
 ghost use Rattle.gl_run.specs.Texts.{AnswersText, AnswersLonger};
@@ -13,6 +14,8 @@ ghost use Rattle.gl_run.specs.declared.words.Command.TheVariants as commands;
 use crate::check::check;
 use crate::keep::Keep;
 use crate::listed::list;
+use crate::load::load;
+use crate::options::{LoadOptions, RunOptions};
 use crate::output::usage;
 use crate::page::{Page, Stop, refused};
 use crate::run::run;
@@ -21,7 +24,7 @@ use crate::words::{Command, PROGRAM_BYTES};
 use gl_io::{ReadStop, Source, read_all};
 use gl_shortcut::Cuts;
 use gl_text::kinds::TOO_LONG;
-use gl_threads::{Gate, Options};
+use gl_threads::Gate;
 use std::alloc::{AllocError, Global};
 use std::sync::Wait;
 use std::thread::Threads;
@@ -54,7 +57,7 @@ fn answer_text(
     match command {
         Command::Check => check(alloc, input, cuts, keep),
         Command::List => list(alloc, input),
-        Command::Run(_) => unreachable!(),
+        Command::Run(_) | Command::Load(_) => unreachable!(),
     }
 }
 
@@ -76,9 +79,9 @@ pub fn text_reply<S: Source>(
 ) -> Result<Page, Stop>
     requires { run_part asked ≡ None }
     ensures cause { ReplyCause asked (S.faults source.old) (S.faults source.new) result }
-    ensures unread { IsNoCommand asked → S.left source.new ≡ S.left source.old }
-    ensures accepted { IfOk result (λ p. IsAccepted p.status → IsAtEnd (S.left source.new)) }
-    ensures read { (command : Command) → asked ≡ Some command → OnOk result (HasRead (most_of command) (S.left source.old) (S.left source.new)) }
+    ensures unread { ReadsNothing asked → S.left source.new ≡ S.left source.old }
+    ensures accepted { (most : ℕ) → most_of asked ≡ Some most → IfOk result (λ p. IsAccepted p.status → IsAtEnd (S.left source.new)) }
+    ensures read { (most : ℕ) → most_of asked ≡ Some most → OnOk result (HasRead most (S.left source.old) (S.left source.new)) }
     ensures page { IfOk result (RepliesTo keep asked (S.left source.old)) }
 {
     match asked {
@@ -98,25 +101,40 @@ pub fn text_reply<S: Source>(
 fn run_reply<S: Source, G: Gate, R: Threads + Wait + Sync>(
     rt: &R,
     alloc: Global,
-    options: Options,
+    asked: RunOptions,
     source: &mut S,
     cuts: &Cuts,
     gate: &G,
 ) -> Result<Page, Stop>
-    requires { AreOptions options }
-    ensures cause { ReplyCause (Some (commands.Run options)) (S.faults source.old) (S.faults source.new) result }
+    requires { AreOptions asked.threads }
+    ensures cause { ReplyCause (Some (commands.Run asked)) (S.faults source.old) (S.faults source.new) result }
     ensures accepted { IfOk result (λ p. IsAccepted p.status → IsAtEnd (S.left source.new)) }
     ensures read { OnOk result (HasRead LONGEST (S.left source.old) (S.left source.new)) }
-    ensures page { (keep : Keep) → IfOk result (RepliesTo keep (Some (commands.Run options)) (S.left source.old)) }
+    ensures page { (keep : Keep) → IfOk result (RepliesTo keep (Some (commands.Run asked)) (S.left source.old)) }
 {
     match read_all(alloc, source, PROGRAM_BYTES) {
-        Ok(input) => run(rt, alloc, &input, &options, cuts, gate).map_err(|_| Stop::Memory),
+        Ok(input) => run(rt, alloc, &input, asked, cuts, gate).map_err(|_| Stop::Memory),
         Err(ReadStop::TooLong) => {
-            answer_longer(alloc, Command::Run(options)).map_err(|_| Stop::Memory)
+            answer_longer(alloc, Command::Run(asked)).map_err(|_| Stop::Memory)
         }
         Err(ReadStop::Fault) => Err(Stop::Read),
         Err(ReadStop::Memory(_)) => Err(Stop::Memory),
     }
+}
+
+// What a load with these options is answered. Nothing is read.
+fn load_reply<G: Gate, R: Threads + Wait + Sync>(
+    rt: &R,
+    alloc: Global,
+    options: LoadOptions,
+    cuts: &Cuts,
+    gate: &G,
+) -> Result<Page, Stop>
+    requires { IsLoad options }
+    ensures cause { (count : ℕ) → ReplyCause (Some (commands.Load options)) count count result }
+    ensures page { (keep : Keep) (left : Option (List ℕ)) → IfOk result (RepliesTo keep (Some (commands.Load options)) left) }
+{
+    load(rt, alloc, options, cuts, gate).map_err(|_| Stop::Memory)
 }
 
 // What a command, or words that are none, and all that the source has are answered.
@@ -131,13 +149,14 @@ pub fn reply<S: Source, G: Gate, R: Threads + Wait + Sync>(
 ) -> Result<Page, Stop>
     requires { IfSome asked HasLimits }
     ensures cause { ReplyCause asked (S.faults source.old) (S.faults source.new) result }
-    ensures unread { IsNoCommand asked → S.left source.new ≡ S.left source.old }
-    ensures accepted { IfOk result (λ p. IsAccepted p.status → IsAtEnd (S.left source.new)) }
-    ensures read { (command : Command) → asked ≡ Some command → OnOk result (HasRead (most_of command) (S.left source.old) (S.left source.new)) }
+    ensures unread { ReadsNothing asked → S.left source.new ≡ S.left source.old }
+    ensures accepted { (most : ℕ) → most_of asked ≡ Some most → IfOk result (λ p. IsAccepted p.status → IsAtEnd (S.left source.new)) }
+    ensures read { (most : ℕ) → most_of asked ≡ Some most → OnOk result (HasRead most (S.left source.old) (S.left source.new)) }
     ensures page { IfOk result (RepliesTo keep asked (S.left source.old)) }
 {
     match asked {
         Some(Command::Run(options)) => run_reply(rt, alloc, options, source, cuts, gate),
+        Some(Command::Load(options)) => load_reply(rt, alloc, options, cuts, gate),
         other => text_reply(alloc, other, source, cuts, keep),
     }
 }

@@ -1,25 +1,25 @@
 // The command `run`.
-ghost use Rattle.std.specs.Prelude.{◌≡◌, ℤ, List, IfOk, map};
+ghost use Rattle.std.specs.Prelude.{◌≡◌, ◌++◌, ℤ, List, IfOk, OnOk, map};
 ghost use Rattle.std.specs.List.{list_any};
 ghost use Rattle.gl_bytecode.specs.Programs.{Bytecode};
 ghost use Rattle.gl_model.specs.Entries.{seen};
-ghost use Rattle.gl_model.specs.Report.{report_of};
 ghost use Rattle.gl_report.specs.Lines.{is_raised};
 ghost use Rattle.gl_threads.specs.Options.{AreOptions};
-ghost use Rattle.gl_threads.specs.declared.options.Options.{Options as SeenOptions};
 ghost use Rattle.gl_run.specs.Replies.{IsVerdict};
-ghost use Rattle.gl_run.specs.Runs.{AnswersRun, IsRunOf, RunsText, entries_status, is_unhalted, run_status};
+ghost use Rattle.gl_run.specs.Runs.{AnswersRun, IsReadBack, IsRunOf, RunsText, entries_status, is_unhalted, journal_of, run_status, run_text};
 
 use crate::kept::Kept;
+use crate::options::RunOptions;
 use crate::page::{Page, refused};
 use crate::status::{ALL_WELL, NOT_HALTED, RACES};
 use gl_asm::{Assembled, assemble};
-use gl_model::{Ending, Entry};
+use gl_journal::write_record;
+use gl_model::{Ending, Entry, Record};
 use gl_report::{entries_of, is_raised, report_of_entries};
 use gl_shortcut::Cuts;
 use gl_table::Sealed;
 use gl_text::TextError;
-use gl_threads::{Gate, Options, run_program};
+use gl_threads::{Gate, run_program};
 use std::alloc::{AllocError, Global};
 use std::sync::Wait;
 use std::thread::Threads;
@@ -48,7 +48,7 @@ fn has_unhalted(entries: &[(u8, &Entry)]) -> bool
 
 // The status of a run that left these entries.
 #[tactic(auto, using(crate::proofs::Entries::any_map))]
-fn entries_status(entries: &[(u8, &Entry)]) -> u8
+pub(crate) fn entries_status(entries: &[(u8, &Entry)]) -> u8
     ensures value { result ≡ entries_status (map (λ p. seen p.1.now) entries.now) }
     ensures few { IsVerdict result }
 {
@@ -62,23 +62,42 @@ fn entries_status(entries: &[(u8, &Entry)]) -> u8
     }
 }
 
-// The status and the report of a run that left this table. Its entries are laid out once.
-fn told(alloc: Global, sealed: &Sealed) -> Result<(u8, Vec<u8>), AllocError>
+// Adds the journal of a run that left this record, where it is asked for.
+fn add_journal(
+    alloc: Global,
+    text: &mut Vec<u8>,
+    asked: RunOptions,
+    made: &Record,
+) -> Result<(), AllocError>
+    ensures text { OnOk result (text.new.items ≡ text.old.items ++ journal_of asked made.now) }
+    ensures read_back { OnOk result (IsReadBack asked made.now) }
+{
+    if asked.journal {
+        let journal = write_record(alloc, asked.threads.steps, made)?;
+        text.extend_from_slice(&journal)?;
+    }
+    Ok(())
+}
+
+// The status and the text of a run that left this table. Its entries are laid out once.
+fn told(alloc: Global, asked: RunOptions, sealed: &Sealed) -> Result<(u8, Vec<u8>), AllocError>
     ensures status { IfOk result (λ r. r.0 ≡ run_status sealed.now.entries) }
     ensures few { IfOk result (λ r. IsVerdict r.0) }
-    ensures report { IfOk result (λ r. r.1.items ≡ report_of sealed.now.entries) }
+    ensures text { IfOk result (λ r. r.1.items ≡ run_text asked sealed.now.entries) }
+    ensures read_back { OnOk result (IsReadBack asked sealed.now.entries) }
 {
     let entries = entries_of(alloc, sealed.record())?;
-    let text = report_of_entries(alloc, &entries)?;
-    Ok((entries_status(&entries), text.into_bytes()))
+    let mut text = report_of_entries(alloc, &entries)?.into_bytes();
+    add_journal(alloc, &mut text, asked, sealed.record())?;
+    Ok((entries_status(&entries), text))
 }
 
 // The page of a run that left this table.
-fn page_of(alloc: Global, sealed: Sealed) -> Result<Page, AllocError>
-    ensures answer { (program : Bytecode) (inputs : List ℤ) (options : SeenOptions) → IsRunOf program inputs options sealed → IfOk result (λ p. AnswersRun program inputs options p.status p.text.items p.kept) }
+fn page_of(alloc: Global, asked: RunOptions, sealed: Sealed) -> Result<Page, AllocError>
+    ensures answer { (program : Bytecode) (inputs : List ℤ) → IsRunOf program inputs asked.threads sealed → IfOk result (λ p. AnswersRun program inputs asked p.status p.text.items p.kept) }
     ensures status { IfOk result (λ p. IsVerdict p.status) }
 {
-    let (status, text) = told(alloc, &sealed)?;
+    let (status, text) = told(alloc, asked, &sealed)?;
     Ok(Page {
         status,
         text,
@@ -91,18 +110,18 @@ fn ran<G: Gate, R: Threads + Wait + Sync>(
     rt: &R,
     alloc: Global,
     assembled: Assembled,
-    options: &Options,
+    asked: RunOptions,
     cuts: &Cuts,
     gate: &G,
 ) -> Result<Page, AllocError>
-    requires { AreOptions options.now }
-    ensures answer { IfOk result (λ p. AnswersRun assembled.program assembled.inputs options.now p.status p.text.items p.kept) }
+    requires { AreOptions asked.threads }
+    ensures answer { IfOk result (λ p. AnswersRun assembled.program assembled.inputs asked p.status p.text.items p.kept) }
     ensures status { IfOk result (λ p. IsVerdict p.status) }
 {
     let Assembled { program, inputs } = assembled;
-    let sealed = run_program(rt, alloc, &program, inputs, options, cuts, gate)?;
+    let sealed = run_program(rt, alloc, &program, inputs, &asked.threads, cuts, gate)?;
     sealed.record().keeps();
-    page_of(alloc, sealed)
+    page_of(alloc, asked, sealed)
 }
 
 // What a text is answered.
@@ -110,16 +129,16 @@ pub fn run<G: Gate, R: Threads + Wait + Sync>(
     rt: &R,
     alloc: Global,
     input: &[u8],
-    options: &Options,
+    asked: RunOptions,
     cuts: &Cuts,
     gate: &G,
 ) -> Result<Page, AllocError>
-    requires { AreOptions options.now }
-    ensures answer { IfOk result (λ p. RunsText options.now input.now p.status p.text.items p.kept) }
+    requires { AreOptions asked.threads }
+    ensures answer { IfOk result (λ p. RunsText asked input.now p.status p.text.items p.kept) }
     ensures status { IfOk result (λ p. IsVerdict p.status) }
 {
     match assemble(alloc, input) {
-        Ok(assembled) => ran(rt, alloc, assembled, options, cuts, gate),
+        Ok(assembled) => ran(rt, alloc, assembled, asked, cuts, gate),
         Err(TextError::Fault(fault)) => refused(alloc, fault.line, fault.kind),
         Err(TextError::Memory(error)) => Err(error),
     }

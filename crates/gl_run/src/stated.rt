@@ -1,20 +1,27 @@
 // The limits and statuses of the command line, with their numbers written out.
-ghost use Rattle.std.specs.Prelude.{◌≡◌};
-ghost use Rattle.gl_run.specs.Options.{limits_of};
+ghost use Rattle.std.specs.Prelude.{◌≡◌, ℕ, None, Some};
+ghost use Rattle.gl_run.specs.Options.{limits_of, nothing_given, options_of};
 ghost use Rattle.gl_run.specs.Words.{most_of};
-ghost use Rattle.gl_run.specs.declared.options.RunOption.TheVariants.{Cells, Segments, Steps, Workers};
-ghost use Rattle.gl_run.specs.declared.options.TheConstants.{MOST_DIGITS};
+ghost use Rattle.gl_run.specs.declared.options.NumberOption.TheVariants.{Cells, Segments, Size, Steps, Workers};
+ghost use Rattle.gl_run.specs.declared.options.TheConstants.{DEFAULT_WORKERS, MOST_DIGITS};
+ghost use Rattle.gl_run.specs.declared.load.TheConstants.{LOAD_STEPS};
 ghost use Rattle.gl_run.specs.declared.status.TheConstants.{ALL_WELL, NOT_HALTED, NO_COMMAND, NO_MEMORY, RACES, READ_FAILED, REFUSED, WRITE_FAILED};
+ghost use Rattle.gl_run.specs.declared.options.LoadOptions.{LoadOptions};
 ghost use Rattle.gl_run.specs.declared.words.Command.{Command};
+ghost use Rattle.gl_run.specs.declared.words.Command.TheVariants as commands;
 
 /// Each limit, and each number that stands where none is given, is the one that is stated for it.
 pub fn limits_are_stated()
-    ensures workers { limits_of Workers ≡ record { least = 1; most = 16; standard = 4 } }
-    ensures steps { limits_of Steps ≡ record { least = 1; most = 1000000; standard = 200000 } }
-    ensures segments { limits_of Segments ≡ record { least = 2; most = 64; standard = 64 } }
-    ensures cells { limits_of Cells ≡ record { least = 4; most = 64; standard = 64 } }
+    ensures workers { limits_of Workers ≡ record { least = 1; most = 16 } }
+    ensures steps { limits_of Steps ≡ record { least = 1; most = 1000000 } }
+    ensures segments { limits_of Segments ≡ record { least = 2; most = 64 } }
+    ensures cells { limits_of Cells ≡ record { least = 4; most = 64 } }
+    ensures size { limits_of Size ≡ record { least = 1; most = 10000 } }
+    ensures standards { options_of nothing_given ≡ record { workers = 4; steps = 200000; ring = record { segments = 64; cells = 64 } } }
+    ensures default_workers { DEFAULT_WORKERS ≡ 4 }
+    ensures load_steps { LOAD_STEPS ≡ 1000000 }
     ensures most_digits { MOST_DIGITS ≡ 7 }
-    ensures most_bytes { (command : Command) → most_of command ≡ 1048576 }
+    ensures most_bytes { (command : Command) (most : ℕ) → most_of (Some command) ≡ Some most → most ≡ 1048576 }
 {}
 
 /// Each status is the number that is stated for it.

@@ -34,7 +34,7 @@ fn checked<R: Threads + Wait + Sync>(
 ) -> Result<(u8, bool), Fail> {
     let bytes = input.as_bytes().to_vec(alloc)?;
     let mut source = MemorySource::new(bytes, source_fails.to_vec(alloc)?, 8);
-    let mut sink = match MemorySink::new(alloc, 100, sink_fails.to_vec(alloc)?, 4) {
+    let mut sink = match MemorySink::new(alloc, 200, sink_fails.to_vec(alloc)?, 4) {
         Ok(sink) => sink,
         Err((_, refused)) => return Err(Fail::from(refused)),
     };
@@ -144,8 +144,14 @@ const FORKS: &str =
 fn runs(rt: HostRuntime) -> Result<(), Fail> {
     let one = "func main 0 0\n  push 5\n  print\n  halt\n";
     let two = "func main 0 0\npush 1\nprint\npush 2\nprint\nhalt\n";
-    let rows: [(&[&str], &str, u8, &str); 7] = [
+    let rows: [(&[&str], &str, u8, &str); 8] = [
         (&["goldi", "run"], one, 0, "out 5\nend 0 halt\nraces 0\n"),
+        (
+            &["goldi", "run", "--journal", "--steps", "7"],
+            one,
+            0,
+            "out 5\nend 0 halt\nraces 0\nrecord 1 7\nthread 0\nsync 0 begin 0 0\nsync 1 print 0 5\nsync 2 end 0 0\nover halt\ndone\n",
+        ),
         (
             &["goldi", "run", "--steps=3"],
             one,
@@ -204,7 +210,7 @@ fn runs(rt: HostRuntime) -> Result<(), Fail> {
 // Each row: the options of a run, and the status. The text is refused, so nothing is run.
 #[test]
 fn options(rt: HostRuntime) -> Result<(), Fail> {
-    let rows: [(&[&str], u8); 16] = [
+    let rows: [(&[&str], u8); 26] = [
         (&["goldi", "run"], 4),
         (&["goldi", "run", "--workers", "1"], 4),
         (&["goldi", "run", "--workers=16", "--steps=1000000"], 4),
@@ -233,11 +239,97 @@ fn options(rt: HostRuntime) -> Result<(), Fail> {
         (&["goldi", "run", "--", "--steps", "2"], 1),
         (&["goldi", "run", "--workers", "00000004"], 1),
         (&["goldi", "list", "--workers", "2"], 1),
+        (&["goldi", "run", "--size", "3"], 1),
+        (&["goldi", "run", "--journal"], 4),
+        (
+            &["goldi", "run", "--workers", "2", "--journal", "--steps=3"],
+            4,
+        ),
+        (&["goldi", "run", "--journal", "--journal"], 1),
+        (&["goldi", "run", "--journal", "1"], 1),
+        (&["goldi", "run", "--journal=1"], 1),
+        (&["goldi", "run", "--workers", "--journal"], 1),
+        (&["goldi", "load", "--size", "3", "--journal"], 1),
+        (&["goldi", "load", "--size", "3", "--steps=2"], 1),
+        (&["goldi", "load", "--size=10001"], 1),
     ];
     for (given, status) in rows {
         let (came, _) = checked(&rt, rt.alloc(), given, "halt\n", &[], &[], &[])?;
         assert_eq!(rt; came, status);
     }
+    Ok(())
+}
+
+// Each row: the options of a load, the calls at which the sink fails, the status, and what is written. The source fails at its first call,
+// which is never made.
+#[test]
+fn loads(rt: HostRuntime) -> Result<(), Fail> {
+    let rows: [(&[&str], &[u64], u8, &str); 4] = [
+        (
+            &["goldi", "load", "--size", "1"],
+            &[],
+            0,
+            "total 8000\ncommits 8\nraces 0\n",
+        ),
+        (
+            &["goldi", "load", "--workers=2", "--size=3"],
+            &[],
+            0,
+            "total 8000\ncommits 24\nraces 0\n",
+        ),
+        (&["goldi", "load", "--size=1"], &[3], 3, "total 80"),
+        (
+            &["goldi", "load", "--size", "0"],
+            &[],
+            1,
+            "usage: goldi check|list|run|load|audit\n",
+        ),
+    ];
+    for (given, fails, status, written) in rows {
+        assert_eq!(rt;
+            checked(
+                &rt,
+                rt.alloc(),
+                given,
+                "0 rd 1\n",
+                &[1],
+                fails,
+                written.as_bytes()
+            )?,
+            (status, true),
+            "at {written}"
+        );
+    }
+    Ok(())
+}
+
+// `goldi_run` serves a load and keeps its table; to `goldi_text` it is no command.
+#[test]
+fn loads_are_kept(rt: HostRuntime) -> Result<(), Fail> {
+    let alloc = rt.alloc();
+    let words = words(alloc, &["goldi", "load", "--size", "2"])?;
+    let mut out = Vec::new(alloc);
+    let answer = goldi_run(
+        &rt,
+        alloc,
+        &words,
+        &mut ReaderSource::new("".as_bytes()),
+        &mut WriterSink::new(&mut out),
+        &Cuts::none(),
+        &Open {},
+    );
+    assert_eq!(rt; answer.status, 0);
+    assert_eq!(rt; matches!(answer.kept, Some(Kept::Run(_))), true);
+    assert_eq!(rt; &out[..], "total 8000\ncommits 16\nraces 0\n".as_bytes());
+    let answer = goldi_text(
+        alloc,
+        &words,
+        &mut ReaderSource::new("".as_bytes()),
+        &mut WriterSink::new(&mut out),
+        &Cuts::none(),
+    );
+    assert_eq!(rt; answer.status, 1);
+    assert_eq!(rt; answer.kept.is_some(), false);
     Ok(())
 }
 

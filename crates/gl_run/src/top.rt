@@ -69,7 +69,7 @@ pub fn goldi_text<S: Source, K: Sink>(
     finish(sink, reply)
 }
 
-/// Does what the words say where they name a command that runs a program; other words are none that it knows. The
+/// Does what the words say where they name a command that runs a program, one that it reads or a bank; other words are none that it knows. The
 /// statuses are those of `goldi_text`, and 7 where nothing is raised and some thread ended otherwise than by halting. A run may wait
 /// for ever, and then nothing is answered. The gate is told of each step that a run tries, and changes no answer.
 #[tactic(auto, using(crate::proofs::Finished::causes_of, crate::proofs::Finished::written_of))]

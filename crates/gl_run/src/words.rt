@@ -1,12 +1,11 @@
 // The words of the command line.
-ghost use Rattle.std.specs.Prelude.{◌≡◌, IfSome, None, string_bytes, map};
+ghost use Rattle.std.specs.Prelude.{◌≡◌, IfSome, None, Some, string_bytes, map};
 ghost use Rattle.gl_run.specs.Words.{HasLimits, alone, command_named, command_of, most_of, run_command_of, run_part, text_command_of, text_part};
 
-use crate::options::run_options;
-use gl_threads::Options;
+use crate::options::{LoadOptions, RunOptions, load_options, run_options};
 use gl_trace::TRACE_BYTES;
 
-/// A command that reads a text and writes a text.
+/// A command.
 #[derive(Clone, Copy)]
 pub enum Command {
     /// Says of each access of a trace whether it completes a race.
@@ -14,20 +13,24 @@ pub enum Command {
     /// Lists a program in its canonical form.
     List,
     /// Runs a program.
-    Run(Options),
+    Run(RunOptions),
+    /// Makes a bank and runs it.
+    Load(LoadOptions),
 }
 
 /// The most bytes of a program text.
 pub const PROGRAM_BYTES: usize = 1_048_576;
 
 impl Command {
-    // The most bytes that the command reads.
+    // The most bytes that a command reads which runs nothing.
     pub fn most(self) -> usize
-        ensures { result ≡ most_of self }
+        requires { run_part (Some self) ≡ None }
+        ensures { most_of (Some self) ≡ Some result }
     {
         match self {
             Command::Check => TRACE_BYTES,
-            Command::List | Command::Run(_) => PROGRAM_BYTES,
+            Command::List => PROGRAM_BYTES,
+            Command::Run(_) | Command::Load(_) => unreachable!(),
         }
     }
 }
@@ -55,6 +58,10 @@ fn command_named(word: &[u8], options: &[String]) -> Option<Command>
             Some(options) => Some(Command::Run(options)),
             None => None,
         },
+        b"load" => match load_options(options) {
+            Some(options) => Some(Command::Load(options)),
+            None => None,
+        },
         _ => None,
     }
 }
@@ -76,7 +83,7 @@ pub fn text_command_of(words: &[String]) -> Option<Command>
     ensures runs_nothing { run_part result ≡ None }
 {
     match command_of(words) {
-        Some(Command::Run(_)) => None,
+        Some(Command::Run(_)) | Some(Command::Load(_)) => None,
         other => other,
     }
 }
@@ -88,6 +95,7 @@ pub fn run_command_of(words: &[String]) -> Option<Command>
 {
     match command_of(words) {
         Some(Command::Run(options)) => Some(Command::Run(options)),
+        Some(Command::Load(options)) => Some(Command::Load(options)),
         _ => None,
     }
 }

@@ -1,4 +1,4 @@
-use Rattle.std.proofs.Common.{rules, ◌≡◌, ◌<◌, ℕ, Some, List, length, IfOk, IfSome, refl}
+use Rattle.std.proofs.Common.{rules, ◌<◌, ℕ, Some, List, length, IfOk, IfSome, refl}
 use Rattle.std.specs.Io.KnownBytes.{Consumes}
 use Rattle.gl_asm.specs.declared.limits.TheConstants.{LONGEST}
 use Rattle.gl_run.specs.Texts.{AnswersLonger}
@@ -9,7 +9,7 @@ use Rattle.gl_run.proofs.reply.run_reply.Goals as goal
 
 pub returns-in-Err-TooLong-clause-page : goal.returns-in-Err-TooLong-clause-page
 returns-in-Err-TooLong-clause-page g c = λ keep.
-    let command = commands.Run c.args.options in
+    let command = commands.Run c.args.asked in
     let left = g.S.Source.left c.args.source.now in
     let now = g.S.Source.left c.read_all.new.source in
     let long : IfSome left (λ xs. LONGEST < length xs) = search rules in
@@ -17,4 +17,4 @@ returns-in-Err-TooLong-clause-page g c = λ keep.
     let longer : IfOk c.map_err-in-Err-TooLong.result (λ p. AnswersLonger command p.status p.text.items p.kept) =
     mapped _ _ c.answer_longer.result c.map_err-in-Err-TooLong.result c.map_err-in-Err-TooLong.ensures.cases c.map_err-in-Err-TooLong.ensures.variant
     c.answer_longer.ensures.answer in
-    more_if_ok _ _ c.map_err-in-Err-TooLong.result (λ p answer. long_reply keep (Some command) command left now over.0 p refl over.1 over.2 long answer) longer
+    more_if_ok _ _ c.map_err-in-Err-TooLong.result (λ p answer. long_reply keep (Some command) command LONGEST left now over.0 p refl refl over.1 over.2 long answer) longer
