@@ -31,7 +31,8 @@ use Rattle.gl_acts.specs.Applying.{act_by, Applies, IsStepFrom}
 use Rattle.gl_acts.specs.Refusing.{IsFull, IsNotOwner, IsUnforked}
 
 -- a thread that was forked with this function and argument begins
-pub begun : (setting : Setting) (t func : ℕ) (argument value : ℤ) (act : Act) (l l' : ListView) → t < length l.threads → stage_of l t ≡ stage.Forked func argument
+pub begun : (setting : Setting) (t func : ℕ) (argument value : ℤ) (act : Act) (l l' : ListView) → t < length l.threads
+    → stage_of l t ≡ stage.Forked func argument
     → act ≡ Begin func → argument ≡ value → l' ≡ with_stage l t stage.Running → IsStepFrom setting (act_by t act) value l l'
 begun setting t func argument value act l l' near forked begins same becomes =
     subst (λ (a : Act). IsStepFrom setting (act_by t a) value l l') (sym begins)
@@ -65,7 +66,8 @@ module _ (setting : Setting) (t : ℕ) (value : ℤ) (l : ListView) (runs : stag
       let step = leaves_step setting t o l l' now (running now is) is leaves in
       (step.0, record { may = step.1.may; effect = step.1.effect }, step.2)
 
-  pub made : (c : ℕ) (fields : ℕ × ℕ) (l' : ListView) → slice_get setting.classes c ≡ Some fields → HasRoom l fields → pos (reference_in l c) ≡ value
+  pub made : (c : ℕ) (fields : ℕ × ℕ) (l' : ListView) → slice_get setting.classes c ≡ Some fields → HasRoom l fields
+      → pos (reference_in l c) ≡ value
       → l' ≡ with_object l fields → IsStepFrom setting (act_by t (Alloc c)) value l l'
   made c fields l' class room same becomes =
       subst (λ (z : ListView). IsStepFrom setting (act_by t (Alloc c)) value l z) (sym becomes)
@@ -77,7 +79,13 @@ module _ (setting : Setting) (t : ℕ) (value : ℤ) (l : ListView) (runs : stag
 
   -- of a monitor that the thread is not in
   outside : (now : State) → IsStateOf l now → Refuses setting now t 5 value → IsNotOwner l t value
-  outside now is (not_owner code o named near not_in) = (o, named, near, λ depth owned. not_in (depth, is.monitors o ∙ ap monitor_state owned))
+  outside now is (not_owner code o named near not_in) = (
+    o,
+    named,
+    near,
+    λ depth owned. not_in
+        (depth, is.monitors o ∙ ap monitor_state owned),
+  )
   outside now is (heap_full code c named fields class full) = absurd (omega arith)
   outside now is (threads_full code full) = absurd (omega arith)
   outside now is (input_end code end) = absurd (omega arith)
@@ -112,19 +120,22 @@ module _ (setting : Setting) (t : ℕ) (value : ℤ) (l : ListView) (runs : stag
   unforked_there now is (bad_thread code u named near new) = (u, named, near, never (stage_of l u) (sym (is.threads u) ∙ new))
 
   -- where the answer tells whether the coded state refuses, it tells whether the machine does
-  told : (code : ℕ) (Q : Type 0) (b : Bool) → (Q → (now : State) → IsStateOf l now → Refuses setting now t code value) → ((now : State) → IsStateOf l now → Refuses setting now t code value → Q)
+  told : (code : ℕ) (Q : Type 0) (b : Bool) → (Q → (now : State) → IsStateOf l now → Refuses setting now t code value)
+      → ((now : State) → IsStateOf l now → Refuses setting now t code value → Q)
       → MatchBool b Q (Q → ⊥) → Applies setting (act_by t (Fail code)) value l l b
   told code Q true refuses back holds = λ now is. (now, record { may = running now is; effect = (refuses holds now is, refl) }, is)
   told code Q false refuses back fails = ((λ now next is step. fails (back now is step.effect.0)), refl)
 
-  pub fails_as_not_owner : (code : ℕ) (b : Bool) → code ≡ 5 → MatchBool b (IsNotOwner l t value) (IsNotOwner l t value → ⊥) → Applies setting (act_by t (Fail code)) value l l b
+  pub fails_as_not_owner : (code : ℕ) (b : Bool) → code ≡ 5 → MatchBool b (IsNotOwner l t value) (IsNotOwner l t value → ⊥)
+      → Applies setting (act_by t (Fail code)) value l l b
   fails_as_not_owner code b is_code answer =
       subst (λ n. Applies setting (act_by t (Fail n)) value l l b) (sym is_code)
       (told 5 (IsNotOwner l t value) b
       (λ q now is. not_owner refl q.0 q.1 q.2 (λ owns. q.3 owns.0 (owned_as (monitor_of l q.0) t owns.0 (sym (is.monitors q.0) ∙ owns.1))))
       outside answer)
 
-  pub fails_as_full : (code : ℕ) (b : Bool) → code ≡ 6 → MatchBool b (IsFull setting l value) (IsFull setting l value → ⊥) → Applies setting (act_by t (Fail code)) value l l b
+  pub fails_as_full : (code : ℕ) (b : Bool) → code ≡ 6 → MatchBool b (IsFull setting l value) (IsFull setting l value → ⊥)
+      → Applies setting (act_by t (Fail code)) value l l b
   fails_as_full code b is_code answer =
       subst (λ n. Applies setting (act_by t (Fail n)) value l l b) (sym is_code)
       (told 6 (IsFull setting l value) b
@@ -135,13 +146,16 @@ module _ (setting : Setting) (t : ℕ) (value : ℤ) (l : ListView) (runs : stag
       })))
       full_there answer)
 
-  pub fails_as_unforked : (code : ℕ) (b : Bool) → code ≡ 11 → MatchBool b (IsUnforked l value) (IsUnforked l value → ⊥) → Applies setting (act_by t (Fail code)) value l l b
+  pub fails_as_unforked : (code : ℕ) (b : Bool) → code ≡ 11 → MatchBool b (IsUnforked l value) (IsUnforked l value → ⊥)
+      → Applies setting (act_by t (Fail code)) value l l b
   fails_as_unforked code b is_code answer =
       subst (λ n. Applies setting (act_by t (Fail n)) value l l b) (sym is_code)
-      (told 11 (IsUnforked l value) b (λ q now is. bad_thread refl q.0 q.1 q.2 (is.threads q.0 ∙ ap thread_state q.3)) unforked_there answer)
+      (told 11 (IsUnforked l value) b (λ q now is. bad_thread refl q.0 q.1 q.2 (is.threads q.0 ∙ ap thread_state q.3)) unforked_there
+      answer)
 
 -- the machine is set up with the classes of the program
-pub class_in : (P : Bytecode) (inputs : List ℤ) (c : ℕ) (o : Option (ℕ × ℕ)) (fields : ℕ × ℕ) → o ≡ option_map (λ (F : Fields). (F.plain, F.volatile)) (slice_get P.classes c) → o ≡ Some fields
+pub class_in : (P : Bytecode) (inputs : List ℤ) (c : ℕ) (o : Option (ℕ × ℕ)) (fields : ℕ × ℕ)
+    → o ≡ option_map (λ (F : Fields). (F.plain, F.volatile)) (slice_get P.classes c) → o ≡ Some fields
     → slice_get (setting_of P inputs).classes c ≡ Some fields
 class_in P inputs c o fields same is = slice_get-map (λ (F : Fields). (F.plain, F.volatile)) P.classes c ∙ sym same ∙ is
 
@@ -151,30 +165,38 @@ in_range p a (suc n) f low high is = elim (ℕ_discrete a f) [
   | yes same ↦ (let here : p a ≡ true = (rw same is) in rw here (0, omega arith, same))
   | no other ↦ by_test (p a) (in_range p (a + 1) n f (omega (arith, other)) (omega arith) is)
 ] where
-  by_test : (b : Bool) → Contains (filter p (range_with_len (a + 1) n)) f → Contains (cond b (a ∷ filter p (range_with_len (a + 1) n)) (filter p (range_with_len (a + 1) n))) f
+  by_test : (b : Bool) → Contains (filter p (range_with_len (a + 1) n)) f
+      → Contains (cond b (a ∷ filter p (range_with_len (a + 1) n)) (filter p (range_with_len (a + 1) n))) f
   by_test true there = (suc there.0, (let less = there.1 in omega arith), there.2)
   by_test false there = there
 
 function_below : (P : Bytecode) (f : ℕ) (o : Option Function) → function_at P f ≡ o → (args_of o == 1) ≡ true → f < length P.functions
 function_below P f None there one = absurd (cc)
-function_below P f (Some F) there one = elim ((slice_get_cases P.functions f).1) [ inl in' ↦ in'.1 | inr out ↦ absurd (let none = out.1 in cc) ]
+function_below P f (Some F) there one = elim ((slice_get_cases P.functions f).1)
+    [ inl in' ↦ in'.1 | inr out ↦ absurd (let none = out.1 in cc) ]
 
 -- the functions of one argument are those that a thread may be forked with
-pub forkable : (P : Bytecode) (f n : ℕ) → n ≡ args_of (function_at P f) → MatchBool (nat_eq n 1) (Contains (forkable_of P) f) (Contains (forkable_of P) f → ⊥)
+pub forkable : (P : Bytecode) (f n : ℕ) → n ≡ args_of (function_at P f)
+    → MatchBool (nat_eq n 1) (Contains (forkable_of P) f) (Contains (forkable_of P) f → ⊥)
 forkable P f n is = by (args_of (function_at P f) == 1) refl (ap (λ k. k == 1) is)
   where
-    by : (b : Bool) → (args_of (function_at P f) == 1) ≡ b → (n == 1) ≡ (args_of (function_at P f) == 1) → MatchBool (n == 1) (Contains (forkable_of P) f) (Contains (forkable_of P) f → ⊥)
+    by : (b : Bool) → (args_of (function_at P f) == 1) ≡ b → (n == 1) ≡ (args_of (function_at P f) == 1)
+        → MatchBool (n == 1) (Contains (forkable_of P) f) (Contains (forkable_of P) f → ⊥)
     by true one same = subst (λ b. MatchBool b (Contains (forkable_of P) f) (Contains (forkable_of P) f → ⊥)) (sym (same ∙ one))
-        (in_range (λ g. args_of (function_at P g) == 1) 0 (length P.functions) f (omega arith) (let less = function_below P f (function_at P f) refl one in omega arith) one)
+        (in_range (λ g. args_of (function_at P g) == 1) 0 (length P.functions) f (omega arith)
+        (let less = function_below P f (function_at P f) refl one in omega arith) one)
     by false one same = subst (λ b. MatchBool b (Contains (forkable_of P) f) (Contains (forkable_of P) f → ⊥)) (sym (same ∙ one))
-        (λ in'. let yes' : (args_of (function_at P f) == 1) ≡ true = All-contains (λ x. (args_of (function_at P x) == 1) ≡ true) (forkable_of P) f (filter_passes (λ g. args_of (function_at P g) == 1) (range_with_len 0 (length P.functions))) in' in absurd (cc))
+        (λ in'. let yes' : (args_of (function_at P f) == 1) ≡ true = All-contains (λ x. (args_of (function_at P x) == 1) ≡ true)
+        (forkable_of P) f (filter_passes (λ g. args_of (function_at P g) == 1) (range_with_len 0 (length P.functions))) in' in absurd
+        (cc))
 
 abbrev depth_in : Option (ℕ × ℕ) → ℕ
 depth_in None = 0
 depth_in (Some m) = m.1
 
 -- the thread has entered the monitor exactly where it owns it with a depth above 0
-pub entered_where : (t o depth : ℕ) (l : ListView) → monitor_of l o ≡ Some (t, depth) → (b : Bool) → Rattle.std.specs.Prelude.nat_lt 0 depth ≡ b
+pub entered_where : (t o depth : ℕ) (l : ListView) → monitor_of l o ≡ Some (t, depth) → (b : Bool)
+    → Rattle.std.specs.Prelude.nat_lt 0 depth ≡ b
     → MatchBool b ((d : ℕ) × (monitor_of l o ≡ Some (t, d + 1))) (((d : ℕ) × (monitor_of l o ≡ Some (t, d + 1))) → ⊥)
 entered_where t o depth l is true test =
     let some : 0 < depth = grind (arith, nat_tests) in
@@ -188,7 +210,8 @@ entered_where t o depth l is false test = λ held.
 
 -- the act that an entry has is the one that was applied
 module _ (setting : Setting) (t : ℕ) (l l' : ListView) (b : Bool) where
-  pub of_act : (value : ℤ) (act known : Act) → act ≡ known → Applies setting (act_by t known) value l l' b → Applies setting (act_by t act) value l l' b
+  pub of_act : (value : ℤ) (act known : Act) → act ≡ known → Applies setting (act_by t known) value l l' b
+      → Applies setting (act_by t act) value l l' b
   of_act value act known is applies = subst (λ (a : Act). Applies setting (act_by t a) value l l' b) (sym is) applies
 
   pub of_entry : (e : Entry) (at : ℕ) (act : Act) (value : ℤ) → e ≡ Sync at act value → Applies setting (act_by t act) value l l' b
@@ -197,9 +220,11 @@ module _ (setting : Setting) (t : ℕ) (l l' : ListView) (b : Bool) where
       let told : Some (Does act) ≡ Some s.event = sym (ap event_of is) ∙ event in
       let same : Does act ≡ s.event = cc in
       let stamp : act_by t act ≡ s = λ i. record { thread = sym own i; event = same i } in
-      subst (λ (z : Stamp). Applies setting z (value_of e) l l' b) stamp (subst (λ (z : Entry). Applies setting (act_by t act) (value_of z) l l' b) (sym is) applies)
+      subst (λ (z : Stamp). Applies setting z (value_of e) l l' b) stamp
+      (subst (λ (z : Entry). Applies setting (act_by t act) (value_of z) l l' b) (sym is) applies)
 
-  pub of_commit : (e : Entry) (at : ℕ) (tx : Tx) → e ≡ Commit at tx → ((xs : List ℕ) → Applies setting (record { thread = t; event = Commits xs }) (pos 0) l l' b)
+  pub of_commit : (e : Entry) (at : ℕ) (tx : Tx) → e ≡ Commit at tx
+      → ((xs : List ℕ) → Applies setting (record { thread = t; event = Commits xs }) (pos 0) l l' b)
       → (s : Stamp) → s.thread ≡ t → event_of e ≡ Some s.event → Applies setting s (value_of e) l l' b
   of_commit e at tx is applies s own event =
       let xs : List ℕ = variables_of tx in
@@ -207,4 +232,5 @@ module _ (setting : Setting) (t : ℕ) (l l' : ListView) (b : Bool) where
       let same : Commits xs ≡ s.event = cc in
       let first : Stamp = record { thread = t; event = Commits xs } in
       let stamp : first ≡ s = λ i. record { thread = sym own i; event = same i } in
-      subst (λ (z : Stamp). Applies setting z (value_of e) l l' b) stamp (subst (λ (z : Entry). Applies setting first (value_of z) l l' b) (sym is) (applies xs))
+      subst (λ (z : Stamp). Applies setting z (value_of e) l l' b) stamp
+      (subst (λ (z : Entry). Applies setting first (value_of z) l l' b) (sym is) (applies xs))

@@ -40,7 +40,8 @@ module _ (setting : Setting) (R : Lists) (n : ℕ) (events : HasEvents R n) (run
   pub has_list : R 0 ≢ [] → (p : ℕ) → p ≤ n → (t : ℕ) → (run.at p).threads t ≢ NeverForked → R t ≢ []
   has_list main zero le t forked = elim (ℕ_discrete t 0) [
     | yes e ↦ subst (λ z. R z ≢ []) (sym e) main
-    | no ne ↦ absurd (forked (ap (λ (s : State). s.threads t) run.first ∙ with_else (λ _. NeverForked) 0 t (Forked setting.main (Rattle.std.specs.Prelude.pos 0)) ne))
+    | no ne ↦ absurd (forked (ap (λ (s : State). s.threads t) run.first ∙ with_else (λ _. NeverForked) 0 t
+        (Forked setting.main (Rattle.std.specs.Prelude.pos 0)) ne))
   ]
   has_list main (suc p) le t forked =
       let less : p < n = omega arith in
@@ -48,9 +49,11 @@ module _ (setting : Setting) (R : Lists) (n : ℕ) (events : HasEvents R n) (run
       let there : IsEventAt R e.0 p e.1.0 = e.1.1 in
       let more : suc p ≡ p + 1 = omega arith in
       let now : (run.at (p + 1)).threads t ≢ NeverForked = subst (λ z. (run.at z).threads t ≢ NeverForked) more forked in
-      by_case e.0 e.1.0 there less now (becomes setting (run.at p) (run.at (p + 1)) e.1.0 t (value_of there.entry) (run.steps e.0 p e.1.0 less there)) (has_list main p (omega arith) t)
+      by_case e.0 e.1.0 there less now (becomes setting (run.at p) (run.at (p + 1)) e.1.0 t (value_of there.entry)
+      (run.steps e.0 p e.1.0 less there)) (has_list main p (omega arith) t)
     where
-      by_case : (c : Place) (s : Stamp) (there : IsEventAt R c p s) → p < n → (run.at (p + 1)).threads t ≢ NeverForked → Becomes (run.at p) (run.at (p + 1)) s t
+      by_case : (c : Place) (s : Stamp) (there : IsEventAt R c p s) → p < n → (run.at (p + 1)).threads t ≢ NeverForked
+          → Becomes (run.at p) (run.at (p + 1)) s t
           → ((run.at p).threads t ≢ NeverForked → R t ≢ []) → R t ≢ []
       by_case c s there less now (stays same) before = before (λ e. now (same ∙ e))
       by_case c s there less now (steps own not_new not_over) before = before not_new
@@ -68,7 +71,8 @@ module _ (setting : Setting) (R : Lists) (n : ℕ) (events : HasEvents R n) (run
       let there : IsEventAt R e.0 (p + d) e.1.0 = e.1.1 in
       let more : (p + d) + 1 ≡ p + suc d = omega arith in
       subst (λ z. (run.at z).threads t ≡ Ended) more
-      (stays_ended setting (run.at (p + d)) (run.at (p + d + 1)) e.1.0 t (value_of there.entry) (run.steps e.0 (p + d) e.1.0 less there) (ended_on t p d (omega arith) ended))
+      (stays_ended setting (run.at (p + d)) (run.at (p + d + 1)) e.1.0 t (value_of there.entry) (run.steps e.0 (p + d) e.1.0 less there)
+      (ended_on t p d (omega arith) ended))
 
 -- the entry before an entry
 at_before : (es : List Entry) (i : ℕ) (e : Entry) → At es (suc i) e → (f : Entry) × At es i f
@@ -112,21 +116,35 @@ end_entry (Plain var nth cached write value raised) is = absurd is
 end_entry (Abort tx why) is = absurd is
 
 -- a list that is there has its thread's End
-pub has_end : (R : Lists) (t : ℕ) → Form R → R t ≢ [] → (i : ℕ) × ((p : ℕ) × IsEventAt R (record { thread = t; index = i }) p (record { thread = t; event = Does End }))
+pub has_end : (R : Lists) (t : ℕ) → Form R → R t ≢ []
+    → (i : ℕ) × ((p : ℕ) × IsEventAt R (record { thread = t; index = i }) p (record { thread = t; event = Does End }))
 has_end R t form some = let over = form.ends t some in by_place over.0 over.1.0 over.1.1 over.1.2
   where
     formed : ListForm t (R t)
     formed = form.formed t
 
-    by_place : (i : ℕ) (e : Entry) → At (R t) i e → IsOver e → (i : ℕ) × ((p : ℕ) × IsEventAt R (record { thread = t; index = i }) p (record { thread = t; event = Does End }))
-    by_place zero e there over = absurd (over_no_begin e over (formed.begins zero e there (over_no_trim e over) (λ j f at less. absurd (omega arith))))
+    by_place : (i : ℕ) (e : Entry) → At (R t) i e → IsOver e
+        → (i : ℕ) × ((p : ℕ) × IsEventAt R (record { thread = t; index = i }) p (record { thread = t; event = Does End }))
+    by_place zero e there over = absurd (over_no_begin e over (formed.begins zero e there (over_no_trim e over)
+        (λ j f at less. absurd (omega arith))))
     by_place (suc i) e there over =
         let before = at_before (R t) i e there in
         let more : suc i ≡ i + 1 = omega arith in
         let is_end : IsEnd before.0 = (formed.over_after_end i before.0 e before.1 (subst (λ z. At (R t) z e) more there)).1 over in
         let known = end_entry before.0 is_end in
-        let entry : Entry = Sync known.0 End known.1.0 in
-        (i, (known.0, record { entry = entry; there = subst (λ (z : Entry). At (R t) i z) known.1.1 before.1; position = refl; event = refl; own = refl }))
+        let entry : Entry = Sync known.0 End known.1.0 in (
+          i,
+          (
+            known.0,
+            record {
+              entry = entry;
+              there = subst (λ (z : Entry). At (R t) i z) known.1.1 before.1;
+              position = refl;
+              event = refl;
+              own = refl;
+            },
+          ),
+        )
 
 -- after the last event each thread that was forked has ended
 pub all_ended : (setting : Setting) (R : Lists) (n : ℕ) → HasEvents R n → AreAllBelow R n → Form R → (run : StepsUpTo setting R n) (t : ℕ)
@@ -141,16 +159,19 @@ all_ended setting R n events all form run t = by (is_new ((run.at n).threads t))
         let p : ℕ = e.1.0 in
         let there : IsEventAt R c p s = e.1.1 in
         let less : p < n = all c p s there in
-        let here : (run.at (p + 1)).threads t ≡ Ended = ends setting (run.at p) (run.at (p + 1)) t (value_of there.entry) (run.steps c p s less there) in
+        let here : (run.at (p + 1)).threads t ≡ Ended = ends setting (run.at p) (run.at (p + 1)) t (value_of there.entry)
+        (run.steps c p s less there) in
         let far : (p + 1) + (n - (p + 1)) ≡ n = omega arith in
         subst (λ z. (run.at z).threads t ≡ Ended) far (ended_on setting R n events run t (p + 1) (n - (p + 1)) (omega arith) here)
 
-    by : ((run.at n).threads t ≡ NeverForked) ⊎ ((run.at n).threads t ≢ NeverForked) → ((run.at n).threads t ≡ NeverForked) ⊎ ((run.at n).threads t ≡ Ended)
+    by : ((run.at n).threads t ≡ NeverForked) ⊎ ((run.at n).threads t ≢ NeverForked)
+        → ((run.at n).threads t ≡ NeverForked) ⊎ ((run.at n).threads t ≡ Ended)
     by (inl new) = inl new
     by (inr forked) = inr (over (has_list setting R n events run form.main n (omega arith) t forked))
 
 -- so none is live
-pub none_live : (setting : Setting) (R : Lists) (n : ℕ) → HasEvents R n → AreAllBelow R n → Form R → (run : StepsUpTo setting R n) (t : ℕ) → IsLive (run.at n) t → ⊥
+pub none_live : (setting : Setting) (R : Lists) (n : ℕ) → HasEvents R n → AreAllBelow R n → Form R → (run : StepsUpTo setting R n) (t : ℕ)
+    → IsLive (run.at n) t → ⊥
 none_live setting R n events all form run t live = by (all_ended setting R n events all form run t)
   where
     by : ((run.at n).threads t ≡ NeverForked) ⊎ ((run.at n).threads t ≡ Ended) → ⊥

@@ -62,7 +62,8 @@ module _ (setting : Setting) (R : Lists) where
 
   lives_lives : (h : List Stamp) → IsEventList h R → (c d : Place) → LivesAt setting R (length h) c → LivesAt setting R (length h) d → c ≡ d
   lives_lives h list c d x y =
-      let same : x.all.at (length h) ≡ y.all.at (length h) = settled setting R (length h) (list_events R h list) x.all y.all (length h) (omega arith) in
+      let same : x.all.at (length h) ≡ y.all.at (length h) = settled setting R (length h) (list_events R h list) x.all y.all (length h)
+      (omega arith) in
       elim (cases_order c.thread d.thread) [
         | inl thread ↦ place_same c d thread (x.last ∙ ap (λ t. length (R t)) thread ∙ sym y.last)
         | inr (inl less) ↦ absurd (y.least c.thread less (subst (λ (z : State). IsLive z c.thread) same x.live))
@@ -74,20 +75,29 @@ module _ (setting : Setting) (R : Lists) where
   one_first listed c d (inl x) (inl y) = act_act listed.0 listed.1 x.0 y.0 c d x.1 y.1
   one_first listed c d (inl x) (inr y) = absurd (act_lives y.0 y.1 x.0 c d x.1 y.2)
   one_first listed c d (inr x) (inl y) = absurd (act_lives x.0 x.1 y.0 d c y.1 x.2)
-  one_first listed c d (inr x) (inr y) = lives_lives x.0 x.1 c d x.2 (subst (λ n. LivesAt setting R n d) (lists_agree R y.0 x.0 y.1 x.1) y.2)
+  one_first listed c d (inr x) (inr y) = lives_lives x.0 x.1 c d x.2
+      (subst (λ n. LivesAt setting R n d) (lists_agree R y.0 x.0 y.1 x.1) y.2)
 
   -- a run of the machine is one up to each position
   abbrev part_of : (h : List Stamp) → IsMachineRun setting R h → (n : ℕ) → StepsUpTo setting R n
-  part_of h run n = record { at = run.at; first = run.first; steps = λ c p s less e. run.steps c p s e; lists = λ c p u f value less there. run.lists c p u f value there }
+  part_of h run n = record {
+    at = run.at;
+    first = run.first;
+    steps = λ c p s less e. run.steps c p s e;
+    lists = λ c p u f value less there.
+        run.lists c p u f value there;
+  }
 
   -- a run of the machine has no such place
   pub runs_do_not_fail : (c : Place) → RunsMachine setting R → ActFailsFirst setting R c → ⊥
   runs_do_not_fail c runs (inl x) = x.1.wrong (part_of runs.0 runs.2 (x.0 + 1))
   runs_do_not_fail c runs (inr x) =
       let long : length runs.0 ≡ length x.0 = lists_agree R runs.0 x.0 runs.1 x.1 in
-      let same : x.2.all.at (length x.0) ≡ runs.2.at (length x.0) = settled setting R (length x.0) (list_events R x.0 x.1) x.2.all (part_of runs.0 runs.2 (length x.0)) (length x.0) (omega arith) in
+      let same : x.2.all.at (length x.0) ≡ runs.2.at (length x.0) = settled setting R (length x.0) (list_events R x.0 x.1) x.2.all
+      (part_of runs.0 runs.2 (length x.0)) (length x.0) (omega arith) in
       let live : IsLive (runs.2.at (length x.0)) c.thread = subst (λ (z : State). IsLive z c.thread) same x.2.live in
-      over (runs.2.at (length x.0)) (subst (λ n. ((runs.2.at n).threads c.thread ≡ NeverForked) ⊎ ((runs.2.at n).threads c.thread ≡ Ended)) long (runs.2.ended c.thread)) live
+      over (runs.2.at (length x.0)) (subst (λ n. ((runs.2.at n).threads c.thread ≡ NeverForked) ⊎ ((runs.2.at n).threads c.thread ≡ Ended))
+      long (runs.2.ended c.thread)) live
     where
       over : (s : State) → (s.threads c.thread ≡ NeverForked) ⊎ (s.threads c.thread ≡ Ended) → IsLive s c.thread → ⊥
       over s (inl new) live = live.0 new
@@ -106,7 +116,8 @@ module _ (setting : Setting) (R : Lists) where
       at = all.at;
       first = all.first;
       steps = λ c p s e. all.steps c p s (list_below R listed.0 listed.1 c p s e) e;
-      lists = λ c p u f value there. all.lists c p u f value (list_below R listed.0 listed.1 c p (record { thread = c.thread; event = Does (Fork u f) }) (is_fork c p u f value there)) there;
+      lists = λ c p u f value there. all.lists c p u f value (list_below R listed.0 listed.1 c p
+          (record { thread = c.thread; event = Does (Fork u f) }) (is_fork c p u f value there)) there;
       ended = all_ended setting R (length listed.0) (list_events R listed.0 listed.1) (list_below R listed.0 listed.1) form all;
     },
   )
@@ -120,5 +131,6 @@ module _ (setting : Setting) (R : Lists) where
       all : StepsUpTo setting R (length listed.0)
       all = subst (λ n. StepsUpTo setting R n) (same_length (length cs) (length listed.0) up down) run
 
-      is_fork : (c : Place) (p u f : ℕ) (value : ℤ) → EntryAt R c (Sync p (Fork u f) value) → IsEventAt R c p (record { thread = c.thread; event = Does (Fork u f) })
+      is_fork : (c : Place) (p u f : ℕ) (value : ℤ) → EntryAt R c (Sync p (Fork u f) value)
+          → IsEventAt R c p (record { thread = c.thread; event = Does (Fork u f) })
       is_fork c p u f value there = record { entry = Sync p (Fork u f) value; there = there; position = refl; event = refl; own = refl }

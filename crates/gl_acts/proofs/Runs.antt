@@ -45,8 +45,10 @@ settled setting R n events a b (suc p) le =
     let s : Stamp = e.1.0 in
     let there : IsEventAt R c p s = e.1.1 in
     let same : a.at p ≡ b.at p = settled setting R n events a b p (omega arith) in
-    let one : Step setting (b.at p) s (value_of there.entry) (a.at (p + 1)) = subst (λ (z : State). Step setting z s (value_of there.entry) (a.at (p + 1))) same (a.steps c p s less there) in
-    let next : a.at (p + 1) ≡ b.at (p + 1) = one_next setting (b.at p) (a.at (p + 1)) (b.at (p + 1)) s (value_of there.entry) one (b.steps c p s less there) in
+    let one : Step setting (b.at p) s (value_of there.entry) (a.at (p + 1)) = subst
+    (λ (z : State). Step setting z s (value_of there.entry) (a.at (p + 1))) same (a.steps c p s less there) in
+    let next : a.at (p + 1) ≡ b.at (p + 1) = one_next setting (b.at p) (a.at (p + 1)) (b.at (p + 1)) s (value_of there.entry) one
+    (b.steps c p s less there) in
     let more : p + 1 ≡ suc p = omega arith in
     subst (λ z. a.at z ≡ b.at z) more next
 
@@ -69,7 +71,8 @@ stamp_same R c p q s r a b =
     λ i. record { thread = thread i; event = event i }
 
 -- a run goes on by the event at its last position
-module _ (setting : Setting) (R : Lists) (n : ℕ) (run : StepsUpTo setting R n) (c : Place) (s : Stamp) (e : IsEventAt R c n s) (next : State) where
+module _ (setting : Setting) (R : Lists) (n : ℕ) (run : StepsUpTo setting R n) (c : Place) (s : Stamp) (e : IsEventAt R c n s)
+    (next : State) where
   abbrev states : ℕ → State
   states = with_at run.at (n + 1) next
 
@@ -117,7 +120,13 @@ module _ (setting : Setting) (R : Lists) (n : ℕ) (run : StepsUpTo setting R n)
     where
       at_last : (d : Place) (p : ℕ) (r : Stamp) (f : IsEventAt R d p r) → p ≡ n → IsStepOf p r (value_of f.entry)
       at_last d p r f same =
-          let here : IsEventAt R d n r = record { entry = f.entry; there = f.there; position = f.position ∙ ap Some same; event = f.event; own = f.own } in
+          let here : IsEventAt R d n r = record {
+            entry = f.entry;
+            there = f.there;
+            position = f.position ∙ ap Some same;
+            event = f.event;
+            own = f.own;
+          } in
           subst (λ z. IsStepOf z r (value_of f.entry)) (sym same) (same_step d r here (only d r here) (last_step step))
 
       forked : (d : Place) (p u f : ℕ) (value : ℤ) → EntryAt R d (Sync p (Fork u f) value) → p ≡ n → R u ≢ []
@@ -136,12 +145,14 @@ module _ (setting : Setting) (R : Lists) (n : ℕ) (run : StepsUpTo setting R n)
   longer_at only step lists = with_here run.at (n + 1) next
 
 -- within so many steps no monitor is entered more often
-pub within_run : (setting : Setting) (R : Lists) (n : ℕ) → HasEvents R n → (run : StepsUpTo setting R n) (p : ℕ) → p ≤ n → AreWithin p (run.at p)
+pub within_run : (setting : Setting) (R : Lists) (n : ℕ) → HasEvents R n → (run : StepsUpTo setting R n) (p : ℕ) → p ≤ n
+    → AreWithin p (run.at p)
 within_run setting R n events run zero le = subst (λ (z : State). AreWithin 0 z) (sym run.first) (λ o t d owned. absurd (cc))
 within_run setting R n events run (suc p) le =
     let less : p < n = omega arith in
     let e = events p less in
     let there : IsEventAt R e.0 p e.1.0 = e.1.1 in
     let more : p + 1 ≡ suc p = omega arith in
-    let next : AreWithin (p + 1) (run.at (p + 1)) = within_step p (run.at p) (run.at (p + 1)) (within_run setting R n events run p (omega arith)) setting e.1.0 (value_of there.entry) (run.steps e.0 p e.1.0 less there) in
+    let next : AreWithin (p + 1) (run.at (p + 1)) = within_step p (run.at p) (run.at (p + 1))
+    (within_run setting R n events run p (omega arith)) setting e.1.0 (value_of there.entry) (run.steps e.0 p e.1.0 less there) in
     subst (λ z. AreWithin z (run.at z)) more next

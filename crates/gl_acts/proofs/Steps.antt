@@ -17,20 +17,27 @@ one_entered t (Owned owner depth) m n x y = x.1 ∙ sym y.1
 one_depth : (s : MonitorState) (t d e : ℕ) → s ≡ Owned t (d + 1) → s ≡ Owned t (e + 1) → d ≡ e
 one_depth s t d e x y = let z : d + 1 ≡ e + 1 = cc in omega arith
 
-same_act : (setting : Setting) (old a b : State) (t : ℕ) (act : Act) (value : ℤ) → ActEffect setting old t act value a → ActEffect setting old t act value b → a ≡ b
+same_act : (setting : Setting) (old a b : State) (t : ℕ) (act : Act) (value : ℤ) → ActEffect setting old t act value a
+    → ActEffect setting old t act value b → a ≡ b
 same_act setting old a b t (Begin f) value x y = x ∙ sym y
 same_act setting old a b t End value x y = x ∙ sym y
 same_act setting old a b t (Acq o) value x y =
-    x.2 ∙ ap (λ (m : MonitorState). record old { monitors = with_at old.monitors o m }) (one_entered t (old.monitors o) x.0 y.0 x.1 y.1) ∙ sym y.2
+    x.2 ∙ ap (λ (m : MonitorState). record old { monitors = with_at old.monitors o m }) (one_entered t (old.monitors o) x.0 y.0 x.1 y.1)
+    ∙ sym y.2
 same_act setting old a b t (Rel o) value x y =
-    x.2 ∙ ap (λ (d : ℕ). record old { monitors = with_at old.monitors o (left_once t d) }) (one_depth (old.monitors o) t x.0 y.0 x.1 y.1) ∙ sym y.2
+    x.2 ∙ ap (λ (d : ℕ). record old { monitors = with_at old.monitors o (left_once t d) }) (one_depth (old.monitors o) t x.0 y.0 x.1 y.1)
+    ∙ sym y.2
 same_act setting old a b t (VRead v) value x y = x.1 ∙ sym y.1
 same_act setting old a b t (VWrite v) value x y = x ∙ sym y
 same_act setting old a b t (Fork u f) value x y = x.1 ∙ sym y.1
 same_act setting old a b t (Join u) value x y = x.1 ∙ sym y.1
 same_act setting old a b t (Alloc c) value x y =
     let same : x.0 ≡ y.0 = some_same x.0 y.0 (sym x.1 ∙ y.1) in
-    x.4 ∙ ap (λ (n : ℕ × ℕ). record old { next_object = old.next_object + 1; next_variable = old.next_variable + n.0; next_volatile = old.next_volatile + n.1 }) same ∙ sym y.4
+    x.4 ∙ ap (λ (n : ℕ × ℕ). record old {
+      next_object = old.next_object + 1;
+      next_variable = old.next_variable + n.0;
+      next_volatile = old.next_volatile + n.1;
+    }) same ∙ sym y.4
   where
     some_same : (m n : ℕ × ℕ) → Some m ≡ Some n → m ≡ n
     some_same m n e = cc
@@ -38,18 +45,21 @@ same_act setting old a b t Print value x y = x ∙ sym y
 same_act setting old a b t Input value x y = x.1 ∙ sym y.1
 same_act setting old a b t (Fail k) value x y = x.1 ∙ sym y.1
 
-same_effect : (setting : Setting) (old a b : State) (t : ℕ) (event : Event) (value : ℤ) → Effect setting old t event value a → Effect setting old t event value b → a ≡ b
+same_effect : (setting : Setting) (old a b : State) (t : ℕ) (event : Event) (value : ℤ) → Effect setting old t event value a
+    → Effect setting old t event value b → a ≡ b
 same_effect setting old a b t (Does act) value x y = same_act setting old a b t act value x y
 same_effect setting old a b t (Commit xs) value x y = x ∙ sym y
 
 -- an event leads from a state to one state at most
-pub one_next : (setting : Setting) (old a b : State) (s : Stamp) (value : ℤ) → Step setting old s value a → Step setting old s value b → a ≡ b
+pub one_next : (setting : Setting) (old a b : State) (s : Stamp) (value : ℤ) → Step setting old s value a → Step setting old s value b
+    → a ≡ b
 one_next setting old a b s value x y = same_effect setting old a b s.thread s.event value x.effect y.effect
 
 threads_of : (a b : State) → a ≡ b → (t : ℕ) → a.threads t ≡ b.threads t
 threads_of a b e t = ap (λ (s : State). s.threads t) e
 
--- what becomes of a thread by a step: it stays; it is the one that steps, and was forked or ran before; or it was never forked, and is forked now
+-- what becomes of a thread by a step: it stays; it is the one that steps, and was forked or ran before; or it was never forked, and is
+-- forked now
 pub data Becomes (old new : State) (s : Stamp) (t : ℕ) : Type 0 where
   stays : new.threads t ≡ old.threads t → Becomes old new s t
   steps : t ≡ s.thread → old.threads t ≢ NeverForked → old.threads t ≢ Ended → Becomes old new s t
@@ -62,20 +72,24 @@ was_forked : (x : ThreadState) (f : ℕ) (value : ℤ) → x ≡ Forked f value 
 was_forked x f value e = ((λ n. absurd (cc)), (λ n. absurd (cc)))
 
 module _ (setting : Setting) (old new : State) (s : Stamp) (t : ℕ) where
-  changes_own : (x : ThreadState) → (old.threads s.thread ≢ NeverForked) × (old.threads s.thread ≢ Ended) → ((k : ℕ) → new.threads k ≡ with_at old.threads s.thread x k) → Becomes old new s t
+  changes_own : (x : ThreadState) → (old.threads s.thread ≢ NeverForked) × (old.threads s.thread ≢ Ended)
+      → ((k : ℕ) → new.threads k ≡ with_at old.threads s.thread x k) → Becomes old new s t
   changes_own x was is = elim (ℕ_discrete t s.thread) [
     | yes e ↦ steps e (subst (λ z. old.threads z ≢ NeverForked) (sym e) was.0) (subst (λ z. old.threads z ≢ Ended) (sym e) was.1)
     | no ne ↦ stays (is t ∙ with_else old.threads s.thread t x ne)
   ]
 
-  changes_child : (u f : ℕ) (x : ThreadState) → s.event ≡ Does (Fork u f) → old.threads u ≡ NeverForked → ((k : ℕ) → new.threads k ≡ with_at old.threads u x k) → Becomes old new s t
+  changes_child : (u f : ℕ) (x : ThreadState) → s.event ≡ Does (Fork u f) → old.threads u ≡ NeverForked
+      → ((k : ℕ) → new.threads k ≡ with_at old.threads u x k) → Becomes old new s t
   changes_child u f x event new_one is = elim (ℕ_discrete t u) [
     | yes e ↦ is_forked f (event ∙ ap (λ z. Does (Fork z f)) (sym e)) (ap old.threads e ∙ new_one)
     | no ne ↦ stays (is t ∙ with_else old.threads u t x ne)
   ]
 
-  by_act : (act : Act) (value : ℤ) → s.event ≡ Does act → MayStep (old.threads s.thread) (Does act) value → ActEffect setting old s.thread act value new → Becomes old new s t
-  by_act (Begin f) value event may x = changes_own Running (was_forked (old.threads s.thread) f value may) (λ k. ap (λ (z : State). z.threads k) x)
+  by_act : (act : Act) (value : ℤ) → s.event ≡ Does act → MayStep (old.threads s.thread) (Does act) value
+      → ActEffect setting old s.thread act value new → Becomes old new s t
+  by_act (Begin f) value event may x = changes_own Running (was_forked (old.threads s.thread) f value may)
+      (λ k. ap (λ (z : State). z.threads k) x)
   by_act End value event may x = changes_own Ended (runs_on (old.threads s.thread) may) (λ k. ap (λ (z : State). z.threads k) x)
   by_act (Acq o) value event may x = stays (ap (λ (z : State). z.threads t) x.2)
   by_act (Rel o) value event may x = stays (ap (λ (z : State). z.threads t) x.2)
@@ -88,7 +102,8 @@ module _ (setting : Setting) (old new : State) (s : Stamp) (t : ℕ) where
   by_act Input value event may x = stays (ap (λ (z : State). z.threads t) x.1)
   by_act (Fail k) value event may x = stays (ap (λ (z : State). z.threads t) x.1)
 
-  by_event : (event : Event) (value : ℤ) → s.event ≡ event → MayStep (old.threads s.thread) event value → Effect setting old s.thread event value new → Becomes old new s t
+  by_event : (event : Event) (value : ℤ) → s.event ≡ event → MayStep (old.threads s.thread) event value
+      → Effect setting old s.thread event value new → Becomes old new s t
   by_event (Does act) value is may x = by_act act value is may x
   by_event (Commit xs) value is may x = stays (ap (λ (z : State). z.threads t) x)
 
@@ -105,7 +120,8 @@ module _ (setting : Setting) (old new : State) (s : Stamp) (t : ℕ) where
       by_case (is_forked f event never) = absurd (cc)
 
 -- a thread that ends has ended
-pub ends : (setting : Setting) (old new : State) (t : ℕ) (value : ℤ) → Step setting old (record { thread = t; event = Does End }) value new → new.threads t ≡ Ended
+pub ends : (setting : Setting) (old new : State) (t : ℕ) (value : ℤ) → Step setting old (record { thread = t; event = Does End }) value new
+    → new.threads t ≡ Ended
 ends setting old new t value step = ap (λ (z : State). z.threads t) step.effect ∙ with_here old.threads t Ended
 
 -- no monitor was entered more often than so
@@ -119,7 +135,8 @@ module _ (most : ℕ) (old new : State) (within : AreWithin most old) where
   same_within : ((o : ℕ) → new.monitors o ≡ old.monitors o) → AreWithin (most + 1) new
   same_within same o t d is = let low = within o t d (sym (same o) ∙ is) in omega arith
 
-  changed_within : (g : ℕ) (m : MonitorState) → ((t d : ℕ) → m ≡ Owned t d → d ≤ most + 1) → ((o : ℕ) → new.monitors o ≡ with_at old.monitors g m o) → AreWithin (most + 1) new
+  changed_within : (g : ℕ) (m : MonitorState) → ((t d : ℕ) → m ≡ Owned t d → d ≤ most + 1)
+      → ((o : ℕ) → new.monitors o ≡ with_at old.monitors g m o) → AreWithin (most + 1) new
   changed_within g m low is o t d owned = elim (ℕ_discrete o g) [
     | yes e ↦ low t d (sym (with_here old.monitors g m) ∙ ap (with_at old.monitors g m) (sym e) ∙ sym (is o) ∙ owned)
     | no ne ↦ (let l = within o t d (sym (with_else old.monitors g o m ne) ∙ sym (is o) ∙ owned) in omega arith)
@@ -135,7 +152,8 @@ module _ (most : ℕ) (old new : State) (within : AreWithin most old) where
   left_within : (a g k : ℕ) → old.monitors g ≡ Owned a (k + 1) → (t d : ℕ) → left_once a k ≡ Owned t d → d ≤ most + 1
   left_within a g zero at t d is = absurd (cc)
   left_within a g (suc k) at t d is =
-      let z : left_once a (suc k) ≡ Owned a (suc k) = ap (λ b. if b then Free else Owned a (suc k)) (ne_eqb (suc k) 0 (λ e. absurd (omega arith))) in
+      let z : left_once a (suc k) ≡ Owned a (suc k) = ap (λ b. if b then Free else Owned a (suc k))
+      (ne_eqb (suc k) 0 (λ e. absurd (omega arith))) in
       let e : suc k ≡ d = owned_depth a t (suc k) d (sym z ∙ is) in
       let low = within g a (suc k + 1) at in
       omega arith
@@ -143,8 +161,10 @@ module _ (most : ℕ) (old new : State) (within : AreWithin most old) where
   within_act : (setting : Setting) (a : ℕ) (act : Act) (value : ℤ) → ActEffect setting old a act value new → AreWithin (most + 1) new
   within_act setting a (Begin f) value x = same_within (λ o. ap (λ (z : State). z.monitors o) x)
   within_act setting a End value x = same_within (λ o. ap (λ (z : State). z.monitors o) x)
-  within_act setting a (Acq g) value x = changed_within g x.0 (entered_within a g (old.monitors g) x.0 refl x.1) (λ o. ap (λ (z : State). z.monitors o) x.2)
-  within_act setting a (Rel g) value x = changed_within g (left_once a x.0) (left_within a g x.0 x.1) (λ o. ap (λ (z : State). z.monitors o) x.2)
+  within_act setting a (Acq g) value x = changed_within g x.0 (entered_within a g (old.monitors g) x.0 refl x.1)
+      (λ o. ap (λ (z : State). z.monitors o) x.2)
+  within_act setting a (Rel g) value x = changed_within g (left_once a x.0) (left_within a g x.0 x.1)
+      (λ o. ap (λ (z : State). z.monitors o) x.2)
   within_act setting a (VRead v) value x = same_within (λ o. ap (λ (z : State). z.monitors o) x.1)
   within_act setting a (VWrite v) value x = same_within (λ o. ap (λ (z : State). z.monitors o) x)
   within_act setting a (Fork u f) value x = same_within (λ o. ap (λ (z : State). z.monitors o) x.1)

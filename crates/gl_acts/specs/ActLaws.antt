@@ -14,7 +14,8 @@ StatesAreSettled =
 
 -- a listed record has one such first place at most
 abbrev pub OneActFailsFirst : Type 0
-OneActFailsFirst = (setting : Setting) (R : Lists) → Listed R → (c d : Place) → ActFailsFirst setting R c → ActFailsFirst setting R d → c ≡ d
+OneActFailsFirst =
+    (setting : Setting) (R : Lists) → Listed R → (c d : Place) → ActFailsFirst setting R c → ActFailsFirst setting R d → c ≡ d
 
 -- a record that is a run of the machine has none
 abbrev pub RunsDoNotFail : Type 0

@@ -1,5 +1,5 @@
 -- Where the events of a record, taken by their positions, are a run of the one-memory machine, and the first place where they are not.
-use Rattle.std.specs.Prelude.{◌≡◌, ◌≢◌, ℕ, ℤ, ◌+◌, ◌<◌, List, [], length, ◌⊎◌}
+use Rattle.std.specs.Prelude.{◌≡◌, ◌≢◌, ℕ, ℤ, ◌+◌, ◌<◌, List, [], length, Option, Some, None, ◌⊎◌}
 use Rattle.gl_model.specs.declared.event.Act.TheVariants.{Fork}
 use Rattle.gl_model.specs.declared.event.Stamp.{Stamp}
 use Rattle.gl_model.specs.Entries.{Sync}
@@ -39,3 +39,8 @@ pub record LivesAt (setting : Setting) (R : Lists) (n : ℕ) (c : Place) : Type 
 -- the first place where the record is no run of the machine: by position; and then, where all events are steps, the least live thread
 abbrev pub ActFailsFirst : Setting → Lists → Place → Type 0
 ActFailsFirst setting R c = ((p : ℕ) × ActFailsAt setting R p c) ⊎ ((h : List Stamp) × IsEventList h R × LivesAt setting R (length h) c)
+
+-- what is found: none where the record is a run of the machine, else the first place where it is not
+abbrev pub IsActFault : Setting → Lists → Option Place → Type 0
+IsActFault setting R None = RunsMachine setting R
+IsActFault setting R (Some c) = ActFailsFirst setting R c

@@ -1,16 +1,25 @@
 -- Whether an event is a step of the machine from the states that the coded state stands for.
-use Rattle.std.specs.Prelude.{◌≡◌, ℕ, ℤ, Bool, MatchBool}
+use Rattle.std.specs.Prelude.{◌≡◌, ℕ, ℤ, ◌<◌, Bool, List, MatchBool}
 use Rattle.gl_model.specs.declared.event.Act.{Act}
-use Rattle.gl_model.specs.declared.event.Event.TheVariants.{Act as Does}
+use Rattle.gl_model.specs.declared.event.Event.TheVariants.{Act as Does, Commit}
 use Rattle.gl_model.specs.declared.event.Stamp.{Stamp}
+use Rattle.gl_model.specs.declared.limits.TheConstants.{MONITORS}
 use Rattle.gl_model.specs.Machine.{Setting, State, Step}
 use Rattle.gl_state.specs.Entering.{IsShallow}
 use Rattle.gl_state.specs.ListView.{ListView}
 use Rattle.gl_state.specs.States.{IsStateOf}
 
+-- the answer tells whether it holds
+abbrev pub Tells : Bool → Type 0 → Type 0
+Tells answer P = MatchBool answer P (¬ P)
+
 -- thread t does this act
 abbrev pub act_by : ℕ → Act → Stamp
 act_by t act = record { thread = t; event = Does act }
+
+-- thread t commits, with these variables
+abbrev pub commit_by : ℕ → List ℕ → Stamp
+commit_by t xs = record { thread = t; event = Commit xs }
 
 -- from each state that old stands for, the event with this value is a step, to a state that new stands for
 abbrev pub IsStepFrom : Setting → Stamp → ℤ → ListView → ListView → Type 0
@@ -27,4 +36,4 @@ Applies setting s value old new made =
 
 -- no monitor was entered so often that it could not be counted once more
 abbrev pub AreShallow : ListView → Type 0
-AreShallow l = (o : ℕ) → IsShallow l o
+AreShallow l = (o : ℕ) → o < MONITORS → IsShallow l o

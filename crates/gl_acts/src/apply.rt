@@ -1,16 +1,13 @@
 // Whether an entry of a thread is a step of the machine; if it is one, the coded state makes it.
-ghost use Rattle.std.specs.Prelude.{◌≡◌, ℕ, ℤ, pos, ◌<◌, List, Some};
-ghost use Rattle.gl_acts.specs.Applying.{act_by, Applies, AreShallow};
+ghost use Rattle.std.specs.Prelude.{◌≡◌, ℕ, ℤ, pos, ◌<◌, List};
+ghost use Rattle.gl_acts.specs.Applying.{act_by, Applies, AreShallow, commit_by};
+ghost use Rattle.gl_acts.specs.Making.{AppliesEntry};
 ghost use Rattle.gl_bytecode.specs.Lawful.{setting_of};
-ghost use Rattle.gl_model.specs.declared.event.Event.TheVariants.{Commit as Commits};
-ghost use Rattle.gl_model.specs.declared.event.Stamp.{Stamp};
 ghost use Rattle.gl_model.specs.declared.limits.TheConstants.{THREADS};
 ghost use Rattle.gl_model.specs.Elements.{IsActInRange};
 ghost use Rattle.gl_model.specs.Entries.{seen};
-ghost use Rattle.gl_model.specs.Form.{value_of};
 ghost use Rattle.gl_model.specs.Kept.{IsEntryKept};
 ghost use Rattle.gl_model.specs.Machine.{Setting};
-ghost use Rattle.gl_model.specs.Records.{event_of};
 ghost use Rattle.gl_state.specs.declared.state.Stage.TheVariants as stage;
 ghost use Rattle.gl_state.specs.Acts.{stage_of};
 
@@ -86,7 +83,7 @@ pub(crate) fn apply(
 // A thread may commit while it runs; the state stays.
 fn commit(state: &ListState, thread: u8) -> bool
     requires there { thread < THREADS }
-    ensures { (setting : Setting) (xs : List ℕ) → Applies setting (record { thread = thread; event = Commits xs }) (pos 0) state.now state.now result }
+    ensures { (setting : Setting) (xs : List ℕ) → Applies setting (commit_by thread xs) (pos 0) state.now state.now result }
 {
     match state.stage(thread) {
         Stage::Running => true,
@@ -105,7 +102,7 @@ pub(crate) fn apply_entry(
     requires there { thread < THREADS }
     requires kept { IsEntryKept (seen entry.now) }
     requires shallow { AreShallow state.old }
-    ensures { (s : Stamp) → s.thread ≡ thread → event_of (seen entry.now) ≡ Some s.event → Applies (setting_of program.now inputs.now) s (value_of (seen entry.now)) state.old state.new result }
+    ensures { AppliesEntry (setting_of program.now inputs.now) thread (seen entry.now) state.old state.new result }
 {
     match entry {
         Entry::Sync { act, value, .. } => {

@@ -1,7 +1,8 @@
 // What a running thread does to the state, one function for each act that changes it. Each answers whether the act, with the value
 // of its entry, is a step of the machine, and makes the step if it is one.
-ghost use Rattle.std.specs.Prelude.{◌≡◌, ℕ, ℤ, ◌+◌, ◌<◌, List, MatchBool, Some};
-ghost use Rattle.gl_acts.specs.Applying.{act_by, Applies};
+ghost use Rattle.std.specs.Prelude.{◌≡◌, ℤ, ◌<◌, Contains, List};
+ghost use Rattle.gl_acts.specs.Applying.{act_by, Applies, Tells};
+ghost use Rattle.gl_acts.specs.Refusing.{HasEntered};
 ghost use Rattle.gl_bytecode.specs.Lawful.{forkable_of, setting_of};
 ghost use Rattle.gl_bytecode.specs.Programs.{Bytecode};
 ghost use Rattle.gl_model.specs.declared.event.Act.TheVariants as act;
@@ -9,8 +10,7 @@ ghost use Rattle.gl_model.specs.declared.limits.TheConstants.{CLASSES, MONITORS,
 ghost use Rattle.gl_model.specs.Machine.{Setting};
 ghost use Rattle.gl_state.specs.declared.state.Stage.TheVariants as stage;
 ghost use Rattle.gl_state.specs.Acts.{IsLeastNew, stage_of};
-ghost use Rattle.gl_state.specs.Entering.{IsShallow, monitor_of};
-ghost use Rattle.std.specs.Prelude.{Contains};
+ghost use Rattle.gl_state.specs.Entering.{IsShallow};
 
 use gl_bytecode::Program;
 use gl_model::Inputs;
@@ -50,7 +50,7 @@ pub(crate) fn acquire(state: &mut ListState, by: By, monitor: u16) -> bool
 // The thread has entered the monitor, and has not left it as often.
 fn has_entered(state: &ListState, thread: u8, monitor: u16) -> bool
     requires there { monitor < MONITORS }
-    ensures { MatchBool result ((depth : ℕ) × (monitor_of state.now monitor ≡ Some (thread, depth + 1))) (¬ ((depth : ℕ) × (monitor_of state.now monitor ≡ Some (thread, depth + 1)))) }
+    ensures { Tells result (HasEntered state.now thread monitor) }
 {
     match state.owner(monitor) {
         None => false,
@@ -92,7 +92,7 @@ pub(crate) fn write(state: &mut ListState, by: By, field: u16) -> bool
 
 // The thread is the least but 0 that was never forked.
 fn is_least_new(state: &ListState, thread: u8) -> bool
-    ensures { MatchBool result (IsLeastNew state.now thread) (¬ IsLeastNew state.now thread) }
+    ensures { Tells result (IsLeastNew state.now thread) }
 {
     match state.least_new() {
         None => false,
@@ -102,7 +102,7 @@ fn is_least_new(state: &ListState, thread: u8) -> bool
 
 // A thread may be forked with the function.
 fn is_forkable(program: &Program, func: u16) -> bool
-    ensures { MatchBool result (Contains (forkable_of program.now) func) (¬ Contains (forkable_of program.now) func) }
+    ensures { Tells result (Contains (forkable_of program.now) func) }
 {
     program.args(func) == 1
 }
@@ -111,7 +111,7 @@ fn is_forkable(program: &Program, func: u16) -> bool
 pub(crate) fn fork(program: &Program, state: &mut ListState, by: By, child: u8, func: u16) -> bool
     requires there { child < THREADS }
     requires runs { stage_of state.old by.thread ≡ stage.Running }
-    ensures { (inputs : List ℤ) → Applies (setting_of program.now inputs) (act_by by.thread (act.Fork child func)) by.value state.old state.new result }
+    ensures { (xs : List ℤ) → Applies (setting_of program.now xs) (act_by by.thread (act.Fork child func)) by.value state.old state.new result }
 {
     if !is_forkable(program, func) || !is_least_new(state, child) {
         return false;
@@ -124,7 +124,7 @@ pub(crate) fn fork(program: &Program, state: &mut ListState, by: By, child: u8, 
 pub(crate) fn make(program: &Program, state: &mut ListState, by: By, class: u16) -> bool
     requires there { class < CLASSES }
     requires runs { stage_of state.old by.thread ≡ stage.Running }
-    ensures { (inputs : List ℤ) → Applies (setting_of program.now inputs) (act_by by.thread (act.Alloc class)) by.value state.old state.new result }
+    ensures { (xs : List ℤ) → Applies (setting_of program.now xs) (act_by by.thread (act.Alloc class)) by.value state.old state.new result }
 {
     let fields = match program.class_of(class) {
         None => return false,
@@ -153,7 +153,8 @@ pub(crate) fn take(inputs: &Inputs, state: &mut ListState, by: By) -> bool
             if next != by.value {
                 return false;
             }
-            inputs.len();
+            // no more were taken than there are, and those can be counted
+            let _few = inputs.len();
             state.take_input();
             true
         }

@@ -1,19 +1,14 @@
 // The first place where a record is no run of the machine.
-ghost use Rattle.std.specs.Prelude.{◌≡◌, ◌≢◌, ℕ, ℤ, ◌<◌, [], IfOk, MatchBool, MatchOption, None};
-ghost use Rattle.gl_acts.specs.Acting.{ActFailsFirst, RunsMachine};
-ghost use Rattle.gl_acts.specs.Applying.{Applies, AreShallow};
+ghost use Rattle.std.specs.Prelude.{◌≡◌, IfOk, IfSome, None, option_map, slice_get};
+ghost use Rattle.gl_acts.specs.Acting.{IsActFault};
+ghost use Rattle.gl_acts.specs.Applying.{AreShallow, Tells};
 ghost use Rattle.gl_acts.specs.Making.{HasForked, Makes};
 ghost use Rattle.gl_bytecode.specs.Lawful.{setting_of};
-ghost use Rattle.gl_model.specs.declared.event.Act.TheVariants.{Fork};
-ghost use Rattle.gl_model.specs.declared.event.Stamp.{Stamp};
-ghost use Rattle.gl_model.specs.declared.limits.TheConstants.{THREADS};
-ghost use Rattle.gl_model.specs.Entries.{seen, Sync};
-ghost use Rattle.gl_model.specs.Form.{Form, Listed, value_of};
-ghost use Rattle.gl_model.specs.Kept.{IsEntryKept};
+ghost use Rattle.gl_model.specs.Entries.{seen};
+ghost use Rattle.gl_model.specs.Form.{Form, Listed};
 ghost use Rattle.gl_model.specs.Lists.{lists_of};
-ghost use Rattle.gl_model.specs.Records.{EntryAt, event_of, IsEventAt};
+ghost use Rattle.gl_model.specs.Records.{EntryAt};
 ghost use Rattle.gl_places.specs.Places.{seen as seen_place};
-ghost use Rattle.gl_state.specs.ListView.{ListView};
 
 use crate::apply::apply_entry;
 use gl_bytecode::Program;
@@ -24,7 +19,8 @@ use std::alloc::{AllocError, Global};
 
 // The entry at the place, if there is one.
 fn entry_at(made: &Record, place: Place) -> Option<&Entry>
-    ensures { MatchOption result ((e : _) → EntryAt (lists_of made.now) (seen_place place) e → ⊥) (λ e. EntryAt (lists_of made.now) (seen_place place) (seen e.now)) }
+    ensures some { IfSome result (λ e. EntryAt (lists_of made.now) (seen_place place) (seen e.now)) }
+    ensures none { result ≡ None → slice_get (lists_of made.now place.thread) place.index ≡ None }
 {
     let list = made.thread(place.thread)?;
     list.get(place.index as usize)
@@ -32,7 +28,7 @@ fn entry_at(made: &Record, place: Place) -> Option<&Entry>
 
 // The thread that an entry forks, if it forks one, has a list.
 fn has_forked(made: &Record, entry: &Entry) -> bool
-    ensures { MatchBool result (HasForked (lists_of made.now) (seen entry.now)) (¬ HasForked (lists_of made.now) (seen entry.now)) }
+    ensures { Tells result (HasForked (lists_of made.now) (seen entry.now)) }
 {
     made.keeps();
     match entry {
@@ -48,7 +44,7 @@ fn has_forked(made: &Record, entry: &Entry) -> bool
 }
 
 // Makes the step of the event at the place, if it is one, and if a thread that it forks has a list.
-fn makes_step(
+pub(crate) fn makes_step(
     program: &Program,
     inputs: &Inputs,
     made: &Record,
@@ -81,9 +77,8 @@ pub fn act_fault(
 ) -> Result<Option<Place>, AllocError>
     requires form { Form (lists_of made.now) }
     requires listed { Listed (lists_of made.now) }
-    ensures { IfOk result (λ found. MatchOption found (RunsMachine (setting_of program.now inputs.now) (lists_of made.now)) (λ c. ActFailsFirst (setting_of program.now inputs.now) (lists_of made.now) (seen_place c))) }
+    ensures { IfOk result (λ found. IsActFault (setting_of program.now inputs.now) (lists_of made.now) (option_map seen_place found)) }
 {
-    made.keeps();
     let places = event_places(alloc, made)?;
     let mut state = ListState::new(alloc, program.main())?;
     for place in &places {

@@ -1,6 +1,6 @@
 // What a running thread does that leaves the state as it is: it joins a thread that has ended, or it is refused what it asked for.
-ghost use Rattle.std.specs.Prelude.{◌≡◌, ℕ, ℤ, pos, ◌<◌, IfSome, List, MatchBool, None};
-ghost use Rattle.gl_acts.specs.Applying.{act_by, Applies};
+ghost use Rattle.std.specs.Prelude.{◌≡◌, ℕ, ℤ, pos, ◌<◌, IfSome, List, None};
+ghost use Rattle.gl_acts.specs.Applying.{act_by, Applies, Tells};
 ghost use Rattle.gl_acts.specs.Refusing.{IsFull, IsNotOwner, IsUnforked};
 ghost use Rattle.gl_bytecode.specs.Lawful.{setting_of};
 ghost use Rattle.gl_model.specs.declared.event.Act.TheVariants as act;
@@ -16,7 +16,7 @@ use gl_state::{ListState, Stage};
 
 // The thread is in this stage.
 fn has_ended(found: Stage) -> bool
-    ensures { MatchBool result (found ≡ stage.Ended) (¬ (found ≡ stage.Ended)) }
+    ensures { Tells result (found ≡ stage.Ended) }
 {
     match found {
         Stage::Ended => true,
@@ -26,7 +26,7 @@ fn has_ended(found: Stage) -> bool
 
 // The thread was never forked.
 fn is_new(found: Stage) -> bool
-    ensures { MatchBool result (found ≡ stage.Never) (¬ (found ≡ stage.Never)) }
+    ensures { Tells result (found ≡ stage.Never) }
 {
     match found {
         Stage::Never => true,
@@ -56,7 +56,7 @@ fn named(value: i64, limit: u16) -> Option<u16>
 
 // The value is a monitor that the thread is not in.
 fn is_not_owner(state: &ListState, by: By) -> bool
-    ensures { MatchBool result (IsNotOwner state.now by.thread by.value) (¬ IsNotOwner state.now by.thread by.value) }
+    ensures { Tells result (IsNotOwner state.now by.thread by.value) }
 {
     match named(by.value, MONITORS) {
         None => false,
@@ -69,9 +69,10 @@ fn is_not_owner(state: &ListState, by: By) -> bool
 
 // The value is a class whose next object does not fit.
 fn is_full(program: &Program, state: &ListState, by: By) -> bool
-    ensures { (inputs : List ℤ) → MatchBool result (IsFull (setting_of program.now inputs) state.now by.value) (¬ IsFull (setting_of program.now inputs) state.now by.value) }
+    ensures { (inputs : List ℤ) → Tells result (IsFull (setting_of program.now inputs) state.now by.value) }
 {
-    let _main = program.main();
+    // the program is valid, so it has no class beyond the limit
+    let _valid = program.main();
     let class = match named(by.value, CLASSES) {
         None => return false,
         Some(class) => class,
@@ -84,7 +85,7 @@ fn is_full(program: &Program, state: &ListState, by: By) -> bool
 
 // The value is a thread that was never forked.
 fn is_unforked(state: &ListState, by: By) -> bool
-    ensures { MatchBool result (IsUnforked state.now by.value) (¬ IsUnforked state.now by.value) }
+    ensures { Tells result (IsUnforked state.now by.value) }
 {
     match named(by.value, u16::from(THREADS)) {
         None => false,

@@ -204,7 +204,7 @@ impl Tables {
     }
 
     /// An act of the thread, more.
-    pub(crate) fn take_act(&mut self, thread: u8, act: Act, ticks: &mut u64)
+    pub fn take_act(&mut self, thread: u8, act: Act, ticks: &mut u64)
         requires sized { IsSized self.old }
         requires thread { thread < THREADS }
         requires act { IsActInRange act }
@@ -224,7 +224,7 @@ impl Tables {
     }
 
     /// What the thread knows after what a commit on these variables acquires.
-    pub(crate) fn acquired_all(&self, thread: u8, variables: &VarSet, ticks: &mut u64) -> [u32; ALL]
+    pub fn acquired_all(&self, thread: u8, variables: &VarSet, ticks: &mut u64) -> [u32; ALL]
         requires sized { IsSized self.now }
         requires thread { thread < THREADS }
         ensures known { (u : ℕ) → at result u ≡ taken (clocks_in self.now) (record { thread = thread; event = Commit variables.now }) u }
@@ -249,7 +249,7 @@ impl Tables {
     }
 
     /// A commit of the thread, more, by what it knows after what it acquires.
-    pub(crate) fn take_commit(
+    pub fn take_commit(
         &mut self,
         thread: u8,
         variables: &VarSet,
@@ -309,7 +309,7 @@ impl Tables {
     }
 
     /// What the thread knows.
-    pub(crate) fn known(&self, thread: u8) -> &[u32; ALL]
+    pub fn known(&self, thread: u8) -> &[u32; ALL]
         requires { thread < THREADS }
         ensures { result.now ≡ slice_index_or self.now.threads thread [] }
     {
@@ -329,7 +329,7 @@ impl Tables {
     }
 
     /// Whether the events of one more line can be counted.
-    pub(crate) fn has_room(&self) -> bool
+    pub fn has_room(&self) -> bool
         ensures { IsTrue result ↔ (self.now.next < 2 ^ 31) }
     {
         self.next < 1 << 31

@@ -26,7 +26,8 @@ module _ {A : Type 0} where
   get_new [] x = refl
   get_new (y ∷ ys) x = get_new ys x
 
-  get_cases : (xs : List A) (x y : A) (i : ℕ) → slice_get (xs ++ x ∷ []) i ≡ Some y → (slice_get xs i ≡ Some y) ⊎ ((i ≡ length xs) × (y ≡ x))
+  get_cases : (xs : List A) (x y : A) (i : ℕ) → slice_get (xs ++ x ∷ []) i ≡ Some y → (slice_get xs i ≡ Some y) ⊎
+      ((i ≡ length xs) × (y ≡ x))
   get_cases [] x y zero a = inr (refl, let s : x ≡ y = cc in sym s)
   get_cases [] x y (suc i) a = absurd (cc)
   get_cases (z ∷ zs) x y zero a = inl a
@@ -98,7 +99,8 @@ module _ (R : Lists) (h : List Stamp) (is_list : IsEventList h R) (form : Form R
         | inr same ↦ (length f.places, get_new f.places c ∙ ap Some (sym same))
       ]
 
-      in_order : (j k : ℕ) (x y : Place) → slice_get (f.places ++ c ∷ []) j ≡ Some x → slice_get (f.places ++ c ∷ []) k ≡ Some y → j < k → InFlatOrder R x y
+      in_order : (j k : ℕ) (x y : Place) → slice_get (f.places ++ c ∷ []) j ≡ Some x → slice_get (f.places ++ c ∷ []) k ≡ Some y → j < k →
+          InFlatOrder R x y
       in_order j k x y a g lt = elim (get_cases f.places c x j a) [
         | inl first ↦ elim (get_cases f.places c y k g) [
           | inl second ↦ f.in_order j k x y first second lt
@@ -115,16 +117,24 @@ module _ (R : Lists) (h : List Stamp) (is_list : IsEventList h R) (form : Form R
     own : (d : Place) → IsBlockOf R d p → d.thread ≡ c.thread
     own d b = one_thread R h is_list rise d c p b (block_of_event R rise c p s event)
 
-    pass : (i : ℕ) → ((d : Place) → IsLaidOutAt R d → IsBlockOf R d p → d ≡ record { thread = c.thread; index = i } → ⊥) → FlatUpTo R p i → FlatUpTo R p (i + 1)
-    pass i none = as_far p i p (i + 1) (λ d laid. (walked_on R h is_list rise p i (i + 1) (omega arith) d, walked_other R h is_list rise c.thread p i own d (none d laid)))
+    pass : (i : ℕ) → ((d : Place) → IsLaidOutAt R d → IsBlockOf R d p → d ≡ record { thread = c.thread; index = i } → ⊥) → FlatUpTo R p i →
+        FlatUpTo R p (i + 1)
+    pass i none = as_far p i p (i + 1) (λ d laid. (
+      walked_on R h is_list rise p i (i + 1) (omega arith) d,
+      walked_other R h is_list rise c.thread p i own d (none d laid),
+    ))
 
     next : (i : ℕ) (o : Option Entry) → slice_get (R c.thread) i ≡ o → FlatUpTo R p i → FlatUpTo R p (i + 1)
-    next i None at f = pass i (λ d laid b same. let z : EntryAt R (record { thread = c.thread; index = i }) laid.0 = subst (λ x. EntryAt R x laid.0) same laid.1 in cc) f
+    next i None at f = pass i (λ d laid b same. let z : EntryAt R (record { thread = c.thread; index = i }) laid.0 =
+        subst (λ x. EntryAt R x laid.0) same laid.1 in cc) f
     next i (Some e) at f = elim (laid_or_not e) [
-      | inr not ↦ pass i (λ d laid b same. not (subst IsLaidOut (same_entry R (record { thread = c.thread; index = i }) laid.0 e (subst (λ x. EntryAt R x laid.0) same laid.1) at) laid.2)) f
+      | inr not ↦ pass i (λ d laid b same. not (subst IsLaidOut
+          (same_entry R (record { thread = c.thread; index = i }) laid.0 e (subst (λ x. EntryAt R x laid.0) same laid.1) at) laid.2)) f
       | inl laid ↦ (let q = laid_block R form (record { thread = c.thread; index = i }) e at laid in elim (ℕ_discrete q.0 p) [
-        | yes same ↦ push (record { thread = c.thread; index = i }) p e at laid (subst (λ z. IsBlockOf R (record { thread = c.thread; index = i }) z) same q.1) f
-        | no ne ↦ pass i (λ d l b same. ne (one_block R rise (record { thread = c.thread; index = i }) q.0 p q.1 (subst (λ z. IsBlockOf R z p) same b))) f
+        | yes same ↦ push (record { thread = c.thread; index = i }) p e at laid
+            (subst (λ z. IsBlockOf R (record { thread = c.thread; index = i }) z) same q.1) f
+        | no ne ↦ pass i (λ d l b same. ne (one_block R rise (record { thread = c.thread; index = i }) q.0 p q.1
+            (subst (λ z. IsBlockOf R z p) same b))) f
       ])
     ]
 
@@ -133,7 +143,10 @@ module _ (R : Lists) (h : List Stamp) (is_list : IsEventList h R) (form : Form R
     of_list (suc i) f = rw (sym (add-one i)) (next i (slice_get (R c.thread) i) refl (of_list i f))
 
     of_block : FlatUpTo R p 0 → FlatUpTo R (p + 1) 0
-    of_block f = as_far p (length (R c.thread)) (p + 1) 0 (λ d laid. walked_end R h is_list rise p (length (R c.thread)) d (λ b. subst (λ t. d.index < length (R t)) (own d b) (slice_get_within (R d.thread) d.index laid.0 laid.1))) (of_list (length (R c.thread)) f)
+    of_block f = as_far p (length (R c.thread)) (p + 1) 0
+        (λ d laid. walked_end R h is_list rise p (length (R c.thread)) d
+        (λ b. subst (λ t. d.index < length (R t)) (own d b) (slice_get_within (R d.thread) d.index laid.0 laid.1)))
+        (of_list (length (R c.thread)) f)
 
   up_to : (n : ℕ) → n ≤ length h → FlatUpTo R n 0
   up_to zero le = none_yet
@@ -155,6 +168,7 @@ module _ (R : Lists) (h : List Stamp) (is_list : IsEventList h R) (form : Form R
       from : (c : Place) → IsLaidOutAt R c → Contains f.places c
       from c laid =
           let q = laid_block R form c laid.0 laid.1 laid.2 in
-          let n : q.0 < length h = slice_get_within h q.0 q.1.event (is_list.listed (record { thread = c.thread; index = q.1.index }) q.0 q.1.event q.1.made) in
+          let n : q.0 < length h = slice_get_within h q.0 q.1.event
+          (is_list.listed (record { thread = c.thread; index = q.1.index }) q.0 q.1.event q.1.made) in
           let at = (f.each c).1 ((q.0, q.1, inl n), laid) in
           contains_at f.places at.0 c at.1

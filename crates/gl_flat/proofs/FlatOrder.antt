@@ -43,4 +43,8 @@ module _ (R : Lists) (h : List Stamp) (is_list : IsEventList h R) (rise : Positi
 
   -- no place comes before itself
   pub no_loop : (c : Place) → InFlatOrder R c c → ⊥
-  no_loop c f = elim f.order [ inl lt ↦ (let z = one_block R rise c f.first f.second f.of_first f.of_second in omega arith) | inr o ↦ (let z = o.1.1 in omega arith) ]
+  no_loop c f = elim f.order [
+    | inl lt ↦ (let z = one_block R rise c f.first f.second f.of_first f.of_second in omega arith)
+    | inr o ↦
+        (let z = o.1.1 in omega arith)
+  ]

@@ -16,7 +16,8 @@ use Rattle.gl_flat.proofs.Blocks.{laid_block, plain_runs, positions_rise}
 use Rattle.gl_flat.proofs.FlatList.{at_contains, contains_at, history}
 use Rattle.gl_flat.proofs.FlatWords.{Among, first_word, laid_in, reads_laid, step_word, word_at, word_is}
 
-module _ (setting : Setting) (R : Lists) (h : List Stamp) (is_list : IsEventList h R) (form : Form R) (machine : IsMachineRun setting R h) (cs : List Place) (flat : IsFlat R cs) where
+module _ (setting : Setting) (R : Lists) (h : List Stamp) (is_list : IsEventList h R) (form : Form R) (machine : IsMachineRun setting R h)
+    (cs : List Place) (flat : IsFlat R cs) where
   abbrev rise : PositionsRise R
   rise = positions_rise R form
 
@@ -42,18 +43,22 @@ module _ (setting : Setting) (R : Lists) (h : List Stamp) (is_list : IsEventList
 
   module _ (rising : (c : Place) (e : Entry) → EntryAt R c e → RisingWrites e) (hold : WordsHold R) where
     unraised : (k : ℕ) (c : Place) (e : Entry) → slice_get cs k ≡ Some c → EntryAt R c e → IsLaidOut e
-    unraised k c e at there = let laid = laid_in R h is_list rise cs flat k c at in subst IsLaidOut (same_entry R c laid.0 e laid.1 there) laid.2
+    unraised k c e at there = let laid = laid_in R h is_list rise cs flat k c at in
+        subst IsLaidOut (same_entry R c laid.0 e laid.1 there) laid.2
 
     agree : ReadsAgree setting R h is_list rise machine cs flat block blocks
     unfolding words
     agree = record {
       reads = λ k c var nth cached raised value at there.
           word_is R h is_list rise cs flat rising k c var value at
-          (hold.flat c (Plain var nth cached false value raised) there var value (unraised k c (Plain var nth cached false value raised) at there, refl, refl, refl));
+          (hold.flat c (Plain var nth cached false value raised) there var value
+          (unraised k c (Plain var nth cached false value raised) at there, refl, refl, refl));
       looks = λ k c at tx here there j l found.
-          word_is R h is_list rise cs flat rising k c l.var l.value here (hold.flat c (Commit at tx) there l.var l.value (l, contains_at tx.looks j l found, refl, refl));
+          word_is R h is_list rise cs flat rising k c l.var l.value here
+          (hold.flat c (Commit at tx) there l.var l.value (l, contains_at tx.looks j l found, refl, refl));
       runs = λ k c var nth cached write raised value at there.
-          subst (λ n. (machine.at n).threads c.thread ≡ Running) (add-one (block k)) (plain_runs R form setting h machine c (block k) var nth cached write raised value there (blocks k c at));
+          subst (λ n. (machine.at n).threads c.thread ≡ Running) (add-one (block k))
+          (plain_runs R form setting h machine c (block k) var nth cached write raised value there (blocks k c at));
     }
 
     pub legal_so : Legal setting R
@@ -66,11 +71,14 @@ module _ (setting : Setting) (R : Lists) (h : List Stamp) (is_list : IsEventList
     }
 
 -- a record whose words hold is legal
-pub legal_of : (setting : Setting) (R : Lists) (h : List Stamp) → IsEventList h R → Form R → IsMachineRun setting R h → ((c : Place) (e : Entry) → EntryAt R c e → RisingWrites e) → WordsHold R → Legal setting R
-legal_of setting R h is_list form machine rising hold = let cs = history R h is_list form in legal_so setting R h is_list form machine cs.0 cs.1 rising hold
+pub legal_of : (setting : Setting) (R : Lists) (h : List Stamp) → IsEventList h R → Form R → IsMachineRun setting R h →
+    ((c : Place) (e : Entry) → EntryAt R c e → RisingWrites e) → WordsHold R → Legal setting R
+legal_of setting R h is_list form machine rising hold = let cs = history R h is_list form in
+    legal_so setting R h is_list form machine cs.0 cs.1 rising hold
 
 -- one step of the machine writes what its entry writes
-step_words : (setting : Setting) (old new : Memory) (t : ℕ) (e : Entry) → IsStep setting old t e new → IsLaidOut e → (x : ℕ) → new.words x ≡ words_past old.words e x
+step_words : (setting : Setting) (old new : Memory) (t : ℕ) (e : Entry) → IsStep setting old t e new → IsLaidOut e → (x : ℕ) →
+    new.words x ≡ words_past old.words e x
 step_words setting old new t (Sync at act value) step laid x = ap (λ (f : ℕ → ℤ). f x) step.1
 step_words setting old new t (Commit at tx) step laid x = ap (λ (m : Memory). m.words x) step.2
 step_words setting old new t (Plain var nth cached true value false) step laid x = ap (λ (m : Memory). m.words x) step.1
@@ -81,8 +89,10 @@ step_words setting old new t (Trim low) step laid x = absurd step
 step_words setting old new t (Over ending) step laid x = absurd step
 
 -- and reads the words
-step_reads : (setting : Setting) (old new : Memory) (t : ℕ) (e : Entry) → IsStep setting old t e new → (x : ℕ) (v : ℤ) → ReadsValue e x v → v ≡ old.words x
-step_reads setting old new t (Commit at tx) step x v r = let k = at_contains tx.looks r.0 r.1 in sym r.3 ∙ step.1 k.0 r.0 k.1 ∙ ap old.words r.2
+step_reads : (setting : Setting) (old new : Memory) (t : ℕ) (e : Entry) → IsStep setting old t e new → (x : ℕ) (v : ℤ) → ReadsValue e x v →
+    v ≡ old.words x
+step_reads setting old new t (Commit at tx) step x v r = let k = at_contains tx.looks r.0 r.1 in sym r.3 ∙ step.1 k.0 r.0 k.1 ∙
+    ap old.words r.2
 step_reads setting old new t (Plain var nth cached true value raised) step x v r = absurd (let z = r.1 in cc)
 step_reads setting old new t (Plain var nth cached false value raised) step x v r = sym r.3 ∙ step.1 ∙ ap old.words r.2
 step_reads setting old new t (Sync at act value) step x v r = absurd r
@@ -90,13 +100,16 @@ step_reads setting old new t (Abort tx why) step x v r = absurd r
 step_reads setting old new t (Trim low) step x v r = absurd r
 step_reads setting old new t (Over ending) step x v r = absurd r
 
-module _ (setting : Setting) (R : Lists) (h : List Stamp) (is_list : IsEventList h R) (rising : PositionsRise R) (legal : Legal setting R) where
+module _ (setting : Setting) (R : Lists) (h : List Stamp) (is_list : IsEventList h R) (rising : PositionsRise R)
+    (legal : Legal setting R) where
   abbrev cs : List Place
   cs = legal.history
 
   -- each place of a run reads the words there
-  along : (rest : List Place) (k : ℕ) (old : Memory) → ((j : ℕ) → slice_get rest j ≡ slice_get cs (k + j)) → IsRun setting R old rest legal.after →
-      ((x : ℕ) → IsLastWord R (Among R h is_list rising cs legal.flat k) x (old.words x)) → (j : ℕ) (c : Place) → slice_get rest j ≡ Some c →
+  along : (rest : List Place) (k : ℕ) (old : Memory) → ((j : ℕ) → slice_get rest j ≡ slice_get cs (k + j)) →
+      IsRun setting R old rest legal.after →
+      ((x : ℕ) → IsLastWord R (Among R h is_list rising cs legal.flat k) x (old.words x)) → (j : ℕ) (c : Place) →
+      slice_get rest j ≡ Some c →
       (e : Entry) → EntryAt R c e → (x : ℕ) (v : ℤ) → ReadsValue e x v → IsWordAt R c x v
   along [] k old same run words j c at = absurd (cc)
   along (d ∷ ds) k old same run words zero c at = λ e there x v reads.
@@ -105,13 +118,15 @@ module _ (setting : Setting) (R : Lists) (h : List Stamp) (is_list : IsEventList
       let f_there : EntryAt R c run.0 = subst (λ y. EntryAt R y run.0) is run.1 in
       let r : ReadsValue run.0 x v = subst (λ f. ReadsValue f x v) (same_entry R c e run.0 there f_there) reads in
       let value = step_reads setting old run.2.0 d.thread run.0 run.2.1 x v r in
-      word_at R h is_list rising cs legal.flat k c x v here (subst (IsLastWord R (Among R h is_list rising cs legal.flat k) x) (sym value) (words x))
+      word_at R h is_list rising cs legal.flat k c x v here
+      (subst (IsLastWord R (Among R h is_list rising cs legal.flat k) x) (sym value) (words x))
   along (d ∷ ds) k old same run words (suc j) c at =
       let here : slice_get cs k ≡ Some d = ap (slice_get cs) (let z : k ≡ k + 0 = omega arith in z) ∙ sym (same 0) in
       let laid = laid_in R h is_list rising cs legal.flat k d here in
       let e_laid : IsLaidOut run.0 = subst IsLaidOut (same_entry R d laid.0 run.0 laid.1 run.1) laid.2 in
       along ds (suc k) run.2.0 (λ i. same (suc i) ∙ ap (slice_get cs) (let z : k + suc i ≡ suc k + i = omega arith in z)) run.2.2
-      (λ x. subst (IsLastWord R (Among R h is_list rising cs legal.flat (suc k)) x) (sym (step_words setting old run.2.0 d.thread run.0 run.2.1 e_laid x))
+      (λ x. subst (IsLastWord R (Among R h is_list rising cs legal.flat (suc k)) x)
+      (sym (step_words setting old run.2.0 d.thread run.0 run.2.1 e_laid x))
       (step_word R h is_list rising cs legal.flat k d run.0 old.words x here run.1 (words x)))
       j c at
 
@@ -121,5 +136,6 @@ module _ (setting : Setting) (R : Lists) (h : List Stamp) (is_list : IsEventList
       flat : (c : Place) (e : Entry) → EntryAt R c e → (x : ℕ) (v : ℤ) → ReadsValue e x v → IsWordAt R c x v
       flat c e there x v reads =
           let m = at_contains cs c ((legal.flat.each c).1 (e, there, reads_laid e x v reads)) in
-          along cs 0 (record { state = start setting; words = λ _. pos 0 }) (λ j. ap (slice_get cs) (let z : j ≡ 0 + j = omega arith in z)) legal.run
+          along cs 0 (record { state = start setting; words = λ _. pos 0 })
+          (λ j. ap (slice_get cs) (let z : j ≡ 0 + j = omega arith in z)) legal.run
           (first_word R h is_list rising cs legal.flat) m.0 c m.1 e there x v reads

@@ -80,20 +80,24 @@ module _ (R : Lists) (h : List Stamp) (is_list : IsEventList h R) (rise : Positi
       by (j, there) = elim (cases_lt j k) [
         | inl lt ↦ (j, lt, there)
         | inr ge ↦ elim (eq-or-lt_of_le ge) [
-          | inl same ↦ absurd (let z : Some d ≡ Some c = sym there ∙ subst (λ n. slice_get cs n ≡ Some c) same at in let s : d ≡ c = cc in no_loop R h is_list rise c (subst (λ y. InFlatOrder R y c) s before))
+          | inl same ↦ absurd (let z : Some d ≡ Some c = sym there ∙ subst (λ n. slice_get cs n ≡ Some c) same at in let s : d ≡ c = cc in
+              no_loop R h is_list rise c (subst (λ y. InFlatOrder R y c) s before))
           | inr gt ↦ absurd (no_loop R h is_list rise c (InFlatOrder-trans R rise (flat.in_order k j c d at there gt) before))
         ]
       ]
 
   -- one step of the words
-  pub step_word : (k : ℕ) (c : Place) (e : Entry) (words : ℕ → ℤ) (x : ℕ) → slice_get cs k ≡ Some c → EntryAt R c e → IsLastWord R (Among k) x (words x) → IsLastWord R (Among (suc k)) x (words_past words e x)
-  step_word k c e words x at there last = word_more R h is_list rise (Among k) (Among (suc k)) c e words x there (among_before k c at) (among_more k c at) last
+  pub step_word : (k : ℕ) (c : Place) (e : Entry) (words : ℕ → ℤ) (x : ℕ) → slice_get cs k ≡ Some c → EntryAt R c e →
+      IsLastWord R (Among k) x (words x) → IsLastWord R (Among (suc k)) x (words_past words e x)
+  step_word k c e words x at there last = word_more R h is_list rise (Among k) (Among (suc k)) c e words x there (among_before k c at)
+      (among_more k c at) last
 
   pub first_word : (x : ℕ) → IsLastWord R (Among 0) x (pos 0)
   first_word x = inr (refl, λ g u m w. let z = m.1 in omega arith)
 
   pub word_at : (k : ℕ) (c : Place) (x : ℕ) (v : ℤ) → slice_get cs k ≡ Some c → IsLastWord R (Among k) x v → IsWordAt R c x v
-  word_at k c x v at last = word_among R (Among k) (λ d. InFlatOrder R d c) x v (among_before k c at) (λ d u before w. before_among k c at d (writes_laid_at R d x u w) before) last
+  word_at k c x v at last = word_among R (Among k) (λ d. InFlatOrder R d c) x v (among_before k c at)
+      (λ d u before w. before_among k c at d (writes_laid_at R d x u w) before) last
 
   -- the words after the first k places
   abbrev pub words : ℕ → ℕ → ℤ
@@ -102,15 +106,22 @@ module _ (R : Lists) (h : List Stamp) (is_list : IsEventList h R) (rise : Positi
   pub words_are : (k : ℕ) → k ≤ length cs → (x : ℕ) → IsLastWord R (Among k) x (words k x)
   unfolding words_after entry_of
   words_are zero le x = first_word x
-  words_are (suc k) le x = elim ((slice_get_cases cs k).1) [ inr w ↦ absurd (let z = w.0 in omega arith) | inl w ↦ here w.0 w.2 (laid_in k w.0 w.2) (words_are k (omega arith) x) ]
+  words_are (suc k) le x = elim ((slice_get_cases cs k).1) [
+    | inr w ↦ absurd (let z = w.0 in omega arith)
+    | inl w ↦
+        here w.0 w.2 (laid_in k w.0 w.2) (words_are k (omega arith) x)
+  ]
     where
-      here : (c : Place) → slice_get cs k ≡ Some c → IsLaidOutAt R c → IsLastWord R (Among k) x (words k x) → IsLastWord R (Among (suc k)) x (words (suc k) x)
+      here : (c : Place) → slice_get cs k ≡ Some c → IsLaidOutAt R c → IsLastWord R (Among k) x (words k x) →
+          IsLastWord R (Among (suc k)) x (words (suc k) x)
       here c at (e, there, laid) before =
           let is : words (suc k) x ≡ words_past (words k) e x =
-          ap (λ (f : ℕ → ℤ). f x) (words_more R cs k c (λ _. pos 0) at) ∙ (ap (λ (o : Option Entry). write_into (words k) o x) there ∙ past_of_laid (words k) e x laid) in
+          ap (λ (f : ℕ → ℤ). f x) (words_more R cs k c (λ _. pos 0) at) ∙
+          (ap (λ (o : Option Entry). write_into (words k) o x) there ∙ past_of_laid (words k) e x laid) in
           subst (IsLastWord R (Among (suc k)) x) (sym is) (step_word k c e (words k) x at there before)
 
   module _ (rising : (c : Place) (e : Entry) → EntryAt R c e → RisingWrites e) where
     -- the word where a place is laid out is that of its place in the history
     pub word_is : (k : ℕ) (c : Place) (x : ℕ) (v : ℤ) → slice_get cs k ≡ Some c → IsWordAt R c x v → v ≡ words k x
-    word_is k c x v at w = one_word R h is_list rise rising (λ d. InFlatOrder R d c) (λ d f. (f.first, f.of_first)) x v (words k x) w (word_at k c x (words k x) at (words_are k (let n = slice_get_within cs k c at in omega arith) x))
+    word_is k c x v at w = one_word R h is_list rise rising (λ d. InFlatOrder R d c) (λ d f. (f.first, f.of_first)) x v (words k x) w
+        (word_at k c x (words k x) at (words_are k (let n = slice_get_within cs k c at in omega arith) x))

@@ -29,9 +29,11 @@ written_more ns (v ∷ ws) zero w at = let same : v ≡ w = cc in rw same (appen
     append_none (x ∷ xs) = ap (λ ys. x ∷ ys) (append_none xs)
 written_more ns (v ∷ ws) (suc i) w at =
     ap (λ ys. with_number v (find (λ n. n.var == v.var) ns) ++ ys) (written_more ns ws i w at)
-    ∙ sym (append_assoc (with_number v (find (λ n. n.var == v.var) ns)) (written_in ns (take i ws)) (with_number w (find (λ n. n.var == w.var) ns)))
+    ∙ sym (append_assoc (with_number v (find (λ n. n.var == v.var) ns)) (written_in ns (take i ws))
+    (with_number w (find (λ n. n.var == w.var) ns)))
 
-pub add_more : (ns : List Number) (ws : List Pair) (i : ℕ) (w : Pair) (o : Option Number) (first old new : List Written) → slice_get ws i ≡ Some w → o ≡ find (λ n. n.var == w.var) ns →
+pub add_more : (ns : List Number) (ws : List Pair) (i : ℕ) (w : Pair) (o : Option Number) (first old new : List Written) →
+    slice_get ws i ≡ Some w → o ≡ find (λ n. n.var == w.var) ns →
     old ≡ first ++ written_in ns (take i ws) → new ≡ old ++ with_number w o → new ≡ first ++ written_in ns (take (i + 1) ws)
 add_more ns ws i w o first old new at is so_far added =
     added ∙ ap (λ xs. xs ++ with_number w o) so_far ∙ append_assoc first (written_in ns (take i ws)) (with_number w o)
@@ -43,12 +45,14 @@ pub flat_seen : {A B C : Type 0} (f : A → B) (g : B → List C) (xs : List A) 
 flat_seen f g [] = refl
 flat_seen f g (x ∷ xs) = ap (λ ys. g (f x) ++ ys) (flat_seen f g xs)
 
-numbered : (w : Pair) (o : Option Number) (x : Written) → In (with_number w o) x → (n : Number) × (o ≡ Some n) × (record { var = w.var; nth = n.nth; value = w.value } ≡ x)
+numbered : (w : Pair) (o : Option Number) (x : Written) → In (with_number w o) x → (n : Number) × (o ≡ Some n) ×
+    (record { var = w.var; nth = n.nth; value = w.value } ≡ x)
 numbered w None x i = absurd i
 numbered w (Some n) x (inl e) = (n, refl, e)
 numbered w (Some n) x (inr i) = absurd i
 
-of_tx : (ns : List Number) (ws : List Pair) (x : Written) → In (written_in ns ws) x → In ns (record { var = x.var; nth = x.nth }) × In ws (record { var = x.var; value = x.value })
+of_tx : (ns : List Number) (ws : List Pair) (x : Written) → In (written_in ns ws) x → In ns (record { var = x.var; nth = x.nth }) ×
+    In ws (record { var = x.var; value = x.value })
 of_tx ns [] x i = absurd i
 of_tx ns (w ∷ ws) x i = elim (in_append (with_number w (find (λ n. n.var == w.var) ns)) (written_in ns ws) x i) [
   | inr j ↦ (let r = of_tx ns ws x j in (r.0, inr r.1))
@@ -62,21 +66,29 @@ of_tx ns (w ∷ ws) x i = elim (in_append (with_number w (find (λ n. n.var == w
       (subst (In ns) number f.0, inl (λ k. record { var = var k; value = value k })))
 ]
 
-to_tx : (ns : List Number) (ws : List Pair) (x : Written) → Rises (map (λ n. n.var) ns) → In ns (record { var = x.var; nth = x.nth }) → In ws (record { var = x.var; value = x.value }) → In (written_in ns ws) x
+to_tx : (ns : List Number) (ws : List Pair) (x : Written) → Rises (map (λ n. n.var) ns) → In ns (record { var = x.var; nth = x.nth }) →
+    In ws (record { var = x.var; value = x.value }) → In (written_in ns ws) x
 to_tx ns [] x rises n i = absurd i
-to_tx ns (w ∷ ws) x rises n (inr i) = append_back (with_number w (find (λ m. m.var == w.var) ns)) (written_in ns ws) x (to_tx ns ws x rises n i)
-to_tx ns (w ∷ ws) x rises n (inl e) = append_front (with_number w (find (λ m. m.var == w.var) ns)) (written_in ns ws) x (subst (λ (z : Pair). In (with_number z (find (λ m. m.var == z.var) ns)) x) (sym e) here)
+to_tx ns (w ∷ ws) x rises n (inr i) = append_back (with_number w (find (λ m. m.var == w.var) ns)) (written_in ns ws) x
+    (to_tx ns ws x rises n i)
+to_tx ns (w ∷ ws) x rises n (inl e) = append_front (with_number w (find (λ m. m.var == w.var) ns)) (written_in ns ws) x
+    (subst (λ (z : Pair). In (with_number z (find (λ m. m.var == z.var) ns)) x) (sym e) here)
   where
     here : In (with_number (record { var = x.var; value = x.value }) (find (λ m. m.var == x.var) ns)) x
-    here = subst (λ o. In (with_number (record { var = x.var; value = x.value }) o) x) (sym (found_one ns (record { var = x.var; nth = x.nth }) rises n)) (inl refl)
+    here = subst (λ o. In (with_number (record { var = x.var; value = x.value }) o) x)
+        (sym (found_one ns (record { var = x.var; nth = x.nth }) rises n)) (inl refl)
 
 -- the performed writes of an entry are what it wrote with its numbers
 pub of_entry : (e : Entry) (x : Written) → In (written_by e) x → NumberOn e x.var x.nth × WritesValue e x.var x.value
-of_entry (Plain var nth cached true value false) x (inl e) = ((ap (λ (z : Written). z.var) e, ap (λ (z : Written). z.nth) e), (refl, ap (λ (z : Written). z.var) e, refl, ap (λ (z : Written). z.value) e))
+of_entry (Plain var nth cached true value false) x (inl e) = (
+  (ap (λ (z : Written). z.var) e, ap (λ (z : Written). z.nth) e),
+  (refl, ap (λ (z : Written). z.var) e, refl, ap (λ (z : Written). z.value) e),
+)
 of_entry (Plain var nth cached true value false) x (inr i) = absurd i
 of_entry (Plain var nth cached true value true) x i = absurd i
 of_entry (Plain var nth cached false value raised) x i = absurd i
-of_entry (Commit at tx) x i = let r = of_tx tx.numbers tx.writes x i in (in_contains tx.numbers (record { var = x.var; nth = x.nth }) r.0, in_contains tx.writes (record { var = x.var; value = x.value }) r.1)
+of_entry (Commit at tx) x i = let r = of_tx tx.numbers tx.writes x i in
+    (in_contains tx.numbers (record { var = x.var; nth = x.nth }) r.0, in_contains tx.writes (record { var = x.var; value = x.value }) r.1)
 of_entry (Sync at act value) x i = absurd i
 of_entry (Abort tx why) x i = absurd i
 of_entry (Trim low) x i = absurd i
@@ -86,7 +98,8 @@ pub to_entry : (e : Entry) (x : Written) → IsEntryKept e → NumberOn e x.var 
 to_entry (Plain var nth cached true value false) x kept n w = inl (λ k. record { var = n.0 k; nth = n.1 k; value = w.3 k })
 to_entry (Plain var nth cached true value true) x kept n w = absurd (let z = w.0 in cc)
 to_entry (Plain var nth cached false value raised) x kept n w = absurd (let z = w.2 in cc)
-to_entry (Commit at tx) x kept n w = to_tx tx.numbers tx.writes x kept.2.1 (contains_in tx.numbers (record { var = x.var; nth = x.nth }) n) (contains_in tx.writes (record { var = x.var; value = x.value }) w)
+to_entry (Commit at tx) x kept n w = to_tx tx.numbers tx.writes x kept.2.1 (contains_in tx.numbers (record { var = x.var; nth = x.nth }) n)
+    (contains_in tx.writes (record { var = x.var; value = x.value }) w)
 to_entry (Sync at act value) x kept n w = absurd w
 to_entry (Abort tx why) x kept n w = absurd w
 to_entry (Trim low) x kept n w = absurd w
@@ -103,7 +116,8 @@ pub none_written : (R : Lists) → AreWritesBelow R 0 []
 none_written R x = (λ i. absurd i, λ w. let z = w.1 in omega arith)
 
 -- one thread more
-pub written_next : (R : Lists) (t : ℕ) (ws : List Written) → AreWritesBelow R t ws → AreWritesBelow R (t + 1) (ws ++ flat_map written_by (R t))
+pub written_next : (R : Lists) (t : ℕ) (ws : List Written) → AreWritesBelow R t ws →
+    AreWritesBelow R (t + 1) (ws ++ flat_map written_by (R t))
 written_next R t ws are x = (to, from)
   where
     to : In (ws ++ flat_map written_by (R t)) x → WrittenBelow R (t + 1) x
@@ -114,12 +128,14 @@ written_next R t ws are x = (to, from)
 
     from : WrittenBelow R (t + 1) x → In (ws ++ flat_map written_by (R t)) x
     from (c, lt, (e, there, i)) = elim (ℕ_discrete c.thread t) [
-      | yes same ↦ append_back ws (flat_map written_by (R t)) x (flat_in written_by (R t) c.index e x (subst (λ u. slice_get (R u) c.index ≡ Some e) same there) i)
+      | yes same ↦ append_back ws (flat_map written_by (R t)) x
+          (flat_in written_by (R t) c.index e x (subst (λ u. slice_get (R u) c.index ≡ Some e) same there) i)
       | no ne ↦ append_front ws (flat_map written_by (R t)) x ((are x).1 (c, omega arith, (e, there, i)))
     ]
 
 -- those of all threads, in any order, are the performed writes of the record
-pub all_written : (made : List (ℕ × List Entry)) → IsRecord made → (t : ℕ) → THREADS ≤ t → (ws sorted : List Written) → AreWritesBelow (lists_of made) t ws → IsPermutation ws sorted → AreWrites (lists_of made) sorted
+pub all_written : (made : List (ℕ × List Entry)) → IsRecord made → (t : ℕ) → THREADS ≤ t → (ws sorted : List Written) →
+    AreWritesBelow (lists_of made) t ws → IsPermutation ws sorted → AreWrites (lists_of made) sorted
 all_written made record' t far ws sorted are moved x = (to, from)
   where
     to : Contains sorted x → IsWritten (lists_of made) x.var x.nth x.value
@@ -130,4 +146,9 @@ all_written made record' t far ws sorted are moved x = (to, from)
 
     from : IsWritten (lists_of made) x.var x.nth x.value → Contains sorted x
     from (c, (e, there, n, w)) =
-        Contains-permutation ws sorted x moved (in_contains ws x ((are x).1 (c, (let n' = thread_at made record' c e there in omega arith), (e, there, to_entry e x (kept_at made record' c e there) n w))))
+        Contains-permutation ws sorted x moved (in_contains ws x
+        ((are x).1 (
+          c,
+          (let n' = thread_at made record' c e there in omega arith),
+          (e, there, to_entry e x (kept_at made record' c e there) n w),
+        )))

@@ -18,11 +18,13 @@ all_at P [] all i e at = absurd (cc)
 all_at P (f ∷ es) all zero e at = let same : f ≡ e = cc in subst P same all.0
 all_at P (f ∷ es) all (suc i) e at = all_at P es all.1 i e at
 
-kept_in : (ls : List (ℕ × List Entry)) → AllByRecursion IsListKept ls → (t i : ℕ) (e : Entry) → At (lists_of ls t) i e → (t < THREADS) × IsEntryKept e
+kept_in : (ls : List (ℕ × List Entry)) → AllByRecursion IsListKept ls → (t i : ℕ) (e : Entry) → At (lists_of ls t) i e → (t < THREADS) ×
+    IsEntryKept e
 kept_in [] kept t i e at = absurd (cc)
 kept_in (l ∷ ls) kept t i e at = here (kept_in ls kept.1 t i e) (l.0 == t) refl at
   where
-    here : (At (lists_of ls t) i e → (t < THREADS) × IsEntryKept e) → (b : Bool) → (l.0 == t) ≡ b → At (lists_of (l ∷ ls) t) i e → (t < THREADS) × IsEntryKept e
+    here : (At (lists_of ls t) i e → (t < THREADS) × IsEntryKept e) → (b : Bool) → (l.0 == t) ≡ b → At (lists_of (l ∷ ls) t) i e →
+        (t < THREADS) × IsEntryKept e
     here rest true is at =
         let s : lists_of (l ∷ ls) t ≡ l.1 = rw is refl in
         (subst (λ u. u < THREADS) (eqb-true l.0 t is) kept.0.0, all_at IsEntryKept l.1 kept.0.2 i e (subst (λ es. At es i e) s at))

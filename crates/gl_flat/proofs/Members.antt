@@ -38,7 +38,11 @@ module _ {A : Type 0} where
 module _ {A B : Type 0} (f : A → List B) where
   pub in_flat : (xs : List A) (b : B) → In (flat_map f xs) b → (k : ℕ) × ((a : A) × (slice_get xs k ≡ Some a) × In (f a) b)
   in_flat [] b i = absurd i
-  in_flat (x ∷ xs) b i = elim (in_append (f x) (flat_map f xs) b i) [ inl j ↦ (zero, (x, refl, j)) | inr j ↦ (let r = in_flat xs b j in (suc r.0, (r.1.0, r.1.1, r.1.2))) ]
+  in_flat (x ∷ xs) b i = elim (in_append (f x) (flat_map f xs) b i) [
+    | inl j ↦ (zero, (x, refl, j))
+    | inr j ↦
+        (let r = in_flat xs b j in (suc r.0, (r.1.0, r.1.1, r.1.2)))
+  ]
 
   pub flat_in : (xs : List A) (k : ℕ) (a : A) (b : B) → slice_get xs k ≡ Some a → In (f a) b → In (flat_map f xs) b
   flat_in [] k a b at i = absurd (cc)
@@ -50,7 +54,8 @@ pub found_is : (ns : List Number) (x : ℕ) (n : Number) → find (λ m. m.var =
 found_is [] x n e = absurd (cc)
 found_is (m ∷ ms) x n e = here (found_is ms x n) (m.var == x) refl e
   where
-    here : (find (λ z. z.var == x) ms ≡ Some n → In ms n × (n.var ≡ x)) → (b : Bool) → (m.var == x) ≡ b → find (λ z. z.var == x) (m ∷ ms) ≡ Some n → In (m ∷ ms) n × (n.var ≡ x)
+    here : (find (λ z. z.var == x) ms ≡ Some n → In ms n × (n.var ≡ x)) → (b : Bool) → (m.var == x) ≡ b →
+        find (λ z. z.var == x) (m ∷ ms) ≡ Some n → In (m ∷ ms) n × (n.var ≡ x)
     here rest true is e =
         let first : find (λ (z : Number). z.var == x) (m ∷ ms) ≡ Some m = rw is refl in
         let both : Some m ≡ Some n = sym first ∙ e in
@@ -68,7 +73,8 @@ above x (m ∷ ms) n all (inr i) = above x ms n all.1 i
 
 pub found_one : (ns : List Number) (n : Number) → Rises (map (λ m. m.var) ns) → In ns n → find (λ m. m.var == n.var) ns ≡ Some n
 found_one [] n rises i = absurd i
-found_one (m ∷ ms) n rises (inl e) = let is : (m.var == n.var) ≡ true = eq-eqb m.var n.var (ap (λ (z : Number). z.var) e) in rw is (ap Some e)
+found_one (m ∷ ms) n rises (inl e) = let is : (m.var == n.var) ≡ true = eq-eqb m.var n.var (ap (λ (z : Number). z.var) e) in
+    rw is (ap Some e)
 found_one (m ∷ ms) n rises (inr i) = go (m.var == n.var) refl (found_one ms n rises.1 i)
   where
     go : (b : Bool) → (m.var == n.var) ≡ b → find (λ z. z.var == n.var) ms ≡ Some n → find (λ z. z.var == n.var) (m ∷ ms) ≡ Some n

@@ -23,10 +23,13 @@ module _ (R : Lists) (h : List Stamp) (is_list : IsEventList h R) (rise : Positi
   Ordered [] = Unit {0}
   Ordered (c ∷ cs) = ((d : Place) → In cs d → InFlatOrder R c d) × Ordered cs
 
-  ordered : (cs : List Place) → ((i j : ℕ) (c d : Place) → slice_get cs i ≡ Some c → slice_get cs j ≡ Some d → i < j → InFlatOrder R c d) → Ordered cs
+  ordered : (cs : List Place) → ((i j : ℕ) (c d : Place) → slice_get cs i ≡ Some c → slice_get cs j ≡ Some d → i < j → InFlatOrder R c d) →
+      Ordered cs
   ordered [] order = tt
-  ordered (c ∷ cs) order =
-      (λ d i. let k = at_contains cs d (in_contains cs d i) in order zero (suc k.0) c d refl k.1 (omega arith), ordered cs (λ i j x y a b lt. order (suc i) (suc j) x y a b (omega arith)))
+  ordered (c ∷ cs) order = (
+    λ d i. let k = at_contains cs d (in_contains cs d i) in order zero (suc k.0) c d refl k.1 (omega arith),
+    ordered cs (λ i j x y a b lt. order (suc i) (suc j) x y a b (omega arith)),
+  )
 
   -- two ordered lists with the same places are one list
   one_list : (cs ds : List Place) → Ordered cs → Ordered ds → ((c : Place) → In cs c ↔ In ds c) → cs ≡ ds
@@ -46,8 +49,16 @@ module _ (R : Lists) (h : List Stamp) (is_list : IsEventList h R) (rise : Positi
 
       rest : (x : Place) → In cs x ↔ In ds x
       rest x = (
-        λ i. elim ((same x).0 (inr i)) [ inl e ↦ absurd (no_loop R h is_list rise x (subst (λ z. InFlatOrder R z x) (first ∙ e) (o.0 x i))) | inr j ↦ j ],
-        λ i. elim ((same x).1 (inr i)) [ inl e ↦ absurd (no_loop R h is_list rise x (subst (λ z. InFlatOrder R z x) (sym first ∙ e) (p.0 x i))) | inr j ↦ j ],
+        λ i. elim ((same x).0 (inr i)) [
+          | inl e ↦ absurd (no_loop R h is_list rise x
+              (subst (λ z. InFlatOrder R z x) (first ∙ e) (o.0 x i)))
+          | inr j ↦ j
+        ],
+        λ i. elim ((same x).1 (inr i)) [
+          | inl e ↦ absurd (no_loop R h is_list rise x
+              (subst (λ z. InFlatOrder R z x) (sym first ∙ e) (p.0 x i)))
+          | inr j ↦ j
+        ],
       )
 
   one_flat : (cs ds : List Place) → IsFlat R cs → IsFlat R ds → cs ≡ ds
@@ -60,8 +71,10 @@ pub flat_history : FlatHistoryIsOne
 flat_history R h is_list form = (history R h is_list form, one_flat R h is_list (positions_rise R form))
 
 pub legal_law : LegalWhereWordsHold
-legal_law made record' form setting h is_list machine =
-    (holds_of setting (lists_of made) h is_list (positions_rise (lists_of made) form), legal_of setting (lists_of made) h is_list form machine (λ c e there. rising_of e (kept_at made record' c e there)))
+legal_law made record' form setting h is_list machine = (
+  holds_of setting (lists_of made) h is_list (positions_rise (lists_of made) form),
+  legal_of setting (lists_of made) h is_list form machine (λ c e there. rising_of e (kept_at made record' c e there)),
+)
 
 first_place : (R : Lists) → Form R → Listed R → (c d : Place) → WordFailsFirst R c → WordFailsFirst R d → c ≡ d
 first_place R form listed c d (inl a) (inl b) = elim (compare R listed.0 listed.1 (positions_rise R form) c d (block c a.0) (block d b.0)) [

@@ -26,7 +26,8 @@ use Rattle.gl_flat.proofs.Tables.{kept_part}
 use Rattle.gl_flat.proofs.Walked.{before_walked, walked_before, walked_end, walked_more, walked_out, walked_start}
 
 -- what stands in a list that is mapped
-pub at_map : {A B : Type 0} (f : A → B) (xs : List A) (k : ℕ) (x : A) → k < length xs → x ≡ get_or xs k x → slice_get (map f xs) k ≡ Some (f x)
+pub at_map : {A B : Type 0} (f : A → B) (xs : List A) (k : ℕ) (x : A) → k < length xs → x ≡ get_or xs k x →
+    slice_get (map f xs) k ≡ Some (f x)
 at_map f [] k x near is = absurd (omega arith)
 at_map f (y ∷ ys) zero x near is = ap (λ z. Some (f z)) (sym is)
 at_map f (y ∷ ys) (suc k) x near is = at_map f ys k x (omega arith) is
@@ -65,9 +66,16 @@ reads_near (Trim low) x v kept r = absurd r
 reads_near (Over ending) x v kept r = absurd r
 
 -- an entry with a position is an event
-event_stamp : (R : Lists) (u k : ℕ) (e : Entry) (q : ℕ) → At (R u) k e → position_of e ≡ Some q → (r : Stamp) × IsEventAt R (record { thread = u; index = k }) q r
-event_stamp R u k (Sync a act value) q there' is = (record { thread = u; event = Does act }, record { entry = Sync a act value; there = there'; position = is; event = refl; own = refl })
-event_stamp R u k (Commit a tx) q there' is = (record { thread = u; event = Commits (variables_of tx) }, record { entry = Commit a tx; there = there'; position = is; event = refl; own = refl })
+event_stamp : (R : Lists) (u k : ℕ) (e : Entry) (q : ℕ) → At (R u) k e → position_of e ≡ Some q → (r : Stamp) ×
+    IsEventAt R (record { thread = u; index = k }) q r
+event_stamp R u k (Sync a act value) q there' is = (
+  record { thread = u; event = Does act },
+  record { entry = Sync a act value; there = there'; position = is; event = refl; own = refl },
+)
+event_stamp R u k (Commit a tx) q there' is = (
+  record { thread = u; event = Commits (variables_of tx) },
+  record { entry = Commit a tx; there = there'; position = is; event = refl; own = refl },
+)
 event_stamp R u k (Plain a b' c d' e' f') q there' is = absurd (cc)
 event_stamp R u k (Abort a b') q there' is = absurd (cc)
 event_stamp R u k (Trim a) q there' is = absurd (cc)
@@ -89,12 +97,14 @@ module _ (R : Lists) (walk : IsWalkable R) (t p : ℕ) (s : Stamp) (i : ℕ) (ma
   -- what is of the block stands in this list, behind its event
   own : (d : Place) (b : IsBlockOf R d p) → (d.thread ≡ t) × (b.index ≡ i)
   own d b =
-      let same : record { thread = d.thread; index = b.index } ≡ here i = is_list.once (record { thread = d.thread; index = b.index }) (here i) p b.event s b.made made in
+      let same : record { thread = d.thread; index = b.index } ≡ here i =
+      is_list.once (record { thread = d.thread; index = b.index }) (here i) p b.event s b.made made in
       (ap (λ (x : Place). x.thread) same, ap (λ (x : Place). x.index) same)
 
   start : (words : List ℤ) → HasWalked R p 0 words → HasWalked R p i words
   start words w = record {
-    words = λ x near. word_among R (IsWalked R p 0) (IsWalked R p i) x (word_in words x) (λ d m. (same d).0 m) (λ d u m wr. (same d).1 m) (w.words x near);
+    words = λ x near. word_among R (IsWalked R p 0) (IsWalked R p i) x (word_in words x) (λ d m. (same d).0 m) (λ d u m wr. (same d).1 m)
+        (w.words x near);
     right = λ d m. w.right d ((same d).1 m);
   }
     where
@@ -106,7 +116,11 @@ module _ (R : Lists) (walk : IsWalkable R) (t p : ℕ) (s : Stamp) (i : ℕ) (ma
   block k le none = record { index = i; event = s; made = made; within = le; last = last }
     where
       last : (j q : ℕ) (r : Stamp) → IsEventAt R (here j) q r → j ≤ k → j ≤ i
-      last j q r e within = elim (cases_lt i j) [ inl lt ↦ absurd (no_position e.entry q (none j e.entry lt within e.there) e.position) | inr ge ↦ ge ]
+      last j q r e within = elim (cases_lt i j) [
+        | inl lt ↦
+            absurd (no_position e.entry q (none j e.entry lt within e.there) e.position)
+        | inr ge ↦ ge
+      ]
 
   module _ (k : ℕ) (e : Entry) (there : At (R t) k e) (b : IsBlockOf R (here k) p) (words : List ℤ) (w : HasWalked R p k words) where
     -- the table has the word where the entry is laid out
@@ -115,13 +129,15 @@ module _ (R : Lists) (walk : IsWalkable R) (t p : ℕ) (s : Stamp) (i : ℕ) (ma
         word_among R (IsWalked R p k) (λ d. InFlatOrder R d (here k)) x (word_in words x) (walked_before R h is_list rise (here k) p b)
         (λ d u before wr. before_walked R h is_list rise (here k) p b d before) (w.words x near)
 
-    agree : (after : List ℤ) → AgreesWith (word_in words) e → ((x : ℕ) → x < VARIABLES → word_in after x ≡ words_past (word_in words) e x) → HasWalked R p (k + 1) after
+    agree : (after : List ℤ) → AgreesWith (word_in words) e → ((x : ℕ) → x < VARIABLES → word_in after x ≡ words_past (word_in words) e x) →
+        HasWalked R p (k + 1) after
     agree after agrees past = record { words = more; right = right }
       where
         more : (x : ℕ) → x < VARIABLES → IsLastWord R (IsWalked R p (k + 1)) x (word_in after x)
         more x near =
             subst (IsLastWord R (IsWalked R p (k + 1)) x) (sym (past x near))
-            (word_more R h is_list rise (IsWalked R p k) (IsWalked R p (k + 1)) (here k) e (word_in words) x there (walked_before R h is_list rise (here k) p b)
+            (word_more R h is_list rise (IsWalked R p k) (IsWalked R p (k + 1)) (here k) e (word_in words) x there
+            (walked_before R h is_list rise (here k) p b)
             (walked_more R h is_list rise (here k) p b) (w.words x near))
 
         at_here : (d : Place) → d ≡ here k → (f : Entry) → EntryAt R d f → (x : ℕ) (v : ℤ) → ReadsValue f x v → IsWordAt R d x v
@@ -140,20 +156,24 @@ module _ (R : Lists) (walk : IsWalkable R) (t p : ℕ) (s : Stamp) (i : ℕ) (ma
         wrong : IsWordAt R (here k) x v → ⊥
         wrong is =
             let near = reads_near e x v (walk.kept (here k) e there) reads in
-            ne (one_word R h is_list rise (λ c g at. rising_of g (walk.kept c g at)) (λ d. InFlatOrder R d (here k)) (λ d f. (f.first, f.of_first)) x v (word_in words x) is (as_word x near))
+            ne (one_word R h is_list rise (λ c g at. rising_of g (walk.kept c g at)) (λ d. InFlatOrder R d (here k))
+            (λ d f. (f.first, f.of_first)) x v (word_in words x) is (as_word x near))
 
         first : (d : Place) → FlatFailsAt R d → InFlatOrder R d (here k) → ⊥
         first d f before = f.2.1.2 (w.right d (before_walked R h is_list rise (here k) p b d before) f.0 f.1 f.2.0 f.2.1.0 f.2.1.1)
 
   -- from the end of the block to the next
-  finish : (k : ℕ) (words : List ℤ) → ((d : Place) (e : Entry) → EntryAt R d e → IsBlockOf R d p → d.index < k) → HasWalked R p k words → HasWalked R (p + 1) 0 words
+  finish : (k : ℕ) (words : List ℤ) → ((d : Place) (e : Entry) → EntryAt R d e → IsBlockOf R d p → d.index < k) → HasWalked R p k words →
+      HasWalked R (p + 1) 0 words
   finish k words short w = record {
-    words = λ x near. word_among R (IsWalked R p k) (IsWalked R (p + 1) 0) x (word_in words x) (walked_out R h is_list rise p k) (λ d u m wr. (walked_end R h is_list rise p k d (short d wr.0 wr.1)).1 m) (w.words x near);
+    words = λ x near. word_among R (IsWalked R p k) (IsWalked R (p + 1) 0) x (word_in words x) (walked_out R h is_list rise p k)
+        (λ d u m wr. (walked_end R h is_list rise p k d (short d wr.0 wr.1)).1 m) (w.words x near);
     right = λ d m e at. w.right d ((walked_end R h is_list rise p k d (short d e at)).1 m) e at;
   }
 
   -- the block ends before the next event of its list
-  before_event : (k q : ℕ) (e : Entry) → At (R t) k e → position_of e ≡ Some q → i < k → (d : Place) (f : Entry) → EntryAt R d f → IsBlockOf R d p → d.index < k
+  before_event : (k q : ℕ) (e : Entry) → At (R t) k e → position_of e ≡ Some q → i < k → (d : Place) (f : Entry) → EntryAt R d f →
+      IsBlockOf R d p → d.index < k
   before_event k q e there at lt d f f_there b = elim (cases_lt d.index k) [ inl near ↦ near | inr far ↦ absurd (behind far) ]
     where
       behind : k ≤ d.index → ⊥
@@ -183,36 +203,45 @@ module _ (es : List Entry) (i k : ℕ) (before words : List ℤ) (come : ComesTo
     | no ne ↦ come.no_event j f lo (omega arith) at
   ]
 
-  block_at : (R : Lists) (walk : IsWalkable R) (t p : ℕ) (s : Stamp) → R t ≡ es → IsEventAt R (record { thread = t; index = i }) p s → (e : Entry) → At es k e → (i < k → is_event e ≡ false) →
+  block_at : (R : Lists) (walk : IsWalkable R) (t p : ℕ) (s : Stamp) → R t ≡ es → IsEventAt R (record { thread = t; index = i }) p s →
+      (e : Entry) → At es k e → (i < k → is_event e ≡ false) →
       IsBlockOf R (record { thread = t; index = k }) p
-  block_at R walk t p s list made e there not = block R walk t p s i made k come.on (λ j f lo hi at. clear e there not j f lo hi (subst (λ l. At l j f) list at))
+  block_at R walk t p s list made e there not = block R walk t p s i made k come.on
+      (λ j f lo hi at. clear e there not j f lo hi (subst (λ l. At l j f) list at))
 
-  pub comes_more : (after : List ℤ) (e : Entry) → At es k e → (i < k → is_event e ≡ false) → AgreesWith (word_in words) e → ((x : ℕ) → x < VARIABLES → word_in after x ≡ words_past (word_in words) e x) →
+  pub comes_more : (after : List ℤ) (e : Entry) → At es k e → (i < k → is_event e ≡ false) → AgreesWith (word_in words) e →
+      ((x : ℕ) → x < VARIABLES → word_in after x ≡ words_past (word_in words) e x) →
       ComesTo es i (k + 1) before after
   comes_more after e there not agrees past = record {
     on = let z = come.on in omega arith;
     no_event = λ j f lo hi at. clear e there not j f lo (omega arith) at;
     walked = λ R walk t p s list made w.
-        agree R walk t p s i made k e (subst (λ l. At l k e) (sym list) there) (block_at R walk t p s list made e there not) words (come.walked R walk t p s list made w) after agrees past;
+        agree R walk t p s i made k e (subst (λ l. At l k e) (sym list) there) (block_at R walk t p s list made e there not) words
+        (come.walked R walk t p s list made w) after agrees past;
   }
 
-  pub differs : (after : List ℤ) (e : Entry) → At es k e → (i < k → is_event e ≡ false) → DiffersFrom (word_in words) e → PassesBlock es i before after (Some k)
+  pub differs : (after : List ℤ) (e : Entry) → At es k e → (i < k → is_event e ≡ false) → DiffersFrom (word_in words) e →
+      PassesBlock es i before after (Some k)
   differs after e there not d = λ R walk t p s list made w.
-      differ R walk t p s i made k e (subst (λ l. At l k e) (sym list) there) (block_at R walk t p s list made e there not) words (come.walked R walk t p s list made w) d
+      differ R walk t p s i made k e (subst (λ l. At l k e) (sym list) there) (block_at R walk t p s list made e there not) words
+      (come.walked R walk t p s list made w) d
 
   pub meets_event : (e : Entry) → At es k e → i < k → is_event e ≡ true → PassesBlock es i before words None
   meets_event e there lt is = λ R walk t p s list made w.
       let q = has_position e is in
-      finish R walk t p s i made k words (before_event R walk t p s i made k q.0 e (subst (λ l. At l k e) (sym list) there) q.1 lt) (come.walked R walk t p s list made w)
+      finish R walk t p s i made k words (before_event R walk t p s i made k q.0 e (subst (λ l. At l k e) (sym list) there) q.1 lt)
+      (come.walked R walk t p s list made w)
 
   pub comes_out : length es ≤ k → PassesBlock es i before words None
   comes_out far = λ R walk t p s list made w.
       finish R walk t p s i made k words
-      (λ d e at b. let o = (own R walk t p s i made d b).0 in let n : d.index < length es = subst (λ l. d.index < length l) (ap R o ∙ list) (slice_get_within (R d.thread) d.index e at) in omega arith)
+      (λ d e at b. let o = (own R walk t p s i made d b).0 in let n : d.index < length es =
+      subst (λ l. d.index < length l) (ap R o ∙ list) (slice_get_within (R d.thread) d.index e at) in omega arith)
       (come.walked R walk t p s list made w)
 
 -- where all blocks are passed each read had its word
-pub all_passed : (R : Lists) → IsWalkable R → (cs : List Place) → AreEventPlaces R cs → (n : ℕ) (words : List ℤ) → length cs ≤ n → HasWalked R n 0 words → FlatHolds R
+pub all_passed : (R : Lists) → IsWalkable R → (cs : List Place) → AreEventPlaces R cs → (n : ℕ) (words : List ℤ) → length cs ≤ n →
+    HasWalked R n 0 words → FlatHolds R
 all_passed R walk cs places n words far w c e there x v reads =
     let b = laid_block R walk.form c e there (reads_laid e x v reads) in
     let at = (places b.0 (record { thread = c.thread; index = b.1.index })).1 (b.1.event, b.1.made) in

@@ -22,7 +22,8 @@ module _ {A : Type 0} (P : A → Type 0) (xs : List A) (i : ℕ) (all : (k : ℕ
   -- what holds of the first i holds of one more
   pub one_more : (a : A) → slice_get xs i ≡ Some a → P a → (k : ℕ) (x : A) → k < i + 1 → slice_get xs k ≡ Some x → P x
   one_more a here holds k x lt at = elim (ℕ_discrete k i) [
-    | yes same ↦ (let z : Some a ≡ Some x = sym here ∙ subst (λ n. slice_get xs n ≡ Some x) same at in let s : a ≡ x = cc in subst P s holds)
+    | yes same ↦ (let z : Some a ≡ Some x = sym here ∙ subst (λ n. slice_get xs n ≡ Some x) same at in let s : a ≡ x = cc in
+        subst P s holds)
     | no ne ↦ all k x (omega arith) at
   ]
 
@@ -37,10 +38,13 @@ module _ {A : Type 0} (P : A → Type 0) (xs : List A) (i : ℕ) (all : (k : ℕ
       short = elim ((slice_get_cases xs i).1) [ inl w ↦ absurd (let z : None ≡ Some w.0 = sym none ∙ w.2 in cc) | inr w ↦ w.0 ]
 
 -- the number of a changed variable decides what was found
-pub number_found : (R : Lists) (ns : List Number) (n : Number) (var : ℕ) (found : ℤ) (b : Bool) → Rises (map (λ m. m.var) ns) → find (λ m. m.var == var) ns ≡ Some n →
-    MatchBool b (IsWordBelow R var n.nth found) (IsWordBelow R var n.nth found → ⊥) → MatchBool b (FoundIsRight R ns var found) (FoundIsRight R ns var found → ⊥)
+pub number_found : (R : Lists) (ns : List Number) (n : Number) (var : ℕ) (found : ℤ) (b : Bool) → Rises (map (λ m. m.var) ns) →
+    find (λ m. m.var == var) ns ≡ Some n →
+    MatchBool b (IsWordBelow R var n.nth found) (IsWordBelow R var n.nth found → ⊥) →
+    MatchBool b (FoundIsRight R ns var found) (FoundIsRight R ns var found → ⊥)
 number_found R ns n var found true rises at right = λ k c.
-    let one' : find (λ (m : Number). m.var == var) ns ≡ Some (record { var = var; nth = k }) = found_one ns (record { var = var; nth = k }) rises (contains_in ns (record { var = var; nth = k }) c) in
+    let one' : find (λ (m : Number). m.var == var) ns ≡ Some (record { var = var; nth = k }) =
+    found_one ns (record { var = var; nth = k }) rises (contains_in ns (record { var = var; nth = k }) c) in
     let both : Some n ≡ Some (record { var = var; nth = k }) = sym at ∙ one' in
     let same : n ≡ record { var = var; nth = k } = cc in
     subst (λ j. IsWordBelow R var j found) (ap (λ (m : Number). m.nth) same) right
@@ -49,9 +53,11 @@ number_found R ns n var found false rises at wrong = λ all.
     let same : n ≡ record { var = var; nth = n.nth } = (λ j. record { var = f.1 j; nth = n.nth }) in
     wrong (all n.nth (subst (Contains ns) same (in_contains ns n f.0)))
 
-pub no_number : (R : Lists) (ns : List Number) (var : ℕ) (found : ℤ) → Rises (map (λ m. m.var) ns) → find (λ m. m.var == var) ns ≡ None → FoundIsRight R ns var found
+pub no_number : (R : Lists) (ns : List Number) (var : ℕ) (found : ℤ) → Rises (map (λ m. m.var) ns) → find (λ m. m.var == var) ns ≡ None →
+    FoundIsRight R ns var found
 no_number R ns var found rises none k c =
-    let one' : find (λ (m : Number). m.var == var) ns ≡ Some (record { var = var; nth = k }) = found_one ns (record { var = var; nth = k }) rises (contains_in ns (record { var = var; nth = k }) c) in
+    let one' : find (λ (m : Number). m.var == var) ns ≡ Some (record { var = var; nth = k }) =
+    found_one ns (record { var = var; nth = k }) rises (contains_in ns (record { var = var; nth = k }) c) in
     let both : None ≡ Some (record { var = var; nth = k }) = sym none ∙ one' in
     absurd (cc)
 
@@ -60,7 +66,8 @@ pub second_tested : (P Q : Type 0) (b : Bool) → P → MatchBool b Q (Q → ⊥
 second_tested P Q true p q = (p, q)
 second_tested P Q false p no' = λ both. no' both.1
 
-module _ (R : Lists) (t : ℕ) (es : List Entry) (list : es ≡ R t) (all : (c : Place) (e : Entry) → c.thread < t → EntryAt R c e → ReadsRight R e) where
+module _ (R : Lists) (t : ℕ) (es : List Entry) (list : es ≡ R t)
+    (all : (c : Place) (e : Entry) → c.thread < t → EntryAt R c e → ReadsRight R e) where
   -- the first of a list, where all of the threads below it are right
   pub first_look : (i : ℕ) → IsFirstLook R es (Some i) → IsFirstBy Before (LookFailsAt R) (record { thread = t; index = i })
   first_look i w = ((w.0.0, subst (λ l. slice_get l i ≡ Some w.0.0) list w.0.1, w.0.2), first)
@@ -77,5 +84,6 @@ module _ (R : Lists) (t : ℕ) (es : List Entry) (list : es ≡ R t) (all : (c :
   ]
 
 -- all threads
-pub all_looks : (made : List (ℕ × List Entry)) → IsRecord made → (t : ℕ) → THREADS ≤ t → ((c : Place) (e : Entry) → c.thread < t → EntryAt (lists_of made) c e → ReadsRight (lists_of made) e) → LooksHold (lists_of made)
+pub all_looks : (made : List (ℕ × List Entry)) → IsRecord made → (t : ℕ) → THREADS ≤ t →
+    ((c : Place) (e : Entry) → c.thread < t → EntryAt (lists_of made) c e → ReadsRight (lists_of made) e) → LooksHold (lists_of made)
 all_looks made record' t far all c e there = all c e (let n = thread_at made record' c e there in omega arith) there

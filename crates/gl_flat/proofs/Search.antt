@@ -19,7 +19,8 @@ use Rattle.gl_flat.specs.Sorted.{written_cmp}
 
 -- the order is total
 total : IsTotalOrder written_cmp
-total = then_total (on_total (λ (w : Written). w.var) nat_cmp_total) (then_total (on_total (λ (w : Written). w.nth) nat_cmp_total) (on_total (λ (w : Written). w.value) int_cmp_total))
+total = then_total (on_total (λ (w : Written). w.var) nat_cmp_total)
+    (then_total (on_total (λ (w : Written). w.nth) nat_cmp_total) (on_total (λ (w : Written). w.value) int_cmp_total))
 
 weak : IsStrictWeakOrder (λ v w. is_lt (written_cmp v w))
 weak = ranks_by total (λ (w : Written). w)
@@ -54,7 +55,8 @@ same_written : (v w : Written) → written_cmp v w ≡ Equal → v ≡ w
 same_written v w e =
     let a = both_equal (nat_cmp v.var w.var) (ordering_then (nat_cmp v.nth w.nth) (int_cmp v.value w.value)) e in
     let b = both_equal (nat_cmp v.nth w.nth) (int_cmp v.value w.value) a.1 in
-    let value : v.value ≡ w.value = subst (λ r. MatchOrdering r (v.value <ℤ w.value) (v.value ≡ w.value) (w.value <ℤ v.value)) b.1 (int_ranked v.value w.value (int_cmp v.value w.value) refl) in
+    let value : v.value ≡ w.value = subst (λ r. MatchOrdering r (v.value <ℤ w.value) (v.value ≡ w.value) (w.value <ℤ v.value)) b.1
+    (int_ranked v.value w.value (int_cmp v.value w.value) refl) in
     λ k. record { var = equal v.var w.var a.0 k; nth = equal v.nth w.nth b.0 k; value = value k }
 
 -- the test of a search: a write of a variable below x, or of x with a number below n
@@ -64,7 +66,8 @@ is_before x n w = if nat_lt w.var x then true else if w.var == x then nat_lt w.n
 before_is : (x n : ℕ) (w : Written) → is_before x n w ≡ true → (w.var < x) ⊎ ((w.var ≡ x) × (w.nth < n))
 before_is x n w e = go (nat_lt w.var x) refl (w.var == x) refl e
   where
-    go : (b : Bool) → nat_lt w.var x ≡ b → (c : Bool) → (w.var == x) ≡ c → (if b then true else if c then nat_lt w.nth n else false) ≡ true → (w.var < x) ⊎ ((w.var ≡ x) × (w.nth < n))
+    go : (b : Bool) → nat_lt w.var x ≡ b → (c : Bool) → (w.var == x) ≡ c →
+        (if b then true else if c then nat_lt w.nth n else false) ≡ true → (w.var < x) ⊎ ((w.var ≡ x) × (w.nth < n))
     go true is c is' e = inl (grind (arith, nat_tests))
     go false is true is' e = inr (eqb-true w.var x is', grind (arith, nat_tests))
     go false is false is' e = absurd (cc)
@@ -84,31 +87,38 @@ same_default (w ∷ ws) zero d e near = refl
 same_default (w ∷ ws) (suc k) d e near = same_default ws k d e (omega arith)
 
 module _ (ws : List Written) (sorted : IsSorted written_cmp ws) where
-  far : (i j : ℕ) (d : Written) → i ≤ j → j < length ws → ((get_or ws i d).var < (get_or ws j d).var) ⊎ (((get_or ws i d).var ≡ (get_or ws j d).var) × ((get_or ws i d).nth ≤ (get_or ws j d).nth))
+  far : (i j : ℕ) (d : Written) → i ≤ j → j < length ws → ((get_or ws i d).var < (get_or ws j d).var) ⊎
+      (((get_or ws i d).var ≡ (get_or ws j d).var) × ((get_or ws i d).nth ≤ (get_or ws j d).nth))
   far i j d le near = behind (get_or ws i d) (get_or ws j d) (sorted_far (λ v w. is_lt (written_cmp v w)) weak ws sorted i j d le near)
 
   pub parted : (x n : ℕ) → IsPartitionedBy (is_before x n) ws
   parted x n i j d le near e = is_so x n (get_or ws i d) (by (far i j d le near) (before_is x n (get_or ws j d) e))
     where
-      by : ((get_or ws i d).var < (get_or ws j d).var) ⊎ (((get_or ws i d).var ≡ (get_or ws j d).var) × ((get_or ws i d).nth ≤ (get_or ws j d).nth)) →
-          ((get_or ws j d).var < x) ⊎ (((get_or ws j d).var ≡ x) × ((get_or ws j d).nth < n)) → ((get_or ws i d).var < x) ⊎ (((get_or ws i d).var ≡ x) × ((get_or ws i d).nth < n))
+      by : ((get_or ws i d).var < (get_or ws j d).var) ⊎ (((get_or ws i d).var ≡ (get_or ws j d).var) ×
+          ((get_or ws i d).nth ≤ (get_or ws j d).nth)) →
+          ((get_or ws j d).var < x) ⊎ (((get_or ws j d).var ≡ x) × ((get_or ws j d).nth < n)) → ((get_or ws i d).var < x) ⊎
+          (((get_or ws i d).var ≡ x) × ((get_or ws i d).nth < n))
       by (inl lt) (inl m) = inl (omega arith)
       by (inl lt) (inr m) = inl (let z = m.0 in omega arith)
       by (inr q) (inl m) = inl (let z = q.0 in omega arith)
       by (inr q) (inr m) = inr (q.0 ∙ m.0, let z = q.1 in let y = m.1 in omega arith)
 
   -- what is below the number stands before the point
-  before_point : (x n k u end : ℕ) (v : ℤ) → IsPartitionPoint (λ w. is_before x n w ≡ true) (λ w. is_before x n w ≡ false) ws end → u < n → (near : k < length ws) → get_or ws k (record { var = x; nth = u; value = v }) ≡ record { var = x; nth = u; value = v } → k < end
+  before_point : (x n k u end : ℕ) (v : ℤ) → IsPartitionPoint (λ w. is_before x n w ≡ true) (λ w. is_before x n w ≡ false) ws end → u < n →
+      (near : k < length ws) → get_or ws k (record { var = x; nth = u; value = v }) ≡ record { var = x; nth = u; value = v } → k < end
   before_point x n k u end v point lt near is = elim (cases_lt k end) [
     | inl less ↦ less
     | inr ge ↦
-        absurd (let no : is_before x n (record { var = x; nth = u; value = v }) ≡ false = subst (λ w. is_before x n w ≡ false) is (point.1 k (record { var = x; nth = u; value = v }) ge near) in
-        let yes' : is_before x n (record { var = x; nth = u; value = v }) ≡ true = is_so x n (record { var = x; nth = u; value = v }) (inr (refl, lt)) in
+        absurd (let no : is_before x n (record { var = x; nth = u; value = v }) ≡ false =
+        subst (λ w. is_before x n w ≡ false) is (point.1 k (record { var = x; nth = u; value = v }) ge near) in
+        let yes' : is_before x n (record { var = x; nth = u; value = v }) ≡ true =
+        is_so x n (record { var = x; nth = u; value = v }) (inr (refl, lt)) in
         cc)
   ]
 
   -- is this write there?
-  pub searched : (t : Written) (r : Result ℕ ℕ) → IsSearchInRange r (length ws) → IsBinarySearchResult (λ y. written_cmp y t) ws r → MatchBool (is_ok r) (Contains ws t) (Contains ws t → ⊥)
+  pub searched : (t : Written) (r : Result ℕ ℕ) → IsSearchInRange r (length ws) → IsBinarySearchResult (λ y. written_cmp y t) ws r →
+      MatchBool (is_ok r) (Contains ws t) (Contains ws t → ⊥)
   searched t (Ok i) near at = (i, near, same_written (get_or ws i t) t (at t))
   searched t (Err i) near at = λ c. none c
     where
@@ -117,20 +127,25 @@ module _ (ws : List Written) (sorted : IsSorted written_cmp ws) where
 
       none : Contains ws t → ⊥
       none (k, n, is) = elim (cases_lt k i) [
-        | inl lt ↦ (let a : written_cmp t t ≡ Less = subst (λ y. written_cmp y t ≡ Less) is (point.0 k t (omega arith) lt) in let b = tied_itself total t in cc)
-        | inr ge ↦ (let a : written_cmp t t ≡ Greater = subst (λ y. written_cmp y t ≡ Greater) is (point.1 k t ge n) in let b = tied_itself total t in cc)
+        | inl lt ↦ (let a : written_cmp t t ≡ Less = subst (λ y. written_cmp y t ≡ Less) is (point.0 k t (omega arith) lt) in let b =
+            tied_itself total t in cc)
+        | inr ge ↦ (let a : written_cmp t t ≡ Greater = subst (λ y. written_cmp y t ≡ Greater) is (point.1 k t ge n) in let b =
+            tied_itself total t in cc)
       ]
 
-  module _ (R : Lists) (are : AreWrites R ws) (x n end : ℕ) (v : ℤ) (point : IsPartitionPoint (λ w. is_before x n w ≡ true) (λ w. is_before x n w ≡ false) ws end) where
+  module _ (R : Lists) (are : AreWrites R ws) (x n end : ℕ) (v : ℤ)
+      (point : IsPartitionPoint (λ w. is_before x n w ≡ true) (λ w. is_before x n w ≡ false) ws end) where
     abbrev write : ℕ → ℤ → Written
     write k u = record { var = x; nth = k; value = u }
 
-    no_word : ((j : ℕ) (u : ℤ) → j < n → Contains ws (write j u) → ⊥) → (b : Bool) → MatchBool b (v ≡ pos 0) (v ≢ pos 0) → MatchBool b (IsWordBelow R x n v) (IsWordBelow R x n v → ⊥)
+    no_word : ((j : ℕ) (u : ℤ) → j < n → Contains ws (write j u) → ⊥) → (b : Bool) → MatchBool b (v ≡ pos 0) (v ≢ pos 0) →
+        MatchBool b (IsWordBelow R x n v) (IsWordBelow R x n v → ⊥)
     no_word none true zero' = inr (zero', λ j u lt w. none j u lt ((are (write j u)).1 w))
     no_word none false ne = λ w. elim w [ inl q ↦ none q.0 v q.1 ((are (write q.0 v)).1 q.2) | inr q ↦ ne q.0 ]
 
     -- where nothing stands before the point, or its last is of another variable
-    pub first_point : end ≡ 0 → (b : Bool) → MatchBool b (v ≡ pos 0) (v ≢ pos 0) → MatchBool b (IsWordBelow R x n v) (IsWordBelow R x n v → ⊥)
+    pub first_point : end ≡ 0 → (b : Bool) → MatchBool b (v ≡ pos 0) (v ≢ pos 0) →
+        MatchBool b (IsWordBelow R x n v) (IsWordBelow R x n v → ⊥)
     first_point at b test = no_word (λ j u lt c. let z = before_point x n c.0 j end u point lt c.1 c.2 in omega arith) b test
 
     module _ (d : Written) (some : 0 < end) (within : end ≤ length ws) where
@@ -149,9 +164,11 @@ module _ (ws : List Written) (sorted : IsSorted written_cmp ws) where
           let k = before_point x n c.0 j end u point lt c.1 c.2 in
           let f = far c.0 (end - 1) (write j u) (omega arith) (omega arith) in
           subst (λ w. (x < w.var) ⊎ ((x ≡ w.var) × (j ≤ w.nth))) (last_is (write j u))
-          (subst (λ w. (w.var < (get_or ws (end - 1) (write j u)).var) ⊎ ((w.var ≡ (get_or ws (end - 1) (write j u)).var) × (w.nth ≤ (get_or ws (end - 1) (write j u)).nth))) c.2 f)
+          (subst (λ w. (w.var < (get_or ws (end - 1) (write j u)).var) ⊎
+          ((w.var ≡ (get_or ws (end - 1) (write j u)).var) × (w.nth ≤ (get_or ws (end - 1) (write j u)).nth))) c.2 f)
 
-      pub other_point : last.var ≢ x → (b : Bool) → MatchBool b (v ≡ pos 0) (v ≢ pos 0) → MatchBool b (IsWordBelow R x n v) (IsWordBelow R x n v → ⊥)
+      pub other_point : last.var ≢ x → (b : Bool) → MatchBool b (v ≡ pos 0) (v ≢ pos 0) →
+          MatchBool b (IsWordBelow R x n v) (IsWordBelow R x n v → ⊥)
       other_point other b test = no_word (λ j u lt c. against (up_to_last j u lt c) below) b test
         where
           against : {j : ℕ} → (x < last.var) ⊎ ((x ≡ last.var) × (j ≤ last.nth)) → (last.var < x) ⊎ ((last.var ≡ x) × (last.nth < n)) → ⊥
@@ -159,7 +176,8 @@ module _ (ws : List Written) (sorted : IsSorted written_cmp ws) where
           against (inr a) (inl m) = let z = a.0 in omega arith
           against f (inr m) = other m.0
 
-      pub same_point : last.var ≡ x → (b : Bool) → MatchBool b (Contains ws (write last.nth v)) (Contains ws (write last.nth v) → ⊥) → MatchBool b (IsWordBelow R x n v) (IsWordBelow R x n v → ⊥)
+      pub same_point : last.var ≡ x → (b : Bool) → MatchBool b (Contains ws (write last.nth v)) (Contains ws (write last.nth v) → ⊥) →
+          MatchBool b (IsWordBelow R x n v) (IsWordBelow R x n v → ⊥)
       same_point same b test = by b test
         where
           near : last.nth < n
@@ -169,9 +187,15 @@ module _ (ws : List Written) (sorted : IsSorted written_cmp ws) where
           most j u lt c = elim (up_to_last j u lt c) [ inl a ↦ (let z = same in omega arith) | inr a ↦ a.1 ]
 
           there : Contains ws (write last.nth last.value)
-          there = (end - 1, omega arith, last_is (write last.nth last.value) ∙ (λ k. record { var = same k; nth = last.nth; value = last.value }))
+          there = (
+            end - 1,
+            omega arith,
+            last_is (write last.nth last.value) ∙
+                (λ k. record { var = same k; nth = last.nth; value = last.value }),
+          )
 
-          by : (b : Bool) → MatchBool b (Contains ws (write last.nth v)) (Contains ws (write last.nth v) → ⊥) → MatchBool b (IsWordBelow R x n v) (IsWordBelow R x n v → ⊥)
+          by : (b : Bool) → MatchBool b (Contains ws (write last.nth v)) (Contains ws (write last.nth v) → ⊥) →
+              MatchBool b (IsWordBelow R x n v) (IsWordBelow R x n v → ⊥)
           by true c = inl (last.nth, near, (are (write last.nth v)).0 c, λ j u lt w. most j u lt ((are (write j u)).1 w))
           by false none = λ w. elim w [
             | inl q ↦

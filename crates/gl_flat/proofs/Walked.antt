@@ -46,12 +46,14 @@ module _ (R : Lists) (h : List Stamp) (is_list : IsEventList h R) (rise : Positi
       by (inr w) = (f.first, f.of_first, inr (w.0 ∙ same, w.1.1))
 
   -- past a place that is not of the block
-  pub walked_other : (t p i : ℕ) → ((d : Place) → IsBlockOf R d p → d.thread ≡ t) → (d : Place) → (IsBlockOf R d p → d ≡ record { thread = t; index = i } → ⊥) →
+  pub walked_other : (t p i : ℕ) → ((d : Place) → IsBlockOf R d p → d.thread ≡ t) → (d : Place) →
+      (IsBlockOf R d p → d ≡ record { thread = t; index = i } → ⊥) →
       IsWalked R p (i + 1) d → IsWalked R p i d
   walked_other t p i own d none (q, e, inl lt) = (q, e, inl lt)
   walked_other t p i own d none (q, e, inr w) = elim (ℕ_discrete d.index i) [
     | yes level ↦
-        (let b : IsBlockOf R d p = subst (λ z. IsBlockOf R d z) w.0 e in absurd (none b (same_place d (record { thread = t; index = i }) (own d b) level)))
+        (let b : IsBlockOf R d p = subst (λ z. IsBlockOf R d z) w.0 e in
+        absurd (none b (same_place d (record { thread = t; index = i }) (own d b) level)))
     | no ne ↦ (q, e, inr (w.0, let z = w.1 in omega arith))
   ]
 

@@ -65,7 +65,8 @@ pub record IsWalkable (R : Lists) : Type 0 where
 -- the walk has passed block p, whose event is at place i of a list: it goes on to the next block, or has come to the first wrong read
 abbrev pub PassesBlock : List Entry → ℕ → List ℤ → List ℤ → Option ℕ → Type 0
 PassesBlock es i before after answer =
-    (R : Lists) → IsWalkable R → (t p : ℕ) (s : Stamp) → R t ≡ es → IsEventAt R (record { thread = t; index = i }) p s → HasWalked R p 0 before →
+    (R : Lists) → IsWalkable R → (t p : ℕ) (s : Stamp) → R t ≡ es → IsEventAt R (record { thread = t; index = i }) p s →
+    HasWalked R p 0 before →
     MatchOption answer (HasWalked R (p + 1) 0 after) (λ k. IsFirstInFlatOrder R (record { thread = t; index = k }))
 
 -- the walk is at place k of the list, in the block of the event at place i
@@ -73,5 +74,6 @@ pub record ComesTo (es : List Entry) (i k : ℕ) (before after : List ℤ) : Typ
   pub on : i ≤ k
   pub no_event : (j : ℕ) (e : Entry) → i < j → j < k → At es j e → is_event e ≡ false
   pub walked :
-      (R : Lists) → IsWalkable R → (t p : ℕ) (s : Stamp) → R t ≡ es → IsEventAt R (record { thread = t; index = i }) p s → HasWalked R p 0 before →
+      (R : Lists) → IsWalkable R → (t p : ℕ) (s : Stamp) → R t ≡ es → IsEventAt R (record { thread = t; index = i }) p s →
+      HasWalked R p 0 before →
       HasWalked R p k after

@@ -66,12 +66,14 @@ WordFailsFirst R c = IsFirstInFlatOrder R c ⊎ (((d : Place) → FlatFailsAt R 
 -- the laws of this clause, over well-formed records: the flat history is there, and there is one
 abbrev pub FlatHistoryIsOne : Type 0
 FlatHistoryIsOne =
-    (R : Lists) (h : List Stamp) → IsEventList h R → Form R → ((cs : List Place) × IsFlat R cs) × ((cs ds : List Place) → IsFlat R cs → IsFlat R ds → cs ≡ ds)
+    (R : Lists) (h : List Stamp) → IsEventList h R → Form R → ((cs : List Place) × IsFlat R cs) ×
+    ((cs ds : List Place) → IsFlat R cs → IsFlat R ds → cs ≡ ds)
 
 -- where the events are a run of the machine, the record is legal exactly where its words hold
 abbrev pub LegalWhereWordsHold : Type 0
 LegalWhereWordsHold =
-    (made : List (ℕ × List Entry)) → IsRecord made → Form (lists_of made) → (setting : Setting) (h : List Stamp) → IsEventList h (lists_of made) →
+    (made : List (ℕ × List Entry)) → IsRecord made → Form (lists_of made) → (setting : Setting) (h : List Stamp) →
+    IsEventList h (lists_of made) →
     IsMachineRun setting (lists_of made) h → Legal setting (lists_of made) ↔ WordsHold (lists_of made)
 
 -- there is one first place where a word is wrong, and none where the words hold

@@ -5,6 +5,8 @@ mod fault;
 mod laws;
 mod looks;
 mod table;
+#[cfg(test)]
+mod tests;
 mod walk;
 mod writes;
 

@@ -22,9 +22,11 @@ keeps_all R form t i = record {
   begins = λ e at no_trim all. list.begins i e at no_trim all;
   positions_rise = λ j p q e f at here before of_e of_f. list.positions_rise j i p q e f at here before of_e of_f;
   numbers_rise = λ x j k m e f at here before of_e of_f. list.numbers_rise j i x k m e f at here before of_e of_f;
-  lows_rise = λ j low high e f at here before of_e of_f. list.lows_rise j i low high (subst (λ g. At (R t) j g) of_e at) (subst (λ g. At (R t) i g) of_f here) before;
+  lows_rise = λ j low high e f at here before of_e of_f. list.lows_rise j i low high (subst (λ g. At (R t) j g) of_e at)
+      (subst (λ g. At (R t) i g) of_f here) before;
   over_after_end = λ j e f next at here. list.over_after_end j e f at (subst (λ n. At (R t) n f) next here);
-  nothing_after = λ j e f at here before over. (let last = list.nothing_after j e at over in let within = slice_get_within (R t) i f here in omega arith);
+  nothing_after = λ j e f at here before over. (let last = list.nothing_after j e at over in
+      let within = slice_get_within (R t) i f here in omega arith);
   ends = λ some last. form.ends t some;
   cached = λ x k write value at. list.cached i x k write value at;
 } where
@@ -39,9 +41,14 @@ module _ (R : Lists) (nowhere : (c : Place) → FormFailsAt R c → ⊥) where
   list_form t = record {
     well_formed = λ i e at. stable_form t e (λ wrong. never t i (λ keeps. wrong (keeps.well_formed e at)));
     begins = λ i e at no_trim first. stable_begin e (λ wrong. never t i (λ keeps. wrong (keeps.begins e at no_trim first)));
-    positions_rise = λ i j p q e f at also before of_e of_f. less_or p q (λ falls. never t j (λ keeps. let less = keeps.positions_rise i p q e f at also before of_e of_f in omega arith));
-    numbers_rise = λ i j x k m e f at also before of_e of_f. less_or k m (λ falls. never t j (λ keeps. let less = keeps.numbers_rise x i k m e f at also before of_e of_f in omega arith));
-    lows_rise = λ i j low high at also before. less_or low high (λ falls. never t j (λ keeps. let less = keeps.lows_rise i low high (Trim low) (Trim high) at also before refl refl in omega arith));
+    positions_rise =
+        λ i j p q e f at also before of_e of_f. less_or p q (λ falls. never t j
+        (λ keeps. let less = keeps.positions_rise i p q e f at also before of_e of_f in omega arith));
+    numbers_rise =
+        λ i j x k m e f at also before of_e of_f. less_or k m (λ falls. never t j
+        (λ keeps. let less = keeps.numbers_rise x i k m e f at also before of_e of_f in omega arith));
+    lows_rise = λ i j low high at also before. less_or low high (λ falls. never t j
+        (λ keeps. let less = keeps.lows_rise i low high (Trim low) (Trim high) at also before refl refl in omega arith));
     over_after_end = λ i e f at also. (
       λ ends. stable_over f (λ wrong. never t (i + 1) (λ keeps. wrong ((keeps.over_after_end i e f refl at also).0 ends))),
       λ over. stable_end e (λ wrong. never t (i + 1) (λ keeps. wrong ((keeps.over_after_end i e f refl at also).1 over))),

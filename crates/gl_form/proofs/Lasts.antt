@@ -50,7 +50,9 @@ module _ (Has : Entry → ℕ → Type 0) (es : List Entry) (i : ℕ) (e : Entry
   }
 
   -- the greatest of its numbers, where it is above the last one, is the last one next
-  pub one_more : (last : Option ℕ) → IsLast Has es i last → (k : ℕ) → Has e k → ((m : ℕ) → Has e m → m ≤ k) → IsAbove last k → IsLast Has es (i + 1) (Some k)
+  pub one_more :
+      (last : Option ℕ) → IsLast Has es i last → (k : ℕ) → Has e k → ((m : ℕ) → Has e m → m ≤ k) → IsAbove last k →
+      IsLast Has es (i + 1) (Some k)
   one_more last is k has most above = record {
     index = i;
     entry = e;
@@ -64,4 +66,5 @@ module _ (Has : Entry → ℕ → Type 0) (es : List Entry) (i : ℕ) (e : Entry
   } where
     at_most : (last : Option ℕ) → IsLast Has es i last → IsAbove last k → (j m : ℕ) (f : Entry) → At es j f → j < i → Has f m → m ≤ k
     at_most None none above j m f there before of_f = absurd (none j m f there before of_f)
-    at_most (Some n) is above j m f there before of_f = (let most' = is.most j m f there before of_f in let less : n < k = above in omega arith)
+    at_most (Some n) is above j m f there before of_f = (let most' = is.most j m f there before of_f in let less : n < k = above in
+        omega arith)

@@ -1,5 +1,6 @@
 -- The parts of an attempt, looked up by variable; their variables, gathered one by one; and two lists that agree at each place.
-use Rattle.std.proofs.Common.{◌≡◌, ◌≢◌, ℕ, ℤ, zero, suc, ◌+◌, ◌<◌, ◌≤◌, ◌==◌, nat_lt, Bool, true, false, List, [], ◌∷◌, ◌++◌, length, map, take, Some, None, refl, sym, ◌∙◌, ap, subst, arith, inl, inr, add-one, eq-eqb}
+use Rattle.std.proofs.Common.{◌≡◌, ◌≢◌, ℕ, ℤ, zero, suc, ◌+◌, ◌<◌, ◌≤◌, ◌==◌, nat_lt, Bool, true, false, List, [], ◌∷◌, ◌++◌, length, map}
+use Rattle.std.proofs.Common.{take, Some, None, refl, sym, ◌∙◌, ap, subst, arith, inl, inr, add-one, eq-eqb}
 use Rattle.std.specs.Prelude.{slice_get, ◌⊎◌, Contains, IsErr, MatchBool, OnOk, Result, Ok, Err, ◌↔◌}
 use Rattle.std.specs.List.{AllByRecursion, find}
 use Rattle.std.specs.Option.{option_map}
@@ -21,10 +22,13 @@ use Rattle.gl_form.proofs.Parts.{at_of, contains_at, rising_at}
 -- ## Looked up
 
 -- what is found stands at some place, and is on the variable
-found_at : (looks : List Look) (x : ℕ) (l : Look) → find (λ p. p.var == x) looks ≡ Some l → ((k : ℕ) × (slice_get looks k ≡ Some l)) × (l.var ≡ x)
+found_at :
+    (looks : List Look) (x : ℕ) (l : Look) → find (λ p. p.var == x) looks ≡ Some l → ((k : ℕ) × (slice_get looks k ≡ Some l)) × (l.var ≡ x)
 found_at [] x l is = absurd cc
 found_at (p ∷ looks) x l is = by_first (cases_eq p.var x) (λ more. found_at looks x l more) where
-  by_first : (p.var ≡ x) ⊎ (p.var ≢ x) → (find (λ p. p.var == x) looks ≡ Some l → ((k : ℕ) × (slice_get looks k ≡ Some l)) × (l.var ≡ x)) → ((k : ℕ) × (slice_get (p ∷ looks) k ≡ Some l)) × (l.var ≡ x)
+  by_first :
+      (p.var ≡ x) ⊎ (p.var ≢ x) → (find (λ p. p.var == x) looks ≡ Some l → ((k : ℕ) × (slice_get looks k ≡ Some l)) × (l.var ≡ x)) →
+      ((k : ℕ) × (slice_get (p ∷ looks) k ≡ Some l)) × (l.var ≡ x)
   by_first (inl same) rest =
       let here : (p.var == x) ≡ true = eq-eqb p.var x same in
       let first : Some p ≡ Some l = rw here at is in
@@ -37,19 +41,26 @@ found_at (p ∷ looks) x l is = by_first (cases_eq p.var x) (λ more. found_at l
       ((suc more.0.0, more.0.1), more.1)
 
 -- where nothing is found none is on the variable
-none_found : (looks : List Look) (x : ℕ) → find (λ p. p.var == x) looks ≡ None → (k : ℕ) (l : Look) → slice_get looks k ≡ Some l → l.var ≡ x → ⊥
+none_found :
+    (looks : List Look) (x : ℕ) → find (λ p. p.var == x) looks ≡ None → (k : ℕ) (l : Look) → slice_get looks k ≡ Some l → l.var ≡ x → ⊥
 none_found [] x none k l at is = cc
 none_found (p ∷ looks) x none k l at is = by_first (cases_eq p.var x) (λ more. none_found looks x more) k at where
-  by_first : (p.var ≡ x) ⊎ (p.var ≢ x) → (find (λ p. p.var == x) looks ≡ None → (k : ℕ) (l : Look) → slice_get looks k ≡ Some l → l.var ≡ x → ⊥) → (k : ℕ) → slice_get (p ∷ looks) k ≡ Some l → ⊥
-  by_first (inl same) rest j there = (let here : (p.var == x) ≡ true = eq-eqb p.var x same in let wrong : Some p ≡ None = rw here at none in cc)
+  by_first :
+      (p.var ≡ x) ⊎ (p.var ≢ x) → (find (λ p. p.var == x) looks ≡ None → (k : ℕ) (l : Look) → slice_get looks k ≡ Some l → l.var ≡ x → ⊥) →
+      (k : ℕ) → slice_get (p ∷ looks) k ≡ Some l → ⊥
+  by_first (inl same) rest j there = (let here : (p.var == x) ≡ true = eq-eqb p.var x same in
+      let wrong : Some p ≡ None = rw here at none in cc)
   by_first (inr other) rest zero there = (let one' : p ≡ l = cc in other (ap (λ (q : Look). q.var) one' ∙ is))
-  by_first (inr other) rest (suc j) there = (let here : (p.var == x) ≡ false = grind (arith, nat_tests) in let more : find (λ p. p.var == x) looks ≡ None = rw here at none in rest more j l there is)
+  by_first (inr other) rest (suc j) there = (let here : (p.var == x) ≡ false = grind (arith, nat_tests) in
+      let more : find (λ p. p.var == x) looks ≡ None = rw here at none in rest more j l there is)
 
 abbrev look_of : ℕ → ℤ → ℕ → Look
 look_of x v k = record { var = x; value = v; nth = k }
 
 -- two looks at a variable are one
-one_look : (looks : List Look) → Rises (map (λ l. l.var) looks) → (j k : ℕ) (l m : Look) → slice_get looks j ≡ Some l → slice_get looks k ≡ Some m → l.var ≡ m.var → l ≡ m
+one_look :
+    (looks : List Look) → Rises (map (λ l. l.var) looks) → (j k : ℕ) (l m : Look) → slice_get looks j ≡ Some l →
+    slice_get looks k ≡ Some m → l.var ≡ m.var → l ≡ m
 one_look looks rises j k l m at also same = by_order (cases_order j k) where
   by_order : (j ≡ k) ⊎ ((j < k) ⊎ (k < j)) → l ≡ m
   by_order (inl is) = (let there : slice_get looks j ≡ Some m = rw is also in cc)
@@ -58,7 +69,9 @@ one_look looks rises j k l m at also same = by_order (cases_order j k) where
 
 module _ (looks : List Look) (x : ℕ) where
   -- the look that is found is each look at the variable
-  pub found_is : Rises (map (λ l. l.var) looks) → (l : Look) → find (λ p. p.var == x) looks ≡ Some l → (value : ℤ) (k : ℕ) → Contains looks (look_of x value k) → (l.value ≡ value) × (l.nth ≡ k)
+  pub found_is :
+      Rises (map (λ l. l.var) looks) → (l : Look) → find (λ p. p.var == x) looks ≡ Some l → (value : ℤ) (k : ℕ) →
+      Contains looks (look_of x value k) → (l.value ≡ value) × (l.nth ≡ k)
   found_is rises l is value k c =
       let found = found_at looks x l is in
       let place = at_of looks (look_of x value k) c in
@@ -72,13 +85,18 @@ module _ (looks : List Look) (x : ℕ) where
       contains_at looks found.0.0 (look_of x l.value l.nth) (found.0.1 ∙ ap Some same)
 
   pub none_contains : find (λ p. p.var == x) looks ≡ None → (value : ℤ) (k : ℕ) → Contains looks (look_of x value k) → ⊥
-  none_contains none value k c = (let place = at_of looks (look_of x value k) c in none_found looks x none place.0 (look_of x value k) place.1 refl)
+  none_contains none value k c = (let place = at_of looks (look_of x value k) c in
+      none_found looks x none place.0 (look_of x value k) place.1 refl)
 
   -- whether a number stands after the look
-  pub after_found : Rises (map (λ l. l.var) looks) → (l : Look) → find (λ p. p.var == x) looks ≡ Some l → (m : ℕ) → MatchBool (nat_lt l.nth m) (OwnStandAfter looks x m) (OwnStandAfter looks x m → ⊥)
+  pub after_found :
+      Rises (map (λ l. l.var) looks) → (l : Look) → find (λ p. p.var == x) looks ≡ Some l → (m : ℕ) →
+      MatchBool (nat_lt l.nth m) (OwnStandAfter looks x m) (OwnStandAfter looks x m → ⊥)
   after_found rises l is m = elim (cases_lt l.nth m) [
-    | inl lt ↦ (let test : nat_lt l.nth m ≡ true = grind (arith, nat_tests) in rw test (λ k value c. let same = (found_is rises l is value k c).1 in omega arith))
-    | inr ge ↦ (let test : nat_lt l.nth m ≡ false = grind (arith, nat_tests) in rw test (λ stands. let less = stands l.nth l.value (found_contains l is) in omega arith))
+    | inl lt ↦ (let test : nat_lt l.nth m ≡ true = grind (arith, nat_tests) in
+        rw test (λ k value c. let same = (found_is rises l is value k c).1 in omega arith))
+    | inr ge ↦ (let test : nat_lt l.nth m ≡ false = grind (arith, nat_tests) in
+        rw test (λ stands. let less = stands l.nth l.value (found_contains l is) in omega arith))
   ]
 
   pub after_none : find (λ p. p.var == x) looks ≡ None → (m : ℕ) → OwnStandAfter looks x m
@@ -89,9 +107,14 @@ module _ (looks : List Look) (x : ℕ) where
 
   -- whether a value was read
   pub read_found :
-      Rises (map (λ l. l.var) looks) → (l : Look) → find (λ p. p.var == x) looks ≡ Some l → (read : ℤ) (b : Bool) → MatchBool b (l.value ≡ read) (l.value ≢ read) →
+      Rises (map (λ l. l.var) looks) → (l : Look) → find (λ p. p.var == x) looks ≡ Some l → (read : ℤ) (b : Bool) →
+      MatchBool b (l.value ≡ read) (l.value ≢ read) →
       MatchBool b (Reads read) (Reads read → ⊥)
-  read_found rises l is read true same = (l.nth, (let P : ℤ → Type 0 = λ v. Contains looks (look_of x v l.nth) in subst P same (found_contains l is)))
+  read_found rises l is read true same = (
+    l.nth,
+    (let P : ℤ → Type 0 = λ v. Contains looks (look_of x v l.nth) in
+        subst P same (found_contains l is)),
+  )
   read_found rises l is read false other = λ reads. other (found_is rises l is read reads.0 reads.1).0
 
   pub read_none : find (λ p. p.var == x) looks ≡ None → (read : ℤ) → Reads read → ⊥
@@ -109,10 +132,12 @@ module _ (tx : Tx) where
   abbrev pub AfterBelow : ℕ → Type 0
   AfterBelow i = (k : ℕ) (n : Number) → k < i → slice_get tx.numbers k ≡ Some n → OwnStandAfter tx.looks n.var n.nth
 
-  pub after_more : (i : ℕ) (a : Number) → AfterBelow i → slice_get tx.numbers i ≡ Some a → OwnStandAfter tx.looks a.var a.nth → AfterBelow (i + 1)
+  pub after_more :
+      (i : ℕ) (a : Number) → AfterBelow i → slice_get tx.numbers i ≡ Some a → OwnStandAfter tx.looks a.var a.nth → AfterBelow (i + 1)
   after_more i a below at stands k n less there = elim (before_next i k less) [
     | inl lt ↦ below k n lt there
-    | inr same ↦ (let here : slice_get tx.numbers i ≡ Some n = rw (sym same) there in let one' : n ≡ a = cc in let P : Number → Type 0 = λ q. OwnStandAfter tx.looks q.var q.nth in subst P (sym one') stands)
+    | inr same ↦ (let here : slice_get tx.numbers i ≡ Some n = rw (sym same) there in let one' : n ≡ a = cc in
+        let P : Number → Type 0 = λ q. OwnStandAfter tx.looks q.var q.nth in subst P (sym one') stands)
   ]
 
   pub after_past : (i : ℕ) → AfterBelow i → slice_get tx.numbers i ≡ None → AfterBelow (i + 1)
@@ -122,13 +147,16 @@ module _ (tx : Tx) where
   ]
 
   pub all_after : length tx.numbers ≤ TX_VARIABLES → AfterBelow TX_VARIABLES → AllAfter
-  all_after few below x m c = (let place = at_of tx.numbers (record { var = x; nth = m }) c in let within = slice_get_within tx.numbers place.0 _ place.1 in below place.0 (record { var = x; nth = m }) (omega arith) place.1)
+  all_after few below x m c = (let place = at_of tx.numbers (record { var = x; nth = m }) c in
+      let within = slice_get_within tx.numbers place.0 _ place.1 in below place.0 (record { var = x; nth = m }) (omega arith) place.1)
 
   pub numbers_few : IsTxKept tx → length tx.numbers ≤ TX_VARIABLES
   numbers_few kept = (let few = kept.2.0 in let same = length-map tx.numbers (λ (l : Number). l.var) in omega arith)
 
   -- both rules together
-  pub named : (xs : List ℕ) → map (λ n. n.var) tx.numbers ≡ xs → (b : Bool) → MatchBool b AllAfter (AllAfter → ⊥) → MatchBool b (NumbersName tx xs) (NumbersName tx xs → ⊥)
+  pub named :
+      (xs : List ℕ) → map (λ n. n.var) tx.numbers ≡ xs → (b : Bool) → MatchBool b AllAfter (AllAfter → ⊥) →
+      MatchBool b (NumbersName tx xs) (NumbersName tx xs → ⊥)
   named xs on true all = record { variables = on; after_looks = λ x k m value look own. all x m own k value look }
   named xs on false wrong = λ names. wrong (λ x m own k value look. names.after_looks x k m value look own)
 
@@ -169,15 +197,18 @@ take_few [] (suc i) = omega arith
 take_few (x ∷ xs) zero = omega arith
 take_few (x ∷ xs) (suc i) = (let more = take_few xs i in omega arith)
 
-module _ {A : Type 0} (var : A → ℕ) (parts : List A) (are : AreVariables (map var parts)) (i : ℕ) (less : i < TX_VARIABLES) (vars : List ℕ) (so_far : vars ≡ take i (map var parts)) where
+module _ {A : Type 0} (var : A → ℕ) (parts : List A) (are : AreVariables (map var parts)) (i : ℕ) (less : i < TX_VARIABLES)
+    (vars : List ℕ) (so_far : vars ≡ take i (map var parts)) where
   -- one more is put in, since there is room
   pub gathered :
-      {V E : Type 0} (a : A) → slice_get parts i ≡ Some a → (result : Result V E) (new : List ℕ) → OnOk result (new ≡ with_one (var a) vars) →
+      {V E : Type 0} (a : A) → slice_get parts i ≡ Some a → (result : Result V E) (new : List ℕ) →
+      OnOk result (new ≡ with_one (var a) vars) →
       IsErr result ↔ ((length vars ≡ TX_VARIABLES) × (Contains vars (var a) → ⊥)) → new ≡ take (i + 1) (map var parts)
   gathered a at (Ok u) new put full =
       let there : slice_get (map var parts) i ≡ Some (var a) = slice_get-map var parts i ∙ ap (option_map var) at in
       let below = taken_below (map var parts) i (var a) are.1 there in
-      put ∙ ap (with_one (var a)) so_far ∙ with_one_last (var a) (take i (map var parts)) below ∙ sym (take_next (map var parts) i (var a) there)
+      put ∙ ap (with_one (var a)) so_far ∙ with_one_last (var a) (take i (map var parts)) below
+      ∙ sym (take_next (map var parts) i (var a) there)
       ∙ ap (λ n. take n (map var parts)) (sym (add-one i))
   gathered a at (Err e) new put full = (
       let wide : length vars ≡ TX_VARIABLES = (full.0 refl).0 in

@@ -1,5 +1,6 @@
 -- The numbers of an attempt's parts, whose variables rise, become the last ones, part by part.
-use Rattle.std.proofs.Common.{◌≡◌, ◌≢◌, ℕ, zero, suc, ◌+◌, ◌<◌, List, [], ◌∷◌, length, map, set, Option, Some, None, refl, sym, ◌∙◌, ap, subst, arith, inl, inr}
+use Rattle.std.proofs.Common.{◌≡◌, ◌≢◌, ℕ, zero, suc, ◌+◌, ◌<◌, List, [], ◌∷◌, length, map, set, Option, Some, None, refl, sym, ◌∙◌, ap}
+use Rattle.std.proofs.Common.{subst, arith, inl, inr}
 use Rattle.std.specs.Prelude.{slice_get, ◌⊎◌, Contains}
 use Rattle.std.specs.List.{AllByRecursion}
 use Rattle.std.proofs.lemmas.Bool.{cases_eq}
@@ -18,20 +19,27 @@ at_of xs x c = (c.0, slice_get-get_or xs c.0 x c.1 ∙ ap Some c.2)
 pub contains_at : {A : Type 0} → (xs : List A) (k : ℕ) (x : A) → slice_get xs k ≡ Some x → Contains xs x
 contains_at xs k x at = (k, slice_get_within xs k x at, get_or_from_slice_get xs k x x at)
 
-pub all_at : (P : ℕ → Type 0) {A : Type 0} (var : A → ℕ) (parts : List A) (k : ℕ) (a : A) → AllByRecursion P (map var parts) → slice_get parts k ≡ Some a → P (var a)
+pub all_at :
+    (P : ℕ → Type 0) {A : Type 0} (var : A → ℕ) (parts : List A) (k : ℕ) (a : A) → AllByRecursion P (map var parts) →
+    slice_get parts k ≡ Some a → P (var a)
 all_at P var [] k a all at = cc
 all_at P var (x ∷ parts) zero a all at = (let same : x ≡ a = cc in subst P (ap var same) all.0)
 all_at P var (x ∷ parts) (suc k) a all at = all_at P var parts k a all.1 at
 
 -- a part's variable is one that there is
-pub part_in_range : {A : Type 0} (var : A → ℕ) (parts : List A) (k : ℕ) (a : A) → AreVariables (map var parts) → slice_get parts k ≡ Some a → var a < VARIABLES
+pub part_in_range :
+    {A : Type 0} (var : A → ℕ) (parts : List A) (k : ℕ) (a : A) → AreVariables (map var parts) → slice_get parts k ≡ Some a →
+    var a < VARIABLES
 part_in_range var parts k a are at = all_at (λ x. x < VARIABLES) var parts k a are.2 at
 
 -- variables rise
-pub rising_at : {A : Type 0} (var : A → ℕ) (parts : List A) (j k : ℕ) (a b : A) → Rises (map var parts) → slice_get parts j ≡ Some a → slice_get parts k ≡ Some b → j < k → var a < var b
+pub rising_at :
+    {A : Type 0} (var : A → ℕ) (parts : List A) (j k : ℕ) (a b : A) → Rises (map var parts) → slice_get parts j ≡ Some a →
+    slice_get parts k ≡ Some b → j < k → var a < var b
 rising_at var [] j k a b rises at also less = cc
 rising_at var (x ∷ parts) zero zero a b rises at also less = absurd (omega arith)
-rising_at var (x ∷ parts) zero (suc k) a b rises at also less = (let same : x ≡ a = cc in let all = all_at (λ y. var x < y) var parts k b rises.0 also in rw (sym same) all)
+rising_at var (x ∷ parts) zero (suc k) a b rises at also less = (let same : x ≡ a = cc in
+    let all = all_at (λ y. var x < y) var parts k b rises.0 also in rw (sym same) all)
 rising_at var (x ∷ parts) (suc j) zero a b rises at also less = absurd (omega arith)
 rising_at var (x ∷ parts) (suc j) (suc k) a b rises at also less = rising_at var parts j k a b rises.1 at also (omega arith)
 
@@ -43,7 +51,9 @@ has_part {A} var (p ∷ parts) x = by_first (cases_eq (var p) x) (has_part var p
   Found : List A → Type 0
   Found ps = ((k : ℕ) × ((a : A) × (slice_get ps k ≡ Some a) × (var a ≡ x))) ⊎ ((k : ℕ) (a : A) → slice_get ps k ≡ Some a → var a ≡ x → ⊥)
 
-  none_here : (var p ≢ x) → ((k : ℕ) (a : A) → slice_get parts k ≡ Some a → var a ≡ x → ⊥) → (k : ℕ) (a : A) → slice_get (p ∷ parts) k ≡ Some a → var a ≡ x → ⊥
+  none_here :
+      (var p ≢ x) → ((k : ℕ) (a : A) → slice_get parts k ≡ Some a → var a ≡ x → ⊥) → (k : ℕ) (a : A) → slice_get (p ∷ parts) k ≡ Some a →
+      var a ≡ x → ⊥
   none_here other none zero a at is = (let same : p ≡ a = cc in other (ap var same ∙ is))
   none_here other none (suc k) a at is = none k a at is
 
@@ -81,17 +91,24 @@ module _ {A : Type 0} (var nth : A → ℕ) (parts : List A) (old : List (Option
       part_not_above wrong = (n, (a, at, (let P : Option ℕ → Type 0 = λ o. IsAbove o (nth a) → ⊥ in subst P untouched wrong)))
 
       -- one that is above it
-      pub part_drawn : (new : List (Option ℕ)) → var a < length cur → IsAbove (last_on cur (var a)) (nth a) → new ≡ set cur (var a) (Some (nth a)) → AreDrawn var nth parts (n + 1) old new
+      pub part_drawn :
+          (new : List (Option ℕ)) → var a < length cur → IsAbove (last_on cur (var a)) (nth a) → new ≡ set cur (var a) (Some (nth a)) →
+          AreDrawn var nth parts (n + 1) old new
       part_drawn new within is_above is = record {
         above = λ m b there less. elim (before_next n m less) [
           | inl lt ↦ are.above m b there lt
-          | inr same ↦ (let one : b ≡ a = same_part m b there same in let P : A → Type 0 = λ p. IsAbove (last_on old (var p)) (nth p) in subst P (sym one) old_above)
+          | inr same ↦ (let one : b ≡ a = same_part m b there same in let P : A → Type 0 = λ p. IsAbove (last_on old (var p)) (nth p) in
+              subst P (sym one) old_above)
         ];
         drawn = λ m b there less. elim (before_next n m less) [
-          | inl lt ↦ (let lower = rising_at var parts m n b a rises there at lt in ap (λ l. last_on l (var b)) is ∙ get_or-set_other cur (var a) (var b) (Some (nth a)) None (λ same. omega arith) ∙ are.drawn m b there lt)
-          | inr same ↦ (let one : b ≡ a = same_part m b there same in let P : A → Type 0 = λ p. last_on new (var p) ≡ Some (nth p) in subst P (sym one) mine)
+          | inl lt ↦ (let lower = rising_at var parts m n b a rises there at lt in
+              ap (λ l. last_on l (var b)) is ∙ get_or-set_other cur (var a) (var b) (Some (nth a)) None (λ same. omega arith)
+              ∙ are.drawn m b there lt)
+          | inr same ↦ (let one : b ≡ a = same_part m b there same in let P : A → Type 0 = λ p. last_on new (var p) ≡ Some (nth p) in
+              subst P (sym one) mine)
         ];
-        others = λ x none. ap (λ l. last_on l x) is ∙ get_or-set_other cur (var a) x (Some (nth a)) None (λ same. none n a at (omega arith) (sym same)) ∙ are.others x (λ m b there less same. none m b there (omega arith) same);
+        others = λ x none. ap (λ l. last_on l x) is ∙ get_or-set_other cur (var a) x (Some (nth a)) None
+            (λ same. none n a at (omega arith) (sym same)) ∙ are.others x (λ m b there less same. none m b there (omega arith) same);
       } where
         same_part : (m : ℕ) (b : A) → slice_get parts m ≡ Some b → m ≡ n → b ≡ a
         same_part m b there same = (let here : slice_get parts n ≡ Some b = rw (sym same) there in cc)

@@ -1,5 +1,6 @@
 -- The first failing place of a record, thread by thread.
-use Rattle.std.proofs.Common.{◌≡◌, ◌≢◌, ℕ, ◌+◌, ◌<◌, ◌≤◌, ◌==◌, Bool, true, false, List, [], ◌∷◌, length, Option, Some, None, refl, subst, arith, inl, inr}
+use Rattle.std.proofs.Common.{◌≡◌, ◌≢◌, ℕ, ◌+◌, ◌<◌, ◌≤◌, ◌==◌, Bool, true, false, List, [], ◌∷◌, length, Option, Some, None, refl, subst}
+use Rattle.std.proofs.Common.{arith, inl, inr}
 use Rattle.std.specs.Prelude.{unwrap_or}
 use Rattle.std.specs.List.{AllByRecursion}
 use Rattle.std.proofs.lemmas.Bool.{cases_lt, eqb-true}
@@ -13,10 +14,14 @@ use Rattle.gl_form.specs.Rules.{FormFails, FormFailsAt}
 use Rattle.gl_form.proofs.Walks.{keeps_past}
 
 -- a list of the record has an entry, and its entries keep to what there is; and its thread is one that there is
-pub list_kept : (ls : List (ℕ × List Entry)) (t : ℕ) (es : List Entry) → AllByRecursion IsListKept ls → list_of ls t ≡ Some es → (t < THREADS) × (0 < length es) × AllByRecursion IsEntryKept es
+pub list_kept :
+    (ls : List (ℕ × List Entry)) (t : ℕ) (es : List Entry) → AllByRecursion IsListKept ls → list_of ls t ≡ Some es →
+    (t < THREADS) × (0 < length es) × AllByRecursion IsEntryKept es
 list_kept [] t es kept is = absurd cc
 list_kept (l ∷ ls) t es kept is = by_test (l.0 == t) refl (list_kept ls t es kept.1) where
-  by_test : (b : Bool) → (l.0 == t) ≡ b → (list_of ls t ≡ Some es → (t < THREADS) × (0 < length es) × AllByRecursion IsEntryKept es) → (t < THREADS) × (0 < length es) × AllByRecursion IsEntryKept es
+  by_test :
+      (b : Bool) → (l.0 == t) ≡ b → (list_of ls t ≡ Some es → (t < THREADS) × (0 < length es) × AllByRecursion IsEntryKept es) →
+      (t < THREADS) × (0 < length es) × AllByRecursion IsEntryKept es
   by_test true test rest =
       let here : Some l.1 ≡ Some es = rw test at is in
       let same : l.1 ≡ es = cc in
@@ -36,7 +41,8 @@ no_list ls t kept past = by_list (list_of ls t) refl where
 
 -- an empty list fails nowhere, but thread 0's does
 pub empty_keeps : (t : ℕ) (es : List Entry) → es ≡ [] → t ≢ 0 → (i : ℕ) → FormFails t es i → ⊥
-empty_keeps t es none other i fails = fails (keeps_past t es i (rw none (omega arith)) (λ first. absurd (other first)) (λ some. absurd (some none)))
+empty_keeps t es none other i fails =
+    fails (keeps_past t es i (rw none (omega arith)) (λ first. absurd (other first)) (λ some. absurd (some none)))
 
 pub empty_fails : (es : List Entry) → es ≡ [] → FormFails 0 es 0
 empty_fails es none keeps = keeps.main refl refl none
@@ -60,8 +66,11 @@ module _ (ls : List (ℕ × List Entry)) where
   abbrev at_place : ℕ → ℕ → Place
   at_place t i = record { thread = t; index = i }
 
-  pub first_place : (n i : ℕ) → NoneBelow n → FormFails n (lists_of ls n) i → ((j : ℕ) → j < i → FormFails n (lists_of ls n) j → ⊥) → IsFirstBy Before (FormFailsAt (lists_of ls)) (at_place n i)
+  pub first_place :
+      (n i : ℕ) → NoneBelow n → FormFails n (lists_of ls n) i → ((j : ℕ) → j < i → FormFails n (lists_of ls n) j → ⊥) →
+      IsFirstBy Before (FormFailsAt (lists_of ls)) (at_place n i)
   first_place n i none fails earlier = (fails, before) where
     before : (d : Place) → FormFailsAt (lists_of ls) d → Before d (at_place n i) → ⊥
     before d also (inl less) = none d.thread less d.index also
-    before d also (inr (same, less)) = (let P : ℕ → Type 0 = λ u. FormFails u (lists_of ls u) d.index in earlier d.index less (subst P same also))
+    before d also (inr (same, less)) = (let P : ℕ → Type 0 = λ u. FormFails u (lists_of ls u) d.index in
+        earlier d.index less (subst P same also))

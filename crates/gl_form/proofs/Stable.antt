@@ -81,7 +81,9 @@ either_look (l ∷ ls) var read = by_parts (either_nat l.var var) (either_int l.
       other (ap (λ (m : Look). m.var) is, ap (λ (m : Look). m.value) is)
   not_first other none (nth, (suc k, at)) = none (nth, (k, at))
 
-  by_parts : (l.var ≡ var) ⊎ (l.var ≡ var → ⊥) → (l.value ≡ read) ⊎ (l.value ≡ read → ⊥) → HasLook ls var read ⊎ (HasLook ls var read → ⊥) → HasLook (l ∷ ls) var read ⊎ (HasLook (l ∷ ls) var read → ⊥)
+  by_parts :
+      (l.var ≡ var) ⊎ (l.var ≡ var → ⊥) → (l.value ≡ read) ⊎ (l.value ≡ read → ⊥) → HasLook ls var read ⊎ (HasLook ls var read → ⊥) →
+      HasLook (l ∷ ls) var read ⊎ (HasLook (l ∷ ls) var read → ⊥)
   by_parts (inl a) (inl b) rest = inl (l.nth, (0, ap Some (named l.var var l.value read l.nth a b)))
   by_parts a b (inl found) = inl (found.0, (suc found.1.0, found.1.1))
   by_parts (inr a) b (inr none) = inr (not_first (λ both. a both.0) none)
@@ -177,7 +179,8 @@ either_over (x ∷ es) = by_first x refl (either_over es) where
   by_rest not_x (inl found) = inl (later found)
   by_rest not_x (inr none) = inr (none_here not_x none)
 
-  by_first : (e : Entry) → x ≡ e → ((i : ℕ) × ((f : Entry) × At es i f × IsOver f)) ⊎ ((i : ℕ) (f : Entry) → At es i f → IsOver f → ⊥) → Found
+  by_first :
+      (e : Entry) → x ≡ e → ((i : ℕ) × ((f : Entry) × At es i f × IsOver f)) ⊎ ((i : ℕ) (f : Entry) → At es i f → IsOver f → ⊥) → Found
   by_first (Over ending) is rest = inl (0, (x, refl, rw is tt))
   by_first (Sync at act value) is rest = by_rest (rw is (λ over. over)) rest
   by_first (Commit at tx) is rest = by_rest (rw is (λ over. over)) rest

@@ -1,5 +1,6 @@
 -- Whether a right is there is decided, so it is there where that is not refuted.
-use Rattle.std.proofs.Common.{◌≡◌, ℕ, zero, suc, ◌<◌, ◌≤◌, Bool, true, false, List, Option, Some, None, refl, sym, ◌∙◌, subst, inl, inr, arith}
+use Rattle.std.proofs.Common.{◌≡◌, ℕ, zero, suc, ◌<◌, ◌≤◌, Bool, true, false, List, Option, Some, None, refl, sym, ◌∙◌, subst, inl, inr}
+use Rattle.std.proofs.Common.{arith}
 use Rattle.std.specs.Prelude.{slice_get, ◌⊎◌}
 use Rattle.std.proofs.lemmas.Bool.{cases_lt, cases_order}
 use Rattle.gl_model.specs.Entries.{Entry, Sync, Commit, Plain, Abort, Trim, Over}
@@ -20,12 +21,15 @@ either_bool true false = inr (λ is. cc)
 either_bool false true = inr (λ is. cc)
 
 either_gives : (e : Entry) (x : ℕ) → Gives e x ⊎ (Gives e x → ⊥)
-either_gives (Plain var nth cached write value raised) x = by_parts (either_bool cached false) (either_bool raised false) (either_nat var x) where
-  by_parts : (cached ≡ false) ⊎ (cached ≡ false → ⊥) → (raised ≡ false) ⊎ (raised ≡ false → ⊥) → (var ≡ x) ⊎ (var ≡ x → ⊥) → Gives (Plain var nth cached write value raised) x ⊎ (Gives (Plain var nth cached write value raised) x → ⊥)
-  by_parts (inl a) (inl b) (inl c) = inl (record { number = nth; write = write; gives = (a, b, c, refl, refl) })
-  by_parts (inr a) b c = inr (λ g. a g.gives.0)
-  by_parts (inl a) (inr b) c = inr (λ g. b g.gives.1)
-  by_parts (inl a) (inl b) (inr c) = inr (λ g. c g.gives.2)
+either_gives (Plain var nth cached write value raised) x =
+    by_parts (either_bool cached false) (either_bool raised false) (either_nat var x) where
+      by_parts :
+          (cached ≡ false) ⊎ (cached ≡ false → ⊥) → (raised ≡ false) ⊎ (raised ≡ false → ⊥) → (var ≡ x) ⊎ (var ≡ x → ⊥) →
+          Gives (Plain var nth cached write value raised) x ⊎ (Gives (Plain var nth cached write value raised) x → ⊥)
+      by_parts (inl a) (inl b) (inl c) = inl (record { number = nth; write = write; gives = (a, b, c, refl, refl) })
+      by_parts (inr a) b c = inr (λ g. a g.gives.0)
+      by_parts (inl a) (inr b) c = inr (λ g. b g.gives.1)
+      by_parts (inl a) (inl b) (inr c) = inr (λ g. c g.gives.2)
 either_gives (Sync at act value) x = inr (λ g. g.gives)
 either_gives (Commit at tx) x = inr (λ g. g.gives)
 either_gives (Abort tx why) x = inr (λ g. g.gives)
@@ -56,7 +60,9 @@ module _ (es : List Entry) (i x k : ℕ) (write : Bool) where
     by_order (inr (inl lt)) = (let none = h.no_event j e at lt less in cc)
     by_order (inr (inr gt)) = clear.gives h.index k h.entry h.by_write h.there gt h.before h.gives
 
-  at_other : (j : ℕ) (e : Entry) (g : Gives e x) → j < i → At es j e → Clear (suc j) → ((g.number ≡ k) × (write ≡ true → g.write ≡ true) → ⊥) → HasRight es i x k write → ⊥
+  at_other :
+      (j : ℕ) (e : Entry) (g : Gives e x) → j < i → At es j e → Clear (suc j) → ((g.number ≡ k) × (write ≡ true → g.write ≡ true) → ⊥) →
+      HasRight es i x k write → ⊥
   at_other j e g less at clear wrong h = by_order (cases_order h.index j) where
     by_order : (h.index ≡ j) ⊎ ((h.index < j) ⊎ (j < h.index)) → ⊥
     by_order (inl same) =
@@ -101,7 +107,8 @@ module _ (es : List Entry) (i x k : ℕ) (write : Bool) where
     ];
     gives = λ l m e w at le lt g. elim (cases_lt j l) [
       | inl gt ↦ clear.gives l m e w at gt lt g
-      | inr ge ↦ (let same : l ≡ j = omega arith in let there : At es j e = rw (sym same) at in (here e there).1 (record { number = m; write = w; gives = g }))
+      | inr ge ↦ (let same : l ≡ j = omega arith in let there : At es j e = rw (sym same) at in
+          (here e there).1 (record { number = m; write = w; gives = g }))
     ];
   }
 
@@ -110,7 +117,8 @@ module _ (es : List Entry) (i x k : ℕ) (write : Bool) where
   down (suc j) le clear = by_entry (slice_get es j) refl (λ c. down j (omega arith) c) where
     by_gives : (e : Entry) → At es j e → position_of e ≡ None → Gives e x ⊎ (Gives e x → ⊥) → (Clear j → Either) → Either
     by_gives e at none (inl g) more = at_giver j e g le at clear
-    by_gives e at none (inr not') more = more (further j (λ f there. let same : e ≡ f = cc in (rw (sym same) none, rw (sym same) not')) clear)
+    by_gives e at none (inr not') more = more (further j (λ f there. let same : e ≡ f = cc in
+        (rw (sym same) none, rw (sym same) not')) clear)
 
     by_position : (e : Entry) → At es j e → (o : Option ℕ) → position_of e ≡ o → (Clear j → Either) → Either
     by_position e at (Some p) is more = inr (at_event j e p le at is clear)
@@ -121,7 +129,8 @@ module _ (es : List Entry) (i x k : ℕ) (write : Bool) where
     by_entry (Some e) at more = by_position e at (position_of e) refl more
 
   pub stable_right : NotNot (HasRight es i x k write) → HasRight es i x k write
-  stable_right refuted = elim (down i (omega arith) (record { events = λ l e at le lt. absurd (omega arith); gives = λ l m e w at le lt g. omega arith })) [
-    | inl right ↦ right
-    | inr not' ↦ absurd (refuted not')
-  ]
+  stable_right refuted =
+      elim (down i (omega arith) (record { events = λ l e at le lt. absurd (omega arith); gives = λ l m e w at le lt g. omega arith })) [
+        | inl right ↦ right
+        | inr not' ↦ absurd (refuted not')
+      ]

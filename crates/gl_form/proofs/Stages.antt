@@ -78,13 +78,16 @@ module _ (es : List Entry) (i : ℕ) (e : Entry) (at : At es i e) where
   back P j f of_f there same = (let one : f ≡ e = same_entry es i j e f at there same in rw (sym one) of_f)
 
   -- what no entry before the place is, nor that at the place, none before the next place is
-  none_next : (P : Entry → Type 0) → ((j : ℕ) (f : Entry) → At es j f → j < i → P f → ⊥) → (P e → ⊥) → (j : ℕ) (f : Entry) → At es j f → j < i + 1 → P f → ⊥
+  none_next :
+      (P : Entry → Type 0) → ((j : ℕ) (f : Entry) → At es j f → j < i → P f → ⊥) → (P e → ⊥) → (j : ℕ) (f : Entry) → At es j f → j < i + 1 →
+      P f → ⊥
   none_next P none not_here j f there before is = elim (before_next i j before) [
     | inl less ↦ none j f there less is
     | inr same ↦ not_here (back P j f is there same)
   ]
 
-  all_next : (P : Entry → Type 0) → ((j : ℕ) (f : Entry) → At es j f → j < i → P f) → P e → (j : ℕ) (f : Entry) → At es j f → j < i + 1 → P f
+  all_next :
+      (P : Entry → Type 0) → ((j : ℕ) (f : Entry) → At es j f → j < i → P f) → P e → (j : ℕ) (f : Entry) → At es j f → j < i + 1 → P f
   all_next P all of_e j f there before = elim (before_next i j before) [
     | inl less ↦ all j f there less
     | inr same ↦ here P j f of_e there same
@@ -102,7 +105,8 @@ module _ (es : List Entry) (i : ℕ) (e : Entry) (at : At es i e) where
     }
 
     pub fresh_trim : IsTrim e → Follows es i × IsAtStage es (i + 1) Fresh
-    fresh_trim trim = (fresh_follows (inr trim) (λ other. absurd (other trim)) (λ over. trim_no_over e trim over), all_next IsTrim fresh trim)
+    fresh_trim trim =
+        (fresh_follows (inr trim) (λ other. absurd (other trim)) (λ over. trim_no_over e trim over), all_next IsTrim fresh trim)
 
     pub fresh_begin : IsBegin e → Follows es i × IsAtStage es (i + 1) Running
     fresh_begin begins = (
@@ -127,7 +131,11 @@ module _ (es : List Entry) (i : ℕ) (e : Entry) (at : At es i e) where
     running_follows : (IsOver e → ⊥) → Follows es i
     running_follows no_over = record {
       begins = λ f there no_trim all. absurd (running.0.1.3 (all running.0.0 running.0.1.0 running.0.1.1 running.0.1.2));
-      over_after_end = λ j f g next there also. ((λ ends. absurd (not_end j f there next ends)), (λ over. absurd (no_over (back IsOver i g over also refl))));
+      over_after_end =
+          λ j f g next there also. (
+            (λ ends. absurd (not_end j f there next ends)),
+            (λ over. absurd (no_over (back IsOver i g over also refl))),
+          );
       nothing_after = λ j f g there also before over. running.1 j f there before over;
     }
 
@@ -155,10 +163,13 @@ module _ (es : List Entry) (i : ℕ) (e : Entry) (at : At es i e) where
     pub ended_over : IsOver e → Follows es i × IsAtStage es (i + 1) AllOver
     ended_over over = (
       record {
-        begins = λ f there no_trim all. absurd (trim_no_end ended.0.1.0 (all ended.0.0 ended.0.1.0 ended.0.1.1 (let next = ended.0.1.2 in omega arith)) ended.0.1.3);
+        begins = λ f there no_trim all. absurd (trim_no_end ended.0.1.0 (all ended.0.0 ended.0.1.0 ended.0.1.1 (let next = ended.0.1.2 in
+            omega arith)) ended.0.1.3);
         over_after_end = λ j f g next there also. (
           (λ ends. here IsOver i g over also refl),
-          (λ is. (let last = ended.0.1.2 in let same : f ≡ ended.0.1.0 = same_entry es ended.0.0 j ended.0.1.0 f ended.0.1.1 there (omega arith) in rw same ended.0.1.3)),
+          (λ is. (let last = ended.0.1.2 in
+              let same : f ≡ ended.0.1.0 = same_entry es ended.0.0 j ended.0.1.0 f ended.0.1.1 there (omega arith) in
+              rw same ended.0.1.3)),
         );
         nothing_after = λ j f g there also before is. ended.1 j f there before is;
       },

@@ -1,5 +1,6 @@
 -- A walk along a list: what it has kept at the head of the list, and at its end.
-use Rattle.std.proofs.Common.{◌≡◌, ◌≢◌, ℕ, ◌+◌, ◌<◌, ◌≤◌, Bool, true, false, List, [], ◌∷◌, length, refl, sym, ◌∙◌, ap, subst, arith, inl, inr, zero, suc, map, get_or}
+use Rattle.std.proofs.Common.{◌≡◌, ◌≢◌, ℕ, ◌+◌, ◌<◌, ◌≤◌, Bool, true, false, List, [], ◌∷◌, length, refl, sym, ◌∙◌, ap, subst, arith, inl}
+use Rattle.std.proofs.Common.{inr, zero, suc, map, get_or}
 use Rattle.std.specs.Prelude.{MatchBool}
 use Rattle.std.specs.List.{AllByRecursion}
 use Rattle.std.specs.Option.{option_map}
@@ -35,7 +36,8 @@ module _ (t : ℕ) (es : List Entry) (i : ℕ) where
 
   -- where an entry stands, the rules are these
   pub keeps_here :
-      (e : Entry) → At es i e → EntryForm t e → Follows es i → RisesAt HasPosition es i → RisesAt HasLow es i → ((x : ℕ) → RisesAt (DrawsOn x) es i) →
+      (e : Entry) → At es i e → EntryForm t e → Follows es i → RisesAt HasPosition es i → RisesAt HasLow es i →
+      ((x : ℕ) → RisesAt (DrawsOn x) es i) →
       IsAllowed es i → KeepsForm t es i
   keeps_here e at form follows positions lows numbers allowed = record {
     main = λ first zero none. no_entry i e (subst (λ fs. At fs i e) none at);
@@ -51,7 +53,8 @@ module _ (t : ℕ) (es : List Entry) (i : ℕ) where
   }
 
   -- at and after the end of the list no entry stands
-  pub keeps_past : length es ≤ i → (t ≡ 0 → es ≢ []) → (es ≢ [] → i ≡ length es → (j : ℕ) × ((e : Entry) × At es j e × IsOver e)) → KeepsForm t es i
+  pub keeps_past :
+      length es ≤ i → (t ≡ 0 → es ≢ []) → (es ≢ [] → i ≡ length es → (j : ℕ) × ((e : Entry) × At es j e × IsOver e)) → KeepsForm t es i
   keeps_past past main ends = record {
     main = λ first zero. main first;
     well_formed = λ f there. absurd (nothing f there);
@@ -69,9 +72,12 @@ module _ (t : ℕ) (es : List Entry) (i : ℕ) where
 
   -- the last rule decides, where all others are kept
   pub walks_on :
-      (e : Entry) → At es i e → EntryForm t e → Follows es i → RisesAt HasPosition es i → RisesAt HasLow es i → ((x : ℕ) → RisesAt (DrawsOn x) es i) → (Rights Next : Type 0) →
-      (Rights → Next) → (answer : Bool) → MatchBool answer (IsAllowed es i × Rights) (IsAllowed es i → ⊥) → MatchBool answer (KeepsForm t es i × Next) (KeepsForm t es i → ⊥)
-  walks_on e at form follows positions lows numbers Rights Next next true allowed = (keeps_here e at form follows positions lows numbers allowed.0, next allowed.1)
+      (e : Entry) → At es i e → EntryForm t e → Follows es i → RisesAt HasPosition es i → RisesAt HasLow es i →
+      ((x : ℕ) → RisesAt (DrawsOn x) es i) → (Rights Next : Type 0) →
+      (Rights → Next) → (answer : Bool) → MatchBool answer (IsAllowed es i × Rights) (IsAllowed es i → ⊥) →
+      MatchBool answer (KeepsForm t es i × Next) (KeepsForm t es i → ⊥)
+  walks_on e at form follows positions lows numbers Rights Next next true allowed =
+      (keeps_here e at form follows positions lows numbers allowed.0, next allowed.1)
   walks_on e at form follows positions lows numbers Rights Next next false wrong = λ keeps. wrong keeps.cached
 
 -- ## A whole list
@@ -87,7 +93,11 @@ entry_kept (f ∷ es) (suc i) e kept at = entry_kept es i e kept.1 at
 
 module _ (t : ℕ) (es : List Entry) (n : ℕ) (keep : (j : ℕ) → j < n → KeepsForm t es j) where
   pub keep_more : KeepsForm t es n → (j : ℕ) → j < n + 1 → KeepsForm t es j
-  keep_more here j less = elim (before_next n j less) [ inl lt ↦ keep j lt | inr same ↦ (let P : ℕ → Type 0 = KeepsForm t es in subst P (sym same) here) ]
+  keep_more here j less = elim (before_next n j less) [
+    | inl lt ↦ keep j lt
+    | inr same ↦ (let P : ℕ → Type 0 = KeepsForm t es in
+        subst P (sym same) here)
+  ]
 
   pub earlier_keep : (j : ℕ) → j < n → FormFails t es j → ⊥
   earlier_keep j less fails = fails (keep j less)
@@ -96,7 +106,8 @@ module _ (t : ℕ) (es : List Entry) (n : ℕ) (keep : (j : ℕ) → j < n → K
   pub over_keeps : n ≡ length es → (j : ℕ) × ((e : Entry) × At es j e × (j < n) × IsOver e) → (i : ℕ) → FormFails t es i → ⊥
   over_keeps all (j, (e, at, less, over)) i fails = elim (cases_lt i n) [
     | inl lt ↦ fails (keep i lt)
-    | inr ge ↦ fails (keeps_past t es i (omega arith) (λ first none. no_entry j e (subst (λ fs. At fs j e) none at)) (λ some last. (j, (e, at, over))))
+    | inr ge ↦ fails (keeps_past t es i (omega arith) (λ first none. no_entry j e (subst (λ fs. At fs j e) none at))
+        (λ some last. (j, (e, at, over))))
   ]
 
   -- one without an Over fails at its end

@@ -1,5 +1,6 @@
 -- What is kept of the entries before a place of a list, by which the rules of form are looked at there.
-use Rattle.std.specs.Prelude.{◌≡◌, ℕ, ℤ, ◌+◌, ◌<◌, ◌≤◌, true, false, Bool, List, Option, Some, None, ◌↔◌, MatchBool, MatchOption, slice_get, slice_index_or, ◌⊎◌, Contains}
+use Rattle.std.specs.Prelude.{◌≡◌, ℕ, ℤ, ◌+◌, ◌<◌, ◌≤◌, true, false, Bool, List, Option, Some, None, ◌↔◌, MatchBool, MatchOption}
+use Rattle.std.specs.Prelude.{slice_get, slice_index_or, ◌⊎◌, Contains}
 use Rattle.gl_model.specs.declared.limits.TheConstants.{VARIABLES}
 use Rattle.gl_model.specs.declared.tx.Look.{Look}
 use Rattle.gl_model.specs.declared.tx.Tx.{Tx}
@@ -36,7 +37,8 @@ IsAbove (Some m) k = m < k
 -- wherever the entry e stands next: its numbers rise there exactly where the answer is yes, and then the last number goes on with it
 abbrev pub GoesOn : (Entry → ℕ → Type 0) → Entry → Bool → Option ℕ → Option ℕ → Type 0
 GoesOn Has e answer old new =
-    (es : List Entry) (i : ℕ) → IsLast Has es i old → At es i e → MatchBool answer (RisesAt Has es i × IsLast Has es (i + 1) new) (RisesAt Has es i → ⊥)
+    (es : List Entry) (i : ℕ) → IsLast Has es i old → At es i e →
+    MatchBool answer (RisesAt Has es i × IsLast Has es (i + 1) new) (RisesAt Has es i → ⊥)
 
 -- the last number on x
 abbrev pub last_on : List (Option ℕ) → ℕ → Option ℕ
@@ -68,18 +70,20 @@ AllGoOn e answer old new =
 
 -- the attempt drew this number on x, by a look or at its end
 abbrev pub TxDraws : ℕ → Tx → ℕ → Type 0
-TxDraws x tx k = ((value : ℤ) × Contains tx.looks (record { var = x; value = value; nth = k })) ⊎ Contains tx.numbers (record { var = x; nth = k })
+TxDraws x tx k = ((value : ℤ) × Contains tx.looks (record { var = x; value = value; nth = k })) ⊎
+    Contains tx.numbers (record { var = x; nth = k })
 
 -- the greatest number that the attempt drew on x is the new last one; where it drew none, the last one stays
 abbrev pub IsTxLast : ℕ → Tx → Option ℕ → Option ℕ → Type 0
 IsTxLast x tx old new =
     ((k : ℕ) × TxDraws x tx k × ((m : ℕ) → TxDraws x tx m → m ≤ k) × (new ≡ Some k)) ⊎ (((k : ℕ) → TxDraws x tx k → ⊥) × (new ≡ old))
 
--- where the attempt's own numbers stand after those of its looks: all its numbers are above the last ones of their variables exactly where the
--- answer is yes, and then the last ones go on with them
+-- where the attempt's own numbers stand after those of its looks: all its numbers are above the last ones of their variables
+-- exactly where the answer is yes, and then the last ones go on with them
 abbrev pub TxGoesOn : Tx → Bool → List (Option ℕ) → List (Option ℕ) → Type 0
 TxGoesOn tx answer old new =
-    ((x k m : ℕ) (value : ℤ) → Contains tx.looks (record { var = x; value = value; nth = k }) → Contains tx.numbers (record { var = x; nth = m }) → k < m) →
+    ((x k m : ℕ) (value : ℤ) → Contains tx.looks (record { var = x; value = value; nth = k }) →
+    Contains tx.numbers (record { var = x; nth = m }) → k < m) →
     MatchBool answer
     ((x : ℕ) → ((k : ℕ) → TxDraws x tx k → IsAbove (last_on old x) k) × IsTxLast x tx (last_on old x) (last_on new x))
     ((x : ℕ) × ((k : ℕ) × TxDraws x tx k × (IsAbove (last_on old x) k → ⊥)))
@@ -103,7 +107,8 @@ IsAtStage es i Running =
     ((j : ℕ) × ((e : Entry) × At es j e × (j < i) × (IsTrim e → ⊥)))
     × ((j : ℕ) (e : Entry) → At es j e → j < i → IsOver e → ⊥)
     × ((j : ℕ) × ((e : Entry) × At es j e × (i ≡ j + 1) × (IsEnd e → ⊥)))
-IsAtStage es i Ended = ((j : ℕ) × ((e : Entry) × At es j e × (i ≡ j + 1) × IsEnd e)) × ((j : ℕ) (e : Entry) → At es j e → j < i → IsOver e → ⊥)
+IsAtStage es i Ended = ((j : ℕ) × ((e : Entry) × At es j e × (i ≡ j + 1) × IsEnd e)) ×
+    ((j : ℕ) (e : Entry) → At es j e → j < i → IsOver e → ⊥)
 IsAtStage es i Over = (j : ℕ) × ((e : Entry) × At es j e × (j < i) × IsOver e)
 
 -- the rules of Begin, End and Over, at place i
@@ -115,7 +120,8 @@ pub record Follows (es : List Entry) (i : ℕ) : Type 0 where
 -- wherever the entry e stands next: it follows there exactly where there is a next stage, and then that is the stage
 abbrev pub Turns : Entry → Stage → Option Stage → Type 0
 Turns e stage next =
-    (es : List Entry) (i : ℕ) → IsAtStage es i stage → At es i e → MatchOption next (Follows es i → ⊥) (λ s. Follows es i × IsAtStage es (i + 1) s)
+    (es : List Entry) (i : ℕ) → IsAtStage es i stage → At es i e → MatchOption next (Follows es i →
+    ⊥) (λ s. Follows es i × IsAtStage es (i + 1) s)
 
 -- ## Rights
 

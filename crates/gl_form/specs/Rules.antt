@@ -21,8 +21,8 @@ DrawsOn x e k = Draws e x k
 abbrev pub RisesAt : (Entry → ℕ → Type 0) → List Entry → ℕ → Type 0
 RisesAt Has es i = (j k m : ℕ) (e f : Entry) → At es j e → At es i f → j < i → Has e k → Has f m → k < m
 
--- what the rules of form ask of place i of the list of thread t, in view of the entries before it. The place after the last entry is one too:
--- it is where an Over is missing.
+-- what the rules of form ask of place i of the list of thread t, in view of the entries before it. The place after the last
+-- entry is one too: it is where an Over is missing.
 pub record KeepsForm (t : ℕ) (es : List Entry) (i : ℕ) : Type 0 where
   -- thread 0 is there
   pub main : t ≡ 0 → i ≡ 0 → es ≢ []

@@ -1,4 +1,4 @@
-ghost use Rattle.std.specs.Prelude.{◌≡◌, ◌≢◌, ℕ, ◌<◌, ◌≤◌, ◌∷◌, [], length, map, slice_get, pos, Contains, MatchBool, MatchOption, true, false};
+ghost use Rattle.std.specs.Prelude.{◌≡◌, ◌≢◌, ℕ, ◌<◌, ◌∷◌, [], length, map, slice_get, Contains, MatchBool, MatchOption};
 ghost use Rattle.gl_model.specs.Entries.{seen};
 ghost use Rattle.gl_model.specs.Form.{EntryForm, HasNoValue, NumbersName};
 ghost use Rattle.gl_model.specs.Kept.{IsEntryKept, IsWhyKept};
@@ -76,7 +76,9 @@ fn variables(tx: &Tx) -> Option<VarSet>
 
 // Whether the number at place i is on the variable there, or neither is there.
 fn is_on(numbers: &Numbers, vars: &VarSet, i: usize) -> bool
-    ensures { MatchBool result (slice_get (map (λ n. n.var) numbers.now) i ≡ slice_get vars.now i) (slice_get (map (λ n. n.var) numbers.now) i ≢ slice_get vars.now i) }
+    ensures { MatchBool result
+        (slice_get (map (λ n. n.var) numbers.now) i ≡ slice_get vars.now i)
+        (slice_get (map (λ n. n.var) numbers.now) i ≢ slice_get vars.now i) }
 {
     match (numbers.at(i), vars.get(i)) {
         (Some(number), Some(var)) => number.var == var,
@@ -112,7 +114,9 @@ fn stands_after(looks: &Looks, var: u16, nth: u64) -> bool
 
 // Whether each of the attempt's own numbers does.
 fn stand_after(tx: &Tx) -> bool
-    ensures { MatchBool result ((x m : ℕ) → Contains tx.now.numbers (record { var = x; nth = m }) → OwnStandAfter tx.now.looks x m) (((x m : ℕ) → Contains tx.now.numbers (record { var = x; nth = m }) → OwnStandAfter tx.now.looks x m) → ⊥) }
+    ensures { MatchBool result
+        ((x m : ℕ) → Contains tx.now.numbers (record { var = x; nth = m }) → OwnStandAfter tx.now.looks x m)
+        (((x m : ℕ) → Contains tx.now.numbers (record { var = x; nth = m }) → OwnStandAfter tx.now.looks x m) → ⊥) }
 {
     tx.keeps();
     for i in 0..TX_VARIABLES as usize {
@@ -155,7 +159,9 @@ fn names_only(tx: &Tx, var: u16) -> bool
 
 // Whether the variable was looked at, and this value read.
 fn was_read(looks: &Looks, var: u16, read: i64) -> bool
-    ensures { MatchBool result ((nth : ℕ) × Contains looks.now (record { var = var; value = read; nth = nth })) (((nth : ℕ) × Contains looks.now (record { var = var; value = read; nth = nth })) → ⊥) }
+    ensures { MatchBool result
+        ((nth : ℕ) × Contains looks.now (record { var = var; value = read; nth = nth }))
+        (((nth : ℕ) × Contains looks.now (record { var = var; value = read; nth = nth })) → ⊥) }
 {
     looks.keeps();
     match looks.of(var) {

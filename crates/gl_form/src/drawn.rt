@@ -28,7 +28,9 @@ impl Drawn {
     // Whether the number is above the last one on its variable; if it is, it is the last there from now on.
     fn draw(&mut self, var: u16, nth: u64) -> bool
         requires { var < VARIABLES }
-        ensures { MatchBool result (IsAbove (last_on self.old.last.items var) nth × (self.new.last.items ≡ slice_set self.old.last.items var (Some nth))) (IsAbove (last_on self.old.last.items var) nth → ⊥) }
+        ensures { MatchBool result
+            (IsAbove (last_on self.old.last.items var) nth × (self.new.last.items ≡ slice_set self.old.last.items var (Some nth)))
+            (IsAbove (last_on self.old.last.items var) nth → ⊥) }
     {
         let place = var as usize;
         let last = self.last[place];
@@ -41,7 +43,9 @@ impl Drawn {
 
     // Whether the number of each look is above the last one on its variable; if so, it is the last there from now on.
     fn looks_rise(&mut self, looks: &Looks) -> bool
-        ensures { MatchBool result (AreDrawn (λ a. a.var) (λ a. a.nth) looks.now TX_VARIABLES self.old.last.items self.new.last.items) (IsNotAbove (λ a. a.var) (λ a. a.nth) looks.now self.old.last.items) }
+        ensures { MatchBool result
+            (AreDrawn (λ a. a.var) (λ a. a.nth) looks.now TX_VARIABLES self.old.last.items self.new.last.items)
+            (IsNotAbove (λ a. a.var) (λ a. a.nth) looks.now self.old.last.items) }
     {
         looks.keeps();
         for i in 0..TX_VARIABLES as usize {
@@ -56,7 +60,9 @@ impl Drawn {
 
     // The same of the numbers that the end of an attempt drew.
     fn numbers_rise(&mut self, numbers: &Numbers) -> bool
-        ensures { MatchBool result (AreDrawn (λ a. a.var) (λ a. a.nth) numbers.now TX_VARIABLES self.old.last.items self.new.last.items) (IsNotAbove (λ a. a.var) (λ a. a.nth) numbers.now self.old.last.items) }
+        ensures { MatchBool result
+            (AreDrawn (λ a. a.var) (λ a. a.nth) numbers.now TX_VARIABLES self.old.last.items self.new.last.items)
+            (IsNotAbove (λ a. a.var) (λ a. a.nth) numbers.now self.old.last.items) }
     {
         numbers.keeps();
         for i in 0..TX_VARIABLES as usize {

@@ -1,4 +1,4 @@
-ghost use Rattle.std.specs.Prelude.{◌≡◌, ℕ, ◌<◌, length, map, IfOk, MatchOption};
+ghost use Rattle.std.specs.Prelude.{◌<◌, length, map, IfOk, MatchOption};
 ghost use Rattle.std.specs.List.{AllByRecursion};
 ghost use Rattle.gl_model.specs.Entries.{seen as seen_entry};
 ghost use Rattle.gl_model.specs.Form.{Form};
@@ -45,7 +45,8 @@ fn thread_fault(alloc: Global, made: &Record, thread: u8) -> Result<Option<u64>,
 /// The first place, by thread and then by place, where the record is not well-formed; `None` exactly where it is. The only error is want of
 /// memory.
 pub fn form_fault(alloc: Global, made: &Record) -> Result<Option<Place>, AllocError>
-    ensures { IfOk result (λ found. MatchOption found (Form (lists_of made.now)) (λ c. IsFirstBy Before (FormFailsAt (lists_of made.now)) (seen c))) }
+    ensures { IfOk result (λ found.
+        MatchOption found (Form (lists_of made.now)) (λ c. IsFirstBy Before (FormFailsAt (lists_of made.now)) (seen c))) }
 {
     made.keeps();
     for thread in 0..THREADS {

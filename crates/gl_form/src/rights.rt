@@ -1,4 +1,4 @@
-ghost use Rattle.std.specs.Prelude.{◌≡◌, ℕ, ◌<◌, length, IfOk, None};
+ghost use Rattle.std.specs.Prelude.{◌≡◌, length};
 ghost use Rattle.gl_model.specs.declared.limits.TheConstants.{VARIABLES};
 
 use gl_model::{Entry, VARIABLES};
@@ -21,7 +21,7 @@ pub(crate) struct Rights {
 }
 
 impl Rights {
-    ghost use Rattle.std.specs.Prelude.{◌≡◌, ℕ, ◌+◌, ◌<◌, ◌≤◌, ◌^◌, IfOk, MatchBool, None, true, Some};
+    ghost use Rattle.std.specs.Prelude.{◌≡◌, ℕ, ◌+◌, ◌<◌, ◌^◌, IfOk, MatchBool, None};
     ghost use Rattle.gl_model.specs.Entries.{seen};
     ghost use Rattle.gl_model.specs.Kept.{IsEntryKept};
     ghost use Rattle.gl_form.specs.Passed.{IsEnough, RightsGoOn, right_on};
@@ -39,7 +39,9 @@ impl Rights {
     // Whether the last right on the variable is of this block, has this number, and is of a write where one is asked for.
     fn allows(&self, var: u16, nth: u64, write: bool) -> bool
         requires { var < VARIABLES }
-        ensures { MatchBool result (IsEnough self.now.block (right_on self.now.latest.items var) nth write) (IsEnough self.now.block (right_on self.now.latest.items var) nth write → ⊥) }
+        ensures { MatchBool result
+            (IsEnough self.now.block (right_on self.now.latest.items var) nth write)
+            (IsEnough self.now.block (right_on self.now.latest.items var) nth write → ⊥) }
     {
         let latest = self.latest[var as usize];
         match latest {

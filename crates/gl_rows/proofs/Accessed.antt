@@ -317,14 +317,15 @@ pub loads_none : (p : PassView) (x : ℕ) (row : Row) (tail : ℕ) (w u r : Pass
 loads_none p x row tail w u r is same known = known ∙ ap (λ (z : PassView). z.known) (same ∙ is)
 
 -- what the call tells of the row that it took
-pub is_judged : (setting : Setting) (p : PassView) (x : ℕ) (row : Row) (tail : ℕ) (known : List (ℕ × Stamp)) (loaded : List CellWord) (nth : ℕ) (write : Option ℤ) (race : Bool) (a : PlainAccess) (s : Seen) (r : PassView) (w u : PassView) → w ≡ with_row p x row tail → HasWalked row w u → known ≡ u.known
+pub is_judged : (setting : Setting) (p : PassView) (x : ℕ) (row : Row) (tail : ℕ) (known : List (ℕ × Stamp)) (loaded : List CellWord) (nth : ℕ) (write : Option ℤ) (race : Bool) (a : PlainAccess) (s : Seen) (r : PassView) (w u : PassView) → w ≡ with_row p x row tail → IsWithin row w.seen → HasWalked row w u → known ≡ u.known
     → a ≡ access_of row write race → IsSeen a nth s → IsStored p x row tail known loaded nth a r → ((l : List Stamp) → IsFitting setting (shelf_of p) tail known l → InfosStand setting l row → (race ≡ true) ↔ SomeFails l row (question_of p.own write)) → IsJudged setting x write p s r
-is_judged setting p x row tail known loaded nth write race a s r w u took walk events is seen stored judged =
+is_judged setting p x row tail known loaded nth write race a s r w u took within walk events is seen stored judged =
     let told = entry_told row write race nth s (subst (λ (b : PlainAccess). IsSeen b nth s) is seen) in
     let same : is_raised s ≡ race = sym told.raised ∙ (access_facts row write race).1 in
     record {
       row = row;
       took = stored.reads;
+      within = subst (IsWithin row) (ap (λ (z : PassView). z.seen) took ∙ sym stored.seen) within;
       answers = told.answers;
       loads = loads_once p x row tail w u r took walk stored.seen (stored.known_is ∙ events);
       raised = λ l f stand. let k = judged l (fits_stored p x row tail known loaded nth setting a r stored l f) stand in (λ e. k.0 (sym same ∙ e), λ e. same ∙ k.1 e);

@@ -121,12 +121,18 @@ swept z p q r s tail to low some is later own to_is tried settles =
       trims = settling.trims settles.before (settles.least / z.key.cells);
       one = one_trim settles.before (settles.least / z.key.cells) low answer;
       own = settles.own ∙ ap (λ (x : Own). record x { mine = x.mine ++ settling.trims settles.before (settles.least / z.key.cells) }) (tried.still.own ∙ own);
-      further = end;
+      tries = tried.further;
+      holds = l.further;
       reads = settles.reads ∙ ap (λ (x : PassView). x.reads ++ Hold 0 low ∷ []) l.is ∙ append_assoc r.reads l.further (Hold 0 low ∷ []) ∙ ap (λ (x : List Read). x ++ (l.further ++ Hold 0 low ∷ [])) tried.reads
           ∙ append_assoc q.reads tried.further (l.further ++ Hold 0 low ∷ []) ∙ ap (λ (x : List Read). x ++ end) reads_q;
       tail = tail;
       later = (later, (let a = tried.still.later in let b = settles.seen in let c = ap (λ (x : PassView). x.seen) is in omega arith));
-      low_is = Contains-append_right tried.further (l.further ++ Hold 0 low ∷ []) (Hold 0 low) (Contains-push l.further (Hold 0 low));
+      far = λ x near. subst (λ n. IsFar x n tried.further) to_is (tried.far x near);
+      least = settles.least;
+      each = l.each;
+      is_one = o;
+      before = settles.before;
+      low_is = answer;
       reaches = elim (tried.far o.0 o.1) [
         | inl (m, has, far) ↦ inl (
             let old = subst (λ (x : List Read). Contains x (Hold (suc o.0) m)) (sym tried.reads) (Contains-append_right q.reads tried.further (Hold (suc o.0) m) has) in

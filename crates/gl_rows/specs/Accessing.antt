@@ -8,7 +8,7 @@ use Rattle.gl_model.specs.declared.row.Row.{Row}
 use Rattle.gl_model.specs.declared.row.Question.{Question}
 use Rattle.gl_model.specs.Entries.{Plain}
 use Rattle.gl_model.specs.Machine.{Setting}
-use Rattle.gl_draws.specs.RowFacts.{SomeFails}
+use Rattle.gl_draws.specs.RowFacts.{IsWithin, SomeFails}
 use Rattle.gl_draws.specs.Ties.{counted}
 use Rattle.gl_judge.specs.Conflicting.{Keeps, Conflicts}
 use Rattle.gl_judge.specs.Noted.{IsNoted}
@@ -101,6 +101,8 @@ LoadsNone cuts x write p q =
 pub record IsJudged (setting : Setting) (x : ℕ) (write : Option ℤ) (p : PassView) (s : Seen) (q : PassView) : Type 0 where
   pub row : Row
   pub took : q.reads ≡ p.reads ++ Taken (suc x) (slot.Row row) ∷ []
+  -- the tail that it saw is behind each of the row's Infos
+  pub within : IsWithin row q.seen
   pub answers : Answers row write s
   pub loads : LoadsOnce row p q
   pub raised : (l : List Stamp) → IsFitting setting (shelf_of q) q.seen q.known l → InfosStand setting l row → (is_raised s ≡ true) ↔ SomeFails l row (question_of p.own write)

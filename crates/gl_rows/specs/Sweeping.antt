@@ -1,5 +1,6 @@
 -- A pass that makes room in the ring.
-use Rattle.std.specs.Prelude.{◌≡◌, ◌⊎◌, ℕ, suc, ◌/◌, ◌<◌, ◌≤◌, List, [], ◌∷◌, ◌++◌, Contains}
+use Rattle.std.specs.Prelude.{◌≡◌, ◌⊎◌, ℕ, suc, ◌/◌, ◌*◌, max, ◌<◌, ◌≤◌, List, [], ◌∷◌, ◌++◌, Contains}
+use Rattle.gl_model.specs.declared.limits.TheConstants.{VARIABLES}
 use Rattle.gl_model.specs.Entries.{Entry, Trim}
 use Rattle.gl_rule.specs.View.{Read, Hold, Busy}
 use Rattle.gl_table.specs.PassView.{PassView}
@@ -40,10 +41,18 @@ pub record IsSwept (z : TableView) (p q : PassView) (low : ℕ) : Type 0 where
   pub trims : List Entry
   pub one : (trims ≡ []) ⊎ (trims ≡ Trim low ∷ [])
   pub own : q.own ≡ record p.own { mine = p.own.mine ++ trims }
-  pub further : List Read
-  pub reads : q.reads ≡ p.reads ++ further
-  -- the tail that the call loaded, and the first segment as it found and left it
+  -- what it read as it tried the rows, and then of all their holds
+  pub tries : List Read
+  pub holds : List Read
+  pub reads : q.reads ≡ p.reads ++ (tries ++ (holds ++ Hold 0 low ∷ []))
+  -- the tail that the rows were moved up to
   pub tail : ℕ
   pub later : (p.seen ≤ tail) × (tail ≤ q.seen)
-  pub low_is : Contains further (Hold 0 low)
-  pub reaches : Reaches z.key.cells tail low further
+  pub far : (x : ℕ) → x < VARIABLES → IsFar x (tail / z.key.cells * z.key.cells) tries
+  -- the first segment is that of the least hold, or it was found to be more
+  pub least : ℕ
+  pub each : (x : ℕ) → x < VARIABLES → (n : ℕ) × Contains holds (Hold (suc x) n) × (least ≤ n)
+  pub is_one : (x : ℕ) × (x < VARIABLES) × Contains holds (Hold (suc x) least)
+  pub before : ℕ
+  pub low_is : low ≡ max before (least / z.key.cells)
+  pub reaches : Reaches z.key.cells tail low (tries ++ (holds ++ Hold 0 low ∷ []))

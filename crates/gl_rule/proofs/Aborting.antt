@@ -63,6 +63,7 @@ use Rattle.gl_rule.proofs.Recording.{Becomes, open_row, head_number, drops}
 use Rattle.gl_rule.proofs.Owing.{owed_push}
 use Rattle.gl_draws.proofs.Refusing.{refusals_push}
 use Rattle.gl_rule.proofs.Refusing.{carries_push}
+use Rattle.gl_rule.proofs.Tries.{tries_moved}
 
 -- a changed attempt's own number is a look with what was found
 pub changed_becomes : (key : Key) (w : World) (s : Shelf) (v : View) (tx : Tx) (var : ℕ) (read found : ℤ) (p : ℕ) (may : MayChange s v tx var read found p) → Becomes key w s v tx (Changed var read found) (var ∷ []) p may.drop (Looked found) w.until
@@ -265,6 +266,7 @@ ends key w st id v s ending one may H here =
     let f : ShelfFits w.log w.seat id s = only_shelf (ShelfFits w.log w.seat id) v s one mine.positions.shelves in
     let d : ShelfDraws w.draws v.drawn s = only_shelf (ShelfDraws w.draws v.drawn) v s one mine.numbers.shelves in
     reviews key w st id v (stored v s.thread s.marked (Over ending)) here (λ k o. o) H (record {
+      tries = tries_moved w.stopped w.takers v s (shelf s.thread (s.marked ++ e ∷ [])) one refl mine.tries;
       turns = record { held = all_map (HeldOne b.turn w.holder id v.shelves) (HeldOne b.turn w.holder id (shelf s.thread (s.marked ++ e ∷ []) ∷ [])) v.held (λ g q. record { named = q.named; here = q.here; shelf = shelf s.thread (s.marked ++ e ∷ []); one = refl; busy = q.busy ∙ ap (λ t. t + 1) (same_thread v q.shelf s q.one one) }) mine.turns.held };
       positions = record { shelves = one_shelf (ShelfFits w.log w.seat id) (shelf s.thread (s.marked ++ e ∷ [])) (record { here = f.here; named = f.named; events = events_push w.log s.thread s.marked f.events e refl; form = formed_push s.thread s.marked e (over_stored s ending may f.form) f.form; made = (let a = f.made in let g = counted_more s.marked e in omega arith) }) };
       values = record { held = mine.values.held };

@@ -40,6 +40,7 @@ use Rattle.gl_rule.proofs.Publishing.{trims_push, same_thread}
 use Rattle.gl_draws.proofs.Refusing.{refusals_push}
 use Rattle.gl_rule.proofs.Refusing.{carries_push}
 use Rattle.gl_draws.proofs.Rights.{its, what_is, last_is, right_owes, right_calm}
+use Rattle.gl_rule.proofs.Tries.{tries_moved}
 
 no_draws : (x k : ℕ) (write : Bool) (value : ℤ) (y n : ℕ) → Draws (Plain x k true write value false) y n → ⊥
 no_draws x k write value y n (inl l) = l
@@ -245,6 +246,7 @@ caches key w st id v s x k write value one may H here =
     let f : ShelfFits w.log w.seat id s = only_shelf (ShelfFits w.log w.seat id) v s one mine.positions.shelves in
     let d : ShelfDraws w.draws v.drawn s = only_shelf (ShelfDraws w.draws v.drawn) v s one mine.numbers.shelves in
     reviews key w st id v (cached_in v s.thread s.marked x k write value) here (λ g o. o) H (record {
+      tries = tries_moved w.stopped w.takers v s (shelf s.thread (s.marked ++ e ∷ [])) one refl mine.tries;
       turns = record { held = all_map (HeldOne b.turn w.holder id v.shelves) (HeldOne b.turn w.holder id (shelf s.thread (s.marked ++ e ∷ []) ∷ [])) v.held (λ g q. record { named = q.named; here = q.here; shelf = shelf s.thread (s.marked ++ e ∷ []); one = refl; busy = q.busy ∙ ap (λ t. t + 1) (same_thread v q.shelf s q.one one) }) mine.turns.held };
       positions = record { shelves = one_shelf (ShelfFits w.log w.seat id) (shelf s.thread (s.marked ++ e ∷ [])) (record { here = f.here; named = f.named; events = events_push w.log s.thread s.marked f.events e refl; form = formed_push s.thread s.marked e (store_running s.thread may.position s.marked e f.form may.block may.goes_on tt (λ t. t) (λ t. t) (λ y n z u same. right y n z u same) (λ y n u same. value_of_read y n u same)) f.form; made = (let a = f.made in let g = counted_more s.marked e in omega arith) }) };
       values = record { held = mine.values.held };

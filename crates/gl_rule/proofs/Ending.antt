@@ -209,7 +209,7 @@ joins_done key id other v u r s has also idle free done done' st rule at apart t
     let w = rule.0 in
     let H = rule.1 in
     let there' : get_elem? st.views other ≡ some u = ⊎_elim (λ (t : (other ≡ id) × (both v u ≡ u)). absurd (apart t.0)) (λ (t : (other ≢ id) × (get_elem? st.views other ≡ some u)). t.1) (at_set st.views id other (both v u) u there) in
-    joins key id other v u free idle (drew_all key w st other u H there' free done' s also) (drew_all key w st id v H at idle done r has) (stored_none key w st id v H at idle done r has) (paid_all key w st other u H there' free done') (paid_all key w st id v H at idle done) st rule at apart there
+    joins key id other v u s (λ e. absurd (let n : length v.shelves ≡ 0 = ap length e in let l = has.1 in omega arith)) also free idle (drew_all key w st other u H there' free done' s also) (drew_all key w st id v H at idle done r has) (stored_none key w st id v H at idle done r has) (paid_all key w st other u H there' free done') (paid_all key w st id v H at idle done) st rule at apart there
 
 -- and its lists are done then
 pub both_done : (v u : View) → ((a : Shelf) → Contains v.shelves a → IsDone a.marked v.quiet) → ((a : Shelf) → Contains u.shelves a → IsDone a.marked u.quiet) → (a : Shelf) → Contains (both v u).shelves a → IsDone a.marked (both v u).quiet

@@ -1,5 +1,5 @@
 -- What a step leaves as it is.
-use Rattle.std.proofs.Common.{◌≡◌, ◌≢◌, ℕ, zero, suc, ◌<◌, ◌≤◌, List, length, set, sym, refl, ap, subst, arith, ◌∙◌, inl, inr, None}
+use Rattle.std.proofs.Common.{◌≡◌, ◌≢◌, ℕ, zero, suc, ◌<◌, ◌≤◌, List, [], ◌∷◌, ◌++◌, length, set, sym, refl, ap, subst, arith, ◌∙◌, inl, inr, None}
 use Rattle.std.specs.Prelude.{Contains, ◌⊎◌, slice_get, Option}
 use Rattle.std.specs.List.{All}
 use Rattle.std.proofs.lemmas.List.Elements.{All-push}
@@ -17,6 +17,7 @@ use Rattle.gl_rule.specs.Objects.{Key, Board, board, capacity, objects}
 use Rattle.gl_rule.specs.View.{View, Held, HasObject, Read, Busy, Taken, Hold, Stop, SetStop, saw}
 use Rattle.gl_rule.specs.World.{World}
 use Rattle.gl_rule.specs.Turns.{HeldOne, TurnsFit, TurnsHold}
+use Rattle.gl_rule.specs.Tries.{TriesFit}
 use Rattle.gl_rule.specs.Values.{IsAbove, Stands, StandsHeld, HeldStands}
 use Rattle.gl_rule.specs.Knowledge.{TailFits, TailsFit, ReadFits}
 use Rattle.gl_rule.specs.Ring.{FloorFits}
@@ -105,15 +106,26 @@ floor_moves hold hold' h same f = record {
   named = λ row i is has none nz. subst (λ m. m ≤ i.pos) (sym (same nz)) (f.named row i is has none nz);
 }
 
+-- a held object's value stands whoever holds what, by its own hold alone
+pub held_same : (setting : Setting) (w : World) (holder' : ℕ → ℕ) (takers' : ℕ → List ℕ) (stopped' : ℕ) (hold hold' : ℕ → ℕ) (drew : Option Draw) (k : ℕ) (y : Slot) → hold' k ≡ hold k → StandsHeld setting w hold drew k y → StandsHeld setting (record w { holder = holder'; takers = takers'; stopped = stopped' }) hold' drew k y
+held_same setting w holder' takers' stopped' hold hold' drew zero (slot.List l) e s = s
+held_same setting w holder' takers' stopped' hold hold' drew (suc x) (slot.Row row) e s = (record { before = s.0.before; draws_are = s.0.draws_are; stands = s.0.stands }, subst (IsAbove row) (sym e) s.1)
+held_same setting w holder' takers' stopped' hold hold' drew zero slot.Empty e s = absurd s
+held_same setting w holder' takers' stopped' hold hold' drew zero (slot.Row r) e s = absurd s
+held_same setting w holder' takers' stopped' hold hold' drew (suc x) slot.Empty e s = absurd s
+held_same setting w holder' takers' stopped' hold hold' drew (suc x) (slot.List l) e s = absurd s
+
 -- a word that is no hold and no cell changes: of a view only its turns can change
-pub fits_board : (key : Key) (b b' : Board) (w : World) (holder' : ℕ → ℕ) (j : ℕ) (v : View) → SameHolds b b' → SameCells b b' → TurnsFit b'.turn holder' j v → Fits key b w j v → Fits key b' (record w { holder = holder' }) j v
-fits_board key b b' w holder' j v holds cells turns f =
-    let w' : World = record w { holder = holder' } in
+pub fits_board : (key : Key) (b b' : Board) (w : World) (holder' : ℕ → ℕ) (takers' : ℕ → List ℕ) (stopped' : ℕ) (j : ℕ) (v : View) → SameHolds b b' → SameCells b b' → TurnsFit b'.turn holder' j v → TriesFit stopped' takers' v.shelves v.reads → Fits key b w j v
+    → Fits key b' (record w { holder = holder'; takers = takers'; stopped = stopped' }) j v
+fits_board key b b' w holder' takers' stopped' j v holds cells turns tries f =
+    let w' : World = record w { holder = holder'; takers = takers'; stopped = stopped' } in
     let named : (h : Held) → HeldOne b'.turn holder' j v.shelves h → b'.hold h.object ≡ b.hold h.object = λ h a. holds h.object a.named in
     let O = HeldOne b'.turn holder' j v.shelves in record {
       turns = turns;
+      tries = tries;
       positions = f.positions;
-      values = record { held = both_map O (HeldStands key.setting w b.hold) (HeldStands key.setting w' b'.hold) v.held (λ h a s. held_same key.setting w holder' b.hold b'.hold h.drew h.object h.taken (named h a) s) turns.held f.values.held };
+      values = record { held = both_map O (HeldStands key.setting w b.hold) (HeldStands key.setting w' b'.hold) v.held (λ h a s. held_same key.setting w holder' takers' stopped' b.hold b'.hold h.drew h.object h.taken (named h a) s) turns.held f.values.held };
       numbers = f.numbers;
       knowledge = record {
         seen = f.knowledge.seen;
@@ -135,23 +147,15 @@ fits_board key b b' w holder' j v holds cells turns f =
       carries = f.carries;
       owed = f.owed;
     }
-  where
-    held_same : (setting : Setting) (w : World) (holder' hold hold' : ℕ → ℕ) (drew : Option Draw) (k : ℕ) (y : Slot) → hold' k ≡ hold k → StandsHeld setting w hold drew k y → StandsHeld setting (record w { holder = holder' }) hold' drew k y
-    held_same setting w holder' hold hold' drew zero (slot.List l) e s = s
-    held_same setting w holder' hold hold' drew (suc x) (slot.Row row) e s = (record { before = s.0.before; draws_are = s.0.draws_are; stands = s.0.stands }, subst (IsAbove row) (sym e) s.1)
-    held_same setting w holder' hold hold' drew zero slot.Empty e s = absurd s
-    held_same setting w holder' hold hold' drew zero (slot.Row r) e s = absurd s
-    held_same setting w holder' hold hold' drew (suc x) slot.Empty e s = absurd s
-    held_same setting w holder' hold hold' drew (suc x) (slot.List l) e s = absurd s
 
 -- a value at home stands whoever holds what, by its own hold alone
-pub stands_same : (setting : Setting) (w : World) (holder' hold hold' : ℕ → ℕ) (k : ℕ) (y : Slot) → hold' k ≡ hold k → Stands setting w hold k y → Stands setting (record w { holder = holder' }) hold' k y
-stands_same setting w holder' hold hold' zero (slot.List l) e s = s
-stands_same setting w holder' hold hold' (suc x) (slot.Row row) e s = (s.0, subst (IsAbove row) (sym e) s.1)
-stands_same setting w holder' hold hold' zero slot.Empty e s = absurd s
-stands_same setting w holder' hold hold' zero (slot.Row r) e s = absurd s
-stands_same setting w holder' hold hold' (suc x) slot.Empty e s = absurd s
-stands_same setting w holder' hold hold' (suc x) (slot.List l) e s = absurd s
+pub stands_same : (setting : Setting) (w : World) (holder' : ℕ → ℕ) (takers' : ℕ → List ℕ) (stopped' : ℕ) (hold hold' : ℕ → ℕ) (k : ℕ) (y : Slot) → hold' k ≡ hold k → Stands setting w hold k y → Stands setting (record w { holder = holder'; takers = takers'; stopped = stopped' }) hold' k y
+stands_same setting w holder' takers' stopped' hold hold' zero (slot.List l) e s = s
+stands_same setting w holder' takers' stopped' hold hold' (suc x) (slot.Row row) e s = (s.0, subst (IsAbove row) (sym e) s.1)
+stands_same setting w holder' takers' stopped' hold hold' zero slot.Empty e s = absurd s
+stands_same setting w holder' takers' stopped' hold hold' zero (slot.Row r) e s = absurd s
+stands_same setting w holder' takers' stopped' hold hold' (suc x) slot.Empty e s = absurd s
+stands_same setting w holder' takers' stopped' hold hold' (suc x) (slot.List l) e s = absurd s
 
 -- a view's turns stay where the turns do
 pub turns_same : (turn turn' holder : ℕ → ℕ) (j : ℕ) (v : View) → ((k : ℕ) → k < objects → turn' k ≡ turn k) → TurnsFit turn holder j v → TurnsFit turn' holder j v
@@ -163,7 +167,7 @@ pub reviews : (key : Key) (w : World) (s : table.State Slot View) (id : ℕ) (v 
 reviews key w s id v u here keeps H f =
     let b = board (capacity key) s.words in record {
       words = H.words;
-      whole = record { turns = turns_kept b.turn b.turn w.holder id s.views v u here (λ k near. refl) keeps H.whole.turns; positions = H.whole.positions; machine = machine_same key.setting w _ refl refl refl refl H.whole.machine; numbers = H.whole.numbers; verdicts = H.whole.verdicts; refused = H.whole.refused; ring = H.whole.ring; low = H.whole.low };
+      whole = record { tries = H.whole.tries; turns = turns_kept b.turn b.turn w.holder id s.views v u here (λ k near. refl) keeps H.whole.turns; positions = H.whole.positions; machine = machine_same key.setting w _ refl refl refl refl H.whole.machine; numbers = H.whole.numbers; verdicts = H.whole.verdicts; refused = H.whole.refused; ring = H.whole.ring; low = H.whole.low };
       values = H.values;
       views = each_set id u H.views (λ j o apart g. g) f;
     }
@@ -173,9 +177,10 @@ pub loads_word : (key : Key) (s : table.State Slot View) (id i : ℕ) (u : View)
 loads_word key s id i u r = subst (λ ws. Rule key (record { words = ws; homes = s.homes; views = set s.views id u })) (sym (set_same s.words i)) r
 
 -- something more was read
-pub fits_saw : (key : Key) (b : Board) (w : World) (j : ℕ) (v : View) (r : Read) → ReadFits b.hold r → Fits key b w j v → Fits key b w j (saw v r)
-fits_saw key b w j v r fit f = record {
+pub fits_saw : (key : Key) (b : Board) (w : World) (j : ℕ) (v : View) (r : Read) → ReadFits b.hold r → TriesFit w.stopped w.takers v.shelves (v.reads ++ r ∷ []) → Fits key b w j v → Fits key b w j (saw v r)
+fits_saw key b w j v r fit tries f = record {
   turns = record { held = f.turns.held };
+  tries = tries;
   positions = record { shelves = f.positions.shelves };
   values = record { held = f.values.held };
   numbers = record { shelves = f.numbers.shelves };

@@ -1,6 +1,6 @@
 -- How often a thread is in each monitor, by its own entries and by the machine.
-use Rattle.std.proofs.Common.{◌≡◌, ◌≢◌, ℕ, zero, suc, ◌+◌, ◌-◌, ◌<◌, ◌≤◌, ◌==◌, List, [], ◌∷◌, ◌++◌, length, replicate, get_or, refl, sym, ap, subst, arith, ◌∙◌, inl, inr, true, false, Bool, Some, None, eq-eqb, ne_eqb}
-use Rattle.std.specs.Prelude.{◌⊎◌, ◌↔◌, ℤ, if◌then◌else◌, slice_index, slice_index_or, slice_set, slice_get, Contains}
+use Rattle.std.proofs.Common.{◌≡◌, ◌≢◌, ℕ, zero, suc, ◌+◌, ◌-◌, ◌<◌, ◌≤◌, ◌==◌, List, [], ◌∷◌, ◌++◌, length, replicate, refl, sym, ap, subst, arith, ◌∙◌, inl, inr, true, false, Bool, Some, None, eq-eqb, ne_eqb}
+use Rattle.std.specs.Prelude.{◌↔◌, ℤ, if◌then◌else◌, slice_index, slice_index_or, slice_set}
 use Rattle.std.specs.List.{All}
 use Rattle.std.proofs.Math.ListN.{set, length-set}
 use Rattle.std.proofs.Math.Nat.{eq-or-lt_of_le}
@@ -14,8 +14,7 @@ use Rattle.gl_model.specs.declared.event.Act.TheVariants.{Begin, End, Acq, Rel, 
 use Rattle.gl_model.specs.declared.event.Event.{Event}
 use Rattle.gl_model.specs.declared.event.Event.TheVariants.{Act as Does, Commit as Commits}
 use Rattle.gl_model.specs.declared.event.Stamp.{Stamp}
-use Rattle.gl_model.specs.declared.limits.TheConstants.{MONITORS, HELD}
-use Rattle.gl_model.specs.Edges.{EventAt}
+use Rattle.gl_model.specs.declared.limits.TheConstants.{MONITORS}
 use Rattle.gl_model.specs.Entries.{Entry, Sync, Commit, Plain, Abort, Trim, Over}
 use Rattle.gl_model.specs.Form.{At}
 use Rattle.gl_model.specs.Infos.{AreLeastOwned}
@@ -26,11 +25,11 @@ use Rattle.gl_draws.specs.Events.{AreEvents}
 use Rattle.gl_draws.proofs.DrawPlaces.{event_there}
 use Rattle.gl_draws.proofs.DrawTies.{with_here, with_else}
 use Rattle.gl_draws.proofs.EventTies.{new_event, event_cases, events_front}
-use Rattle.gl_draws.proofs.Pushes.{at_kept, at_new}
+use Rattle.gl_draws.proofs.Pushes.{at_kept}
 use Rattle.gl_draws.proofs.Reaching.{event_kept}
 use Rattle.gl_draws.proofs.Running.{running_law}
 use Rattle.gl_rule.proofs.Lasting.{has_block, no_end}
-use Rattle.gl_rule.specs.Levels.{levels_act, levels_entry, levels_from, levels_of, AreLeastEntered, LevelsTell, MonitorsTell, QuestionsTell}
+use Rattle.gl_rule.specs.Levels.{levels_act, levels_entry, levels_from, levels_of, LevelsTell, MonitorsTell, QuestionsTell}
 
 -- ---- how often a thread is in one monitor
 

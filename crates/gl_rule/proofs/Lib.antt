@@ -25,6 +25,7 @@ pub mod Refusing
 pub mod RingFrames
 pub mod Seats
 pub mod Storing
+pub mod Tries
 pub mod Trimming
 pub mod Turning
 pub mod Words

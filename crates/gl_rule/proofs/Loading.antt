@@ -18,7 +18,7 @@ use Rattle.gl_draws.proofs.RowGrowth.{stands_within}
 use Rattle.gl_rule.specs.declared.slot.Slot.{Slot}
 use Rattle.gl_rule.specs.declared.slot.Slot.TheVariants as slot
 use Rattle.gl_rule.specs.Objects.{Key, Board, board, capacity, objects, cell_at}
-use Rattle.gl_rule.specs.View.{View, Held, Shelf, Hold, Stop, CellWord, with_tail, saw_tail, saw, saw_cell, knows}
+use Rattle.gl_rule.specs.View.{View, Held, Shelf, Hold, Stop, SetStop, CellWord, with_tail, saw_tail, saw, saw_cell, knows}
 use Rattle.gl_rule.specs.World.{World}
 use Rattle.gl_model.specs.Elements.{IsStampInRange}
 use Rattle.gl_rule.specs.Turns.{HeldOne}
@@ -30,9 +30,11 @@ use Rattle.gl_rule.specs.Refusals.{DrawsBelow}
 use Rattle.gl_rule.proofs.Refusing.{commits_tail}
 use Rattle.gl_rule.specs.Fitting.{MayWalk}
 use Rattle.gl_rule.specs.Rule.{Fits, Holds, Rule}
-use Rattle.gl_rule.specs.Told.{SawTail, Saw, SawHold, SawCell, SawEvent}
+use Rattle.gl_rule.specs.Told.{SawTail, SawStop, SawHold, SawCell, SawEvent}
 use Rattle.gl_rule.proofs.HeldLists.{all_map, both_map, all_mapped, in_mapped}
 use Rattle.gl_rule.proofs.Frames.{reviews, loads_word, fits_saw}
+use Rattle.gl_rule.specs.Tries.{TryFits}
+use Rattle.gl_rule.proofs.Tries.{tries_saw}
 
 -- events below n are below what is at least n
 pub below_more : (n m : ℕ) (s : Shelf) → n ≤ m → AreBelow n s → AreBelow m s
@@ -64,6 +66,7 @@ fits_tail key b w j v n is up all f =
     let O = HeldOne b.turn w.holder j v.shelves in
     let S = HeldStands key.setting w b.hold in
     let T = TailsFit (length w.log) b.hold v.seen in record {
+      tries = f.tries;
       turns = record { held = all_mapped (with_tail n) O O v.held (λ h a. record { named = a.named; here = a.here; shelf = a.shelf; one = a.one; busy = a.busy }) f.turns.held };
       positions = record { shelves = f.positions.shelves };
       values = record { held = all_mapped (with_tail n) S S v.held (λ h a. a) f.values.held };
@@ -125,19 +128,26 @@ loads_hold key slots id k v c near s rule long here fits =
     let H = rule.1 in
     let b = board (capacity key) s.words in
     let u = saw v (Hold k (b.hold k)) in
-    (u, table.keeps, tt, loads_word key s id (3 * k + 2) u (w, reviews key w s id v u here (λ g o. o) H (fits_saw key b w id v (Hold k (b.hold k)) (near, omega arith) (H.views.at id v here))), (refl, risen))
+    (u, table.keeps, tt, loads_word key s id (3 * k + 2) u (w, reviews key w s id v u here (λ g o. o) H (fits_saw key b w id v (Hold k (b.hold k)) (near, omega arith) (tries_saw w.stopped w.takers v.shelves v.reads (Hold k (b.hold k)) tt (λ r g by one is. absurd (cc)) (H.views.at id v here).tries) (H.views.at id v here))), (refl, risen))
   where
     risen : (m : ℕ) → Contains v.reads (Hold k m) → m ≤ (board (capacity key) s.words).hold k
     risen m has = (All-contains (ReadFits (board (capacity key) s.words).hold) v.reads (Hold k m) (rule.1.views.at id v here).knowledge.reads has).1
 
 -- and the stop word
-pub loads_stop : (key : Key) (slots id : ℕ) (v : View) (c : List (ℕ × Slot)) → table.Allows (Rule key) slots id (v, c) 3075 (λ n. n) (λ n. Saw (Stop n) v c)
+pub loads_stop : (key : Key) (slots id : ℕ) (v : View) (c : List (ℕ × Slot)) → table.Allows (Rule key) slots id (v, c) 3075 (λ n. n) (SawStop v c)
 loads_stop key slots id v c s rule long here fits =
     let w = rule.0 in
     let H = rule.1 in
     let b = board (capacity key) s.words in
     let u = saw v (Stop b.stop) in
-    (u, table.keeps, tt, loads_word key s id 3075 u (w, reviews key w s id v u here (λ g o. o) H (fits_saw key b w id v (Stop b.stop) tt (H.views.at id v here))), refl)
+    let word : b.stop ≡ w.stopped = H.whole.tries.word in
+    let least = H.whole.tries.least in
+    let tries = (H.views.at id v here).tries in
+    let fits' = fits_saw key b w id v (Stop b.stop) tt (tries_saw w.stopped w.takers v.shelves v.reads (Stop b.stop) (omega arith) (λ r g by one is. absurd (cc)) tries) (H.views.at id v here) in
+    let P = TryFits w.stopped w.takers in
+    let risen : (m : ℕ) → Contains v.reads (Stop m) → m ≤ b.stop = λ m has. (let a : m ≤ w.stopped = All-contains P v.reads (Stop m) tries.each has in omega arith) in
+    let own : Contains v.reads SetStop → b.stop ≡ 1 = λ has. word ∙ All-contains P v.reads SetStop tries.each has in
+    (u, table.keeps, tt, loads_word key s id 3075 u (w, reviews key w s id v u here (λ g o. o) H fits'), (refl, omega arith, risen, own))
 
 above_in : (setting : Setting) (w : World) (hold : ℕ → ℕ) (drew : _) (k x : ℕ) (y : Slot) → k ≡ suc x → StandsHeld setting w hold drew k y → (row : _) → y ≡ slot.Row row → Rattle.gl_rule.specs.Values.IsAbove row (hold (suc x))
 above_in setting w hold drew k x y e st row is = let s : StandsHeld setting w hold drew (suc x) (slot.Row row) = subst (λ z. StandsHeld setting w hold drew (suc x) z) is (subst (λ z. StandsHeld setting w hold drew z y) e st) in s.1
@@ -168,6 +178,7 @@ word_fits key w s id p i v H here may few x at = H.whole.ring.cells p i x (walke
 fits_cell : (key : Key) (b : Board) (w : World) (j : ℕ) (v : View) (q : CellWord) → (q.position < length w.log) × WordFits w.log q → Fits key b w j v → Fits key b w j (saw_cell v q)
 fits_cell key b w j v q fit f = record {
   turns = record { held = f.turns.held };
+  tries = f.tries;
   positions = record { shelves = f.positions.shelves };
   values = record { held = f.values.held };
   numbers = record { shelves = f.numbers.shelves };
@@ -183,6 +194,7 @@ fits_cell key b w j v q fit f = record {
 pub fits_knows : (key : Key) (b : Board) (w : World) (j p : ℕ) (v : View) (x : Stamp) → slice_get w.log p ≡ Some x → Fits key b w j v → Fits key b w j (knows v p x)
 fits_knows key b w j p v x is f = record {
   turns = record { held = f.turns.held };
+  tries = f.tries;
   positions = record { shelves = f.positions.shelves };
   values = record { held = f.values.held };
   numbers = record { shelves = f.numbers.shelves };

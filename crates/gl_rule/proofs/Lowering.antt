@@ -34,12 +34,13 @@ use Rattle.gl_rule.specs.Fitting.{MayTrim}
 use Rattle.gl_rule.specs.Rule.{Fits, Rule}
 use Rattle.gl_rule.specs.Told.{Lowered}
 use Rattle.gl_rule.proofs.Each.{each_set}
-use Rattle.gl_rule.proofs.Words.{still_long, hold_here, hold_else, hold_turns, hold_counts, hold_cells, SameTurns, SameCounts, SameCells}
+use Rattle.gl_rule.proofs.Words.{still_long, hold_here, hold_else, hold_turns, hold_counts, hold_cells, hold_stop, SameTurns, SameCounts, SameCells}
 use Rattle.gl_rule.proofs.HeldLists.{all_map, only_shelf, one_shelf, in_cons}
 use Rattle.gl_draws.proofs.Forming.{formed_push}
 use Rattle.gl_rule.proofs.Frames.{machine_same, turns_kept}
 use Rattle.gl_rule.proofs.Publishing.{same_thread}
 use Rattle.gl_rule.proofs.Raising.{fits_holds, stands_at', trim_home, trim_held}
+use Rattle.gl_rule.proofs.Tries.{tries_moved, tries_same, tries_saw}
 
 -- the pass's list and the Trims afterwards
 record LowFacts (w : World) (id : ℕ) (v : View) (s s' : Shelf) (trims' : List (ℕ × ℕ)) (m : ℕ) : Type 0 where
@@ -171,6 +172,7 @@ raises_low key slots id to v c s one may st rule long here fits =
     let Q1 = HeldOne b'.turn w.holder id (s' ∷ []) in
     let held : Fits key b' (record w { trims = w.trims }) id v = fits_holds key b b' w w.trims id v turns cells (λ g p nz. other g.object nz) rises (λ r a z. z) mine in
     let own : Fits key b' w' id u = record {
+      tries = tries_saw w.stopped w.takers (s' ∷ []) v.reads (Hold 0 m) tt (λ r g by own is. absurd (cc)) (tries_moved w.stopped w.takers v s s' one L.thread mine.tries);
       turns = record { held = all_map O Q1 v.held (λ g p. record { named = p.named; here = p.here; shelf = s'; one = refl; busy = turns g.object p.named ∙ p.busy ∙ ap (λ k. k + 1) (same_thread v p.shelf s p.one one ∙ sym L.thread) }) mine.turns.held };
       positions = record { shelves = one_shelf (ShelfFits w.log w.seat id) s' L.fits };
       values = record { held = all_map (HeldStands key.setting w b'.hold) (HeldStands key.setting w' b'.hold) v.held (λ g a. trim_held key.setting w trims' b'.hold g.drew g.object g.taken a) held.values.held };
@@ -191,6 +193,7 @@ raises_low key slots id to v c s one may st rule long here fits =
           words = still_long cap st.words 2 m H.words;
           whole = record {
             turns = turns_kept b.turn b'.turn w.holder id st.views v u here turns (λ g o. o) H.whole.turns;
+            tries = tries_same b b' w.stopped w.takers turns (hold_stop cap st.words H.words 0 near m) H.whole.tries;
             positions = record { count = counts 0 near ∙ H.whole.positions.count; kept = H.whole.positions.kept; few = H.whole.positions.few };
             machine = machine_same key.setting w _ refl refl refl refl H.whole.machine;
             numbers = record { counts = λ z y. counts (suc z) (omega arith) ∙ H.whole.numbers.counts z y; threads = H.whole.numbers.threads; few = H.whole.numbers.few };

@@ -33,7 +33,7 @@ use Rattle.gl_rule.specs.World.{World}
 use Rattle.gl_rule.specs.Turns.{HeldOne}
 use Rattle.gl_rule.specs.Positions.{ShelfFits}
 use Rattle.gl_rule.specs.Values.{IsAbove, Stands, StandsHeld, HeldStands}
-use Rattle.gl_rule.specs.Numbers.{ShelfDraws}
+use Rattle.gl_rule.specs.Numbers.{count_on, ShelfDraws}
 use Rattle.gl_rule.specs.Knowledge.{AreBelow, TailsFit, ReadFits}
 use Rattle.gl_rule.specs.Ring.{FloorFits, ShelfTrims, LowHolds}
 use Rattle.gl_draws.specs.Refusals.{RefusalHolds, RefusalsHold}
@@ -48,11 +48,11 @@ use Rattle.gl_rule.specs.Owed.{OwedOne, repeats_of}
 use Rattle.gl_rule.proofs.Owing.{owed_moves, owed_others, next_unrepeated, repeats_kept, calm_write, calm_any, write_past}
 use Rattle.gl_rule.specs.Machine.{ShelfCarries}
 use Rattle.gl_rule.proofs.Refusing.{carries_push}
-use Rattle.gl_rule.specs.Fitting.{MayDraw, MayMark, MayOpen, IsNotOver}
+use Rattle.gl_rule.specs.Fitting.{MayDraw, MayMark, MayOpen, HasPlace, IsNotOver}
 use Rattle.gl_rule.specs.Rule.{Fits, Rule}
 use Rattle.gl_rule.specs.Told.{Marked, Opened, IsAboveDrawn, what_of}
 use Rattle.gl_rule.proofs.Each.{each_set}
-use Rattle.gl_rule.proofs.Words.{still_long, count_here, count_else, count_turns, count_holds, count_cells, SameTurns, SameHolds, SameCells}
+use Rattle.gl_rule.proofs.Words.{still_long, count_here, count_else, count_turns, count_holds, count_cells, count_stop, SameTurns, SameHolds, SameCells}
 use Rattle.gl_rule.proofs.HeldLists.{all_map, both_map, all_without, has_after, only_shelf, one_shelf}
 use Rattle.gl_rule.proofs.FittingLaws.{Facts, front_fits, infos_front, within_seen}
 use Rattle.gl_draws.proofs.Forming.{formed_push, counted_push, store_running}
@@ -61,6 +61,7 @@ use Rattle.gl_rule.proofs.Publishing.{same_thread, trims_push}
 use Rattle.gl_rule.proofs.Raising.{row_in, row_tail}
 use Rattle.gl_rule.proofs.RingFrames.{ring_same}
 use Rattle.gl_rule.proofs.Drawing.{next_here, next_else, numbers_hold, numbers_other, verdicts_next, numbers_plain, numbers_open}
+use Rattle.gl_rule.proofs.Tries.{tries_moved, tries_same}
 
 -- another object when a number was drawn on x
 held_next : (setting : Setting) (w : World) (x : ℕ) (ds : List Draw) (hold hold' : ℕ → ℕ) (drew : Option Draw) (k : ℕ) (y : Slot) → k ≢ suc x → hold' k ≡ hold k → StandsHeld setting w hold drew k y → StandsHeld setting (record w { draws = with_at w.draws x ds }) hold' drew k y
@@ -190,6 +191,7 @@ draws_number key slots id v c s h x taken p what s' drawn' one may shows st rule
     let Q3 = TailsFit (length w.log) b'.hold v.seen in
     let busy_of : (g : Held) → O g → b'.turn g.object ≡ (s' (length ds)).thread + 1 = λ g q. turns g.object q.named ∙ q.busy ∙ ap (λ t. t + 1) (same_thread v q.shelf s q.one one ∙ sym M.thread) in
     let own : Fits key b' w' id u = record {
+      tries = tries_moved w.stopped w.takers v s (s' (length ds)) one M.thread mine.tries;
       turns = record { held = All-cons Q1 h' (without k v.held) (record { named = near; here = turn.here; shelf = s' (length ds); one = refl; busy = busy_of h turn }) (all_without O Q1 k v.held (λ g ne q. record { named = q.named; here = q.here; shelf = s' (length ds); one = refl; busy = busy_of g q }) mine.turns.held) };
       positions = record { shelves = one_shelf (ShelfFits w.log w.seat id) (s' (length ds)) M.fits };
       values = record { held = All-cons Q2 h' (without k v.held) (drew_row key.setting w x d b.hold b'.hold k h.taken taken may.object may.is (ap b'.hold (sym may.object) ∙ holds k near ∙ ap b.hold may.object) old) (lift S Q2 (λ g ne a q. held_next key.setting w x (d ∷ ds) b.hold b'.hold g.drew g.object g.taken (to_suc g.object ne) (holds g.object a.named) q) mine.values.held) };
@@ -239,6 +241,7 @@ draws_number key slots id v c s h x taken p what s' drawn' one may shows st rule
           words = still_long cap st.words (3 * k) m H.words;
           whole = record {
             turns = turns_kept b.turn b'.turn w.holder id st.views v u here turns (λ g o. has_after g v h h' refl o) H.whole.turns;
+            tries = tries_same b b' w.stopped w.takers turns (count_stop cap st.words H.words k near m) H.whole.tries;
             positions = record { count = other 0 not_zero ∙ H.whole.positions.count; kept = H.whole.positions.kept; few = H.whole.positions.few };
             machine = machine_same key.setting w _ refl refl refl refl H.whole.machine;
             numbers = numbers_hold w.draws x d b.count b'.count (ap b'.count (sym may.object) ∙ hit ∙ next ∙ omega arith) (λ y ne. other (suc y) (λ e. ne (let z : suc y ≡ suc x = e ∙ may.object in omega arith))) shelf_fits.named short H.whole.numbers;
@@ -260,6 +263,7 @@ draws_number key slots id v c s h x taken p what s' drawn' one may shows st rule
               let apart : (g : Held) → P g → g.object ≢ k = λ g q e. away (sym q.here ∙ ap w.holder e ∙ turn.here) in
               record {
                 turns = turns_same b.turn b'.turn w.holder j o turns f.turns;
+                tries = f.tries;
                 positions = f.positions;
                 values = record { held = both_map P S Q2 o.held (λ g a q. held_next key.setting w x (d ∷ ds) b.hold b'.hold g.drew g.object g.taken (to_suc g.object (apart g a)) (holds g.object a.named) q) f.turns.held f.values.held };
                 numbers = record { shelves = both_map (ShelfFits w.log w.seat j) (ShelfDraws w.draws o.drawn) (ShelfDraws draws' o.drawn) o.shelves (λ r a q. numbers_other w.draws x d r o.drawn (λ e. away (sym a.here ∙ ap w.seat (sym e) ∙ shelf_fits.here)) q) f.positions.shelves f.numbers.shelves };
@@ -357,6 +361,10 @@ marks_plain key slots id v c s h x taken p q write value raised one may =
       right = mark_right key w b id v s h x taken p q write value raised may (w.draws x) w.log f.tails f.facts f.stands f.verdicts;
     })
 
+place_few : (look : Option ℤ) (x : ℕ) (drawn : List Drawn) → HasPlace look x drawn → count_on x drawn ≤ 1
+place_few (Some value) x drawn h = omega arith
+place_few None x drawn h = h
+
 -- a look's number, or one for the end of an attempt
 pub marks_open : (key : Key) (slots id : ℕ) (v : View) (c : List (ℕ × Slot)) (s : Shelf) (h : Held) (x : ℕ) (taken : Row) (p : ℕ) (look : Option ℤ) → v.shelves ≡ s ∷ [] → MayOpen s v h x taken p look
     → table.Allows (Rule key) slots id (v, c) (3 * h.object) (λ n. (n + 1) % 2 ^ 64) (Opened s h x p look v c)
@@ -366,7 +374,7 @@ marks_open key slots id v c s h x taken p look one may =
     record {
       thread = refl;
       fits = f.facts.shelf;
-      numbers = numbers_open w.draws v.drawn s x p (what_of look) look (still look) f.draws may.room may.draws.block may.draws.goes_on;
+      numbers = numbers_open w.draws v.drawn s x p (what_of look) look (still look) f.draws (place_few look x v.drawn may.room) may.draws.block may.draws.goes_on;
       below = only_shelf (AreBelow v.seen) v s one f.facts.knowledge.own;
       lows = f.lows;
       refusals = f.refusals;

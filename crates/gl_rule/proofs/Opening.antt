@@ -27,9 +27,10 @@ use Rattle.gl_rule.specs.Ring.{ShelfTrims}
 use Rattle.gl_rule.specs.Opened.{empty_row, first_slots, shelves_from, sixteen}
 use Rattle.gl_rule.specs.Rule.{Fits, Rule}
 use Rattle.gl_rule.proofs.Seats.{blank_fits}
+use Rattle.gl_rule.specs.Tries.{TellsTaken}
 
 abbrev first_world : Setting → World
-first_world setting = record { log = []; now = start setting; draws = λ _. []; holder = λ _. 0; seat = λ _. 0; trims = []; values = λ _. pos 0; states = λ _. start setting; until = λ _ _. 0 }
+first_world setting = record { log = []; now = start setting; draws = λ _. []; holder = λ _. 0; seat = λ _. 0; trims = []; values = λ _. pos 0; states = λ _. start setting; until = λ _ _. 0; takers = λ _. []; stopped = 0 }
 
 abbrev pub zero_list : ℕ → List ℕ
 zero_list n = replicate n 0
@@ -97,11 +98,12 @@ begins key l state =
     let b = board cap words in
     let fits : Fits key b w 0 (blank sixteen) = blank_fits key b w 0 sixteen (all_from (ShelfFits [] (λ _. 0) 0) 0 16 (λ u a c. shelf_fits u (omega arith))) (all_from (ShelfDraws (λ _. []) []) 0 16 (λ u a c. shelf_draws u))
     (all_from (AreBelow 0) 0 16 (λ u a c i p e at q. absurd (cc))) (all_from (ShelfTrims []) 0 16 (λ u a c. record { made = λ i low at. absurd (cc); kept = λ low has. absurd (let q = has.1 in omega arith) }))
-    (all_from (ShelfRefusals (λ _ _. 0)) 0 16 (λ u a c i tx var at. absurd (cc))) (all_from (ShelfCarries (λ _. pos 0)) 0 16 (λ u a c i p e at q. absurd (cc))) (record { calm = λ x v c. absurd (let l = c.1 in omega arith); late = λ x v c. absurd (let l = c.1 in omega arith); once = λ x v u c. absurd (let l = c.1 in omega arith); owes = λ x v c. absurd (let l = c.1 in omega arith); tied = λ r c x k d at own. absurd at }) in (
+    (all_from (ShelfRefusals (λ _ _. 0)) 0 16 (λ u a c i tx var at. absurd (cc))) (all_from (ShelfCarries (λ _. pos 0)) 0 16 (λ u a c i p e at q. absurd (cc))) (record { calm = λ x v c. absurd (let l = c.1 in omega arith); late = λ x v c. absurd (let l = c.1 in omega arith); once = λ x v u c. absurd (let l = c.1 in omega arith); owes = λ x v c. absurd (let l = c.1 in omega arith); tied = λ r c x k d at own. absurd at }) (all_from (TellsTaken (λ _. []) []) 0 16 (λ u a c k has. absurd (let q = has.1 in omega arith))) in (
       w,
       record {
         words = zeros_long (word_count cap);
         whole = record {
+          tries = record { named = λ k t near e. absurd (let z : b.turn k ≡ 0 = zeros (word_count cap) (3 * k + 1) in omega arith); word = zeros (word_count cap) 3075; least = omega arith };
           turns = record { named = λ k near. subst (λ n. n ≤ THREADS) (sym (zeros (word_count cap) (3 * k + 1))) (omega arith); busy = λ k near nz. absurd (nz (zeros (word_count cap) (3 * k + 1))) };
           positions = record { count = zeros (word_count cap) (3 * 0); kept = All-nil IsStampInRange; few = λ t. omega arith };
           machine = record { allowed = refl; first = refl; last = refl; steps = λ p x at. absurd (cc) };

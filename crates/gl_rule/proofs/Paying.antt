@@ -226,6 +226,7 @@ module _ (key : Key) (w : World) (st : table.State Slot View) (id : ℕ) (v : Vi
       let not_x : (g : Held) → g.object ≢ k → g.object ≢ suc x = λ g ne e. ne (e ∙ sym may.object) in record {
         words = H.words;
         whole = record {
+          tries = H.whole.tries;
           turns = turns_kept b.turn b.turn w.holder id st.views v u here (λ n near. refl) (λ n o. has_after n v h g' refl o) H.whole.turns;
           positions = H.whole.positions;
           machine = machine_same key.setting w _ refl refl refl refl H.whole.machine;
@@ -255,6 +256,7 @@ module _ (key : Key) (w : World) (st : table.State Slot View) (id : ℕ) (v : Vi
             apart q.shelf r (sym q.own ∙ ap (λ (c : Draw). c.thread) is ∙ own) in
             record {
               turns = f.turns;
+              tries = f.tries;
               positions = f.positions;
               values = record { held = both_map P (HeldStands key.setting w b.hold) S' o.held (λ g q z. held_at g.drew g.object g.taken (not_it g q) z) f.turns.held f.values.held };
               numbers = record { shelves = Rattle.gl_rule.proofs.HeldLists.all_map (ShelfDraws w.draws o.drawn) (ShelfDraws after o.drawn) o.shelves (λ r q. record { numbers = again_drawn x vs w.draws r.thread r.marked o.drawn q.numbers; few = λ y. let a = q.few y in let g = again_count x vs w.draws r.thread y in omega arith; two = q.two; above = q.above; runs = q.runs }) f.numbers.shelves };
@@ -268,6 +270,7 @@ module _ (key : Key) (w : World) (st : table.State Slot View) (id : ℕ) (v : Vi
                   f.owed;
             })
             (record {
+              tries = mine.tries;
               turns = record { held = cons O O (record { named = turn.named; here = turn.here; shelf = turn.shelf; one = turn.one; busy = turn.busy }) (λ g ne q. q) mine.turns.held };
               positions = record { shelves = mine.positions.shelves };
               values = record { held = cons S S' (in_row key.setting w' b.hold k x h.drew row may.object may.first (stands, above)) (λ g ne q. held_at g.drew g.object g.taken (not_x g ne) q) mine.values.held };

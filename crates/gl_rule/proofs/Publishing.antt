@@ -61,12 +61,13 @@ use Rattle.gl_rule.specs.Fitting.{MayPublish}
 use Rattle.gl_rule.specs.Rule.{Fits, Holds, Rule}
 use Rattle.gl_rule.specs.Told.{Published}
 use Rattle.gl_rule.proofs.Each.{each_set}
-use Rattle.gl_rule.proofs.Words.{still_long, count_here, count_else, count_turns, count_holds, count_cells, SameTurns, SameHolds, SameCells}
+use Rattle.gl_rule.proofs.Words.{still_long, count_here, count_else, count_turns, count_holds, count_cells, count_stop, SameTurns, SameHolds, SameCells}
 use Rattle.gl_rule.proofs.HeldLists.{all_map, both_map, in_cons, in_mapped, only_shelf, one_shelf}
 use Rattle.gl_rule.proofs.FittingLaws.{within_seen}
 use Rattle.gl_draws.proofs.Forming.{formed_push, counted_push, by_own, by_other, log_bound}
 use Rattle.gl_rule.proofs.Frames.{turns_kept, turns_same, read_at, floor_moves}
 use Rattle.gl_rule.proofs.Loading.{tail_later, tail_zero}
+use Rattle.gl_rule.proofs.Tries.{tries_moved, tries_same}
 
 -- a step needs a thread that is live
 may_live : (state : ThreadState) (e : Event) (value : ℤ) → MayStep state e value → (state ≡ NeverForked) ⊎ (state ≡ Ended) → ⊥
@@ -367,6 +368,7 @@ module _ (key : Key) (slots id : ℕ) (v : View) (c : List (ℕ × Slot)) (s : S
             words = still_long cap st.words (3 * 0) m H.words;
             whole = record {
               turns = turns_kept b.turn b'.turn w.holder id st.views v u here turns keeps H.whole.turns;
+              tries = tries_same b b' w.stopped w.takers turns (count_stop cap st.words H.words 0 zero_near m) H.whole.tries;
               positions = record { count = count_here cap st.words H.words 0 zero_near m ∙ next ∙ omega arith; kept = All-push IsStampInRange log x H.whole.positions.kept (near, may.kept); few = all_few };
               machine = record {
                 allowed = allows_push key.setting (start key.setting) w.now new.0 log x value new.1 H.whole.machine.allowed;
@@ -389,6 +391,7 @@ module _ (key : Key) (slots id : ℕ) (v : View) (c : List (ℕ × Slot)) (s : S
             views = each_set id u H.views
                 (λ j o away f. record {
                   turns = turns_same b.turn b'.turn w.holder j o turns f.turns;
+                  tries = f.tries;
                   positions = record {
                     shelves = all_map (ShelfFits log w.seat j) (ShelfFits log' w.seat j) o.shelves
                         (λ r p.
@@ -423,6 +426,7 @@ module _ (key : Key) (slots id : ℕ) (v : View) (c : List (ℕ × Slot)) (s : S
                   refusals = record { held = both_map (HeldOne b.turn w.holder j o.shelves) (DrawsBelow w.draws) (DrawsBelow w'.draws) o.held (λ g p q. commits_else w.draws w'.draws g (apart_draws j o.shelves g away p) q) f.turns.held f.refusals.held; shelves = f.refusals.shelves };
                 })
                 (record {
+                  tries = tries_moved w.stopped w.takers v s (shelf s.thread (s.marked ++ e ∷ [])) one refl mine.tries;
                   turns = record {
                     held = mapped Q1 (λ g has z p. record { named = p.0.named; here = p.0.here; shelf = shelf s.thread (s.marked ++ e ∷ []); one = refl; busy = busy_of g p.0 })
                         (λ g has z p. record { named = p.0.named; here = p.0.here; shelf = shelf s.thread (s.marked ++ e ∷ []); one = refl; busy = busy_of g p.0 });

@@ -29,10 +29,11 @@ use Rattle.gl_rule.specs.Fitting.{MayRaise, MayTrim}
 use Rattle.gl_rule.specs.Rule.{Fits, Rule}
 use Rattle.gl_rule.specs.Told.{Raised, SawFloor}
 use Rattle.gl_rule.proofs.Each.{each_set}
-use Rattle.gl_rule.proofs.Words.{still_long, hold_here, hold_else, hold_turns, hold_counts, hold_cells, SameTurns, SameCounts, SameCells}
+use Rattle.gl_rule.proofs.Words.{still_long, hold_here, hold_else, hold_turns, hold_counts, hold_cells, hold_stop, SameTurns, SameCounts, SameCells}
 use Rattle.gl_rule.proofs.HeldLists.{all_map, both_map, all_without, has_after, only_shelf}
 use Rattle.gl_rule.proofs.FittingLaws.{Facts, front_fits, put_stands, within_seen}
 use Rattle.gl_rule.proofs.Frames.{machine_same, turns_kept, turns_same, stands_at, held_at, tail_at, read_at, reviews, loads_word, floor_moves}
+use Rattle.gl_rule.proofs.Tries.{tries_same, tries_saw}
 
 held_at' : (setting : Setting) (w : World) (hold hold' : ℕ → ℕ) (drew : Option Draw) (k : ℕ) (y : Slot) → (k ≢ 0 → hold' k ≡ hold k) → StandsHeld setting w hold drew k y → StandsHeld setting w hold' drew k y
 held_at' setting w hold hold' drew zero (slot.List l) e s = s
@@ -67,6 +68,7 @@ fits_holds key b b' w trims' j v turns cells same up lows f =
     let w' : World = record w { trims = trims' } in
     let O = HeldOne b.turn w.holder j v.shelves in record {
       turns = turns_same b.turn b'.turn w.holder j v turns f.turns;
+      tries = f.tries;
       positions = f.positions;
       values = record { held = both_map O (HeldStands key.setting w b.hold) (HeldStands key.setting w' b'.hold) v.held (λ h a s. trim_held key.setting w trims' b'.hold h.drew h.object h.taken (held_at' key.setting w b.hold b'.hold h.drew h.object h.taken (same h a) s)) f.turns.held f.values.held };
       numbers = f.numbers;
@@ -191,6 +193,7 @@ raises_hold key slots id v c s h x taken row to one may st rule long here fits =
     let Q3 = TailsFit (length w.log) b'.hold v.seen in
     let hit' : b'.hold (suc x) ≡ to = ap b'.hold (sym may.object) ∙ hit in
     let own : Fits key b' w id u = record {
+      tries = mine.tries;
       turns = record { held = All-cons (HeldOne b'.turn w.holder id v.shelves) g' (without k v.held) (record { named = near; here = turn.here; shelf = turn.shelf; one = turn.one; busy = turns k near ∙ turn.busy }) (all_without O (HeldOne b'.turn w.holder id v.shelves) k v.held (λ g ne p. record { named = p.named; here = p.here; shelf = p.shelf; one = p.one; busy = turns g.object p.named ∙ p.busy }) mine.turns.held) };
       positions = record { shelves = mine.positions.shelves };
       values = record { held = All-cons Q2 g' (without k v.held) (in_row key.setting w b'.hold k x h.drew row may.object may.first (new, record { at = λ i q. subst (λ z. z ≤ i.pos) (sym hit') (may.above i q) })) (lift S Q2 (λ g ne p q. held_at key.setting w b.hold b'.hold g.drew g.object g.taken (other g.object ne) q) mine.values.held) };
@@ -224,6 +227,7 @@ raises_hold key slots id v c s h x taken row to one may st rule long here fits =
           words = still_long cap st.words (3 * k + 2) to H.words;
           whole = record {
             turns = turns_kept b.turn b'.turn w.holder id st.views v u here turns (λ g o. has_after g v h g' refl o) H.whole.turns;
+            tries = tries_same b b' w.stopped w.takers turns (hold_stop cap st.words H.words k near to) H.whole.tries;
             positions = record { count = counts 0 zero_near ∙ H.whole.positions.count; kept = H.whole.positions.kept; few = H.whole.positions.few };
             machine = machine_same key.setting w _ refl refl refl refl H.whole.machine;
             numbers = record { counts = λ z q. counts (suc z) (omega arith) ∙ H.whole.numbers.counts z q; threads = H.whole.numbers.threads; few = H.whole.numbers.few };
@@ -269,6 +273,7 @@ loads_floor key slots id v c h has nz st rule long here fits =
     let u = saw_floor v h n in
     let cons : (P : Held → Type 0) → P g' → All P v.held → All P (g' ∷ without k v.held) = λ P p all. All-cons P g' (without k v.held) p (all_without P P k v.held (λ g ne q. q) all) in
     let own : Fits key b w id u = record {
+      tries = tries_saw w.stopped w.takers v.shelves v.reads (Hold k n) tt (λ r g by own is. absurd (cc)) mine.tries;
       turns = record { held = cons O (record { named = turn.named; here = turn.here; shelf = turn.shelf; one = turn.one; busy = turn.busy }) mine.turns.held };
       positions = record { shelves = mine.positions.shelves };
       values = record { held = cons S (All-contains S v.held h mine.values.held has) mine.values.held };

@@ -60,6 +60,7 @@ use Rattle.gl_rule.proofs.Marking.{placed_at}
 use Rattle.gl_rule.proofs.Publishing.{trims_push, same_thread}
 use Rattle.gl_draws.proofs.Refusing.{refusals_until}
 use Rattle.gl_rule.proofs.Refusing.{carries_push}
+use Rattle.gl_rule.proofs.Tries.{tries_moved}
 
 -- what a dropped attempt's own draws become, and what has to hold of them
 pub record Becomes (key : Key) (w : World) (s : Shelf) (v : View) (tx : Tx) (why : Why) (zs : List ℕ) (p : ℕ) (may : MayDrop s v tx why zs p) (w0 : What) (until' : ℕ → ℕ → ℕ) : Type 0 where
@@ -349,6 +350,7 @@ module _ (key : Key) (w : World) (st : table.State Slot View) (id : ℕ) (v : Vi
           words = H.words;
           whole = record {
             turns = turns_kept b.turn b.turn w.holder id st.views v u here (λ k near. refl) keeps H.whole.turns;
+            tries = H.whole.tries;
             positions = H.whole.positions;
             machine = machine_same key.setting w _ refl refl refl refl H.whole.machine;
             numbers = record { counts = λ y near. H.whole.numbers.counts y near ∙ sym (same_length y); threads = among_after; few = λ y t. subst (λ z. z ≤ 2 ^ 51 + 2) (sym (same_count t y)) (H.whole.numbers.few y t) };
@@ -364,6 +366,7 @@ module _ (key : Key) (w : World) (st : table.State Slot View) (id : ℕ) (v : Vi
               let same : (g : Held) → P g → (x : ℕ) → g.object ≡ suc x → after x ≡ w.draws x = λ g q x is. elim (elsewhere x) [ inl z ↦ z | inr h ↦ absurd (away (sym q.here ∙ ap w.holder is ∙ held_by (suc x) h)) ] in
               record {
                 turns = f.turns;
+                tries = f.tries;
                 positions = f.positions;
                 values = record { held = both_map P (HeldStands key.setting w b.hold) (HeldStands key.setting w' b.hold) o.held (λ g q z. held_at g.drew g.drew g.object g.taken (λ x row is r. record { before = r.before; draws_are = same g q x is ∙ r.draws_are; stands = r.stands }) z) f.turns.held f.values.held };
                 numbers = record {
@@ -386,6 +389,7 @@ module _ (key : Key) (w : World) (st : table.State Slot View) (id : ℕ) (v : Vi
                 };
               })
               (record {
+                tries = tries_moved w.stopped w.takers v s (shelf s.thread (s.marked ++ e ∷ [])) one refl mine.tries;
                 turns = record { held = all O (HeldOne b.turn w.holder id u.shelves) (λ g has q. record { named = q.named; here = q.here; shelf = shelf s.thread (s.marked ++ e ∷ []); one = refl; busy = q.busy ∙ ap (λ t. t + 1) (same_thread v q.shelf s q.one one) }) mine.turns.held };
                 positions = record { shelves = one_shelf (ShelfFits w.log w.seat id) (shelf s.thread (s.marked ++ e ∷ [])) own_shelf };
                 values = record { held = all (HeldStands key.setting w b.hold) (HeldStands key.setting w' b.hold) (λ g has q. held_at g.drew (drew_commit zs d g) g.object g.taken (λ x row is r. row_after g x row has is r) q) mine.values.held };

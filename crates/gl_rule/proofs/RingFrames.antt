@@ -38,6 +38,7 @@ fits_without key b b' w j k v holds cells moves f =
     let both : (P Q : Held → Type 0) → ((g : Held) → g.object ≢ k → O g → P g → Q g) → All P v.held → All Q (without k v.held) = λ P Q step all.
     all_without (λ g. O g × P g) Q k v.held (λ g ne p. step g ne p.0 p.1) (Rattle.gl_rule.proofs.HeldLists.both_map O P (λ g. O g × P g) v.held (λ g a c. (a, c)) f.turns.held all) in
     record {
+      tries = f.tries;
       turns = record { held = all_without O (HeldOne b'.turn w.holder j v.shelves) k v.held moves f.turns.held };
       positions = record { shelves = f.positions.shelves };
       values = record { held = both (HeldStands key.setting w b.hold) (HeldStands key.setting w b'.hold) (λ g ne a p. held_at key.setting w b.hold b'.hold g.drew g.object g.taken (holds g.object a.named) p) f.values.held };

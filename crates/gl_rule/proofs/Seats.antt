@@ -32,10 +32,13 @@ use Rattle.gl_rule.proofs.Each.{each_set, each_add}
 use Rattle.gl_rule.proofs.HeldLists.{all_map, both_map, in_cons}
 use Rattle.gl_rule.proofs.Frames.{turns_kept}
 use Rattle.gl_rule.proofs.Loading.{below_more}
+use Rattle.gl_rule.specs.Tries.{TellsTaken}
+use Rattle.gl_rule.proofs.Tries.{tries_none, tries_both}
 
 -- a view with nothing but shelves
-pub blank_fits : (key : Key) (b : Board) (w : World) (j : ℕ) (l : List Shelf) → All (ShelfFits w.log w.seat j) l → All (ShelfDraws w.draws []) l → All (AreBelow 0) l → All (ShelfTrims w.trims) l → All (ShelfRefusals w.until) l → All (ShelfCarries w.values) l → OwedFits w.draws [] l → Fits key b w j (blank l)
-blank_fits key b w j l positions numbers own lows refusals carries owed = record {
+pub blank_fits : (key : Key) (b : Board) (w : World) (j : ℕ) (l : List Shelf) → All (ShelfFits w.log w.seat j) l → All (ShelfDraws w.draws []) l → All (AreBelow 0) l → All (ShelfTrims w.trims) l → All (ShelfRefusals w.until) l → All (ShelfCarries w.values) l → OwedFits w.draws [] l → All (TellsTaken w.takers []) l → Fits key b w j (blank l)
+blank_fits key b w j l positions numbers own lows refusals carries owed taken = record {
+  tries = tries_none w.stopped w.takers l taken;
   owed = owed;
   carries = record { shelves = carries };
   refusals = record { held = All-nil (DrawsBelow w.draws); shelves = refusals };
@@ -50,7 +53,7 @@ blank_fits key b w j l positions numbers own lows refusals carries owed = record
 
 -- a view that knows nothing fits
 pub nothing_fits : (key : Key) (b : Board) (w : World) (j : ℕ) → Fits key b w j (blank [])
-nothing_fits key b w j = blank_fits key b w j [] (All-nil (ShelfFits w.log w.seat j)) (All-nil (ShelfDraws w.draws [])) (All-nil (AreBelow 0)) (All-nil (ShelfTrims w.trims)) (All-nil (ShelfRefusals w.until)) (All-nil (ShelfCarries w.values)) (owed_none w.draws)
+nothing_fits key b w j = blank_fits key b w j [] (All-nil (ShelfFits w.log w.seat j)) (All-nil (ShelfDraws w.draws [])) (All-nil (AreBelow 0)) (All-nil (ShelfTrims w.trims)) (All-nil (ShelfRefusals w.until)) (All-nil (ShelfCarries w.values)) (owed_none w.draws) (All-nil (TellsTaken w.takers []))
 
 -- only the seats of threads change
 stands_seat : (setting : Setting) (w : World) (seat' hold : ℕ → ℕ) (k : ℕ) (y : Slot) → Stands setting w hold k y → Stands setting (record w { seat = seat' }) hold k y
@@ -73,6 +76,7 @@ fits_seat : (key : Key) (b : Board) (w : World) (seat' : ℕ → ℕ) (j : ℕ) 
 fits_seat key b w seat' j v moves f =
     let w' : World = record w { seat = seat' } in record {
       turns = f.turns;
+      tries = f.tries;
       positions = record { shelves = all_map (ShelfFits w.log w.seat j) (ShelfFits w.log seat' j) v.shelves moves f.positions.shelves };
       values = record { held = all_map (HeldStands key.setting w b.hold) (HeldStands key.setting w' b.hold) v.held (λ h s. held_seat key.setting w seat' b.hold h.drew h.object h.taken s) f.values.held };
       numbers = f.numbers;
@@ -93,7 +97,7 @@ with_views : (key : Key) (w : World) (s : table.State Slot View) (seat' : ℕ �
 with_views key w s seat' views H turns each =
     let b = board (capacity key) s.words in record {
       words = H.words;
-      whole = record { turns = turns; positions = H.whole.positions; machine = machine_same key.setting w _ refl refl refl refl H.whole.machine; numbers = H.whole.numbers; verdicts = H.whole.verdicts; refused = H.whole.refused; ring = H.whole.ring; low = H.whole.low };
+      whole = record { turns = turns; tries = H.whole.tries; positions = H.whole.positions; machine = machine_same key.setting w _ refl refl refl refl H.whole.machine; numbers = H.whole.numbers; verdicts = H.whole.verdicts; refused = H.whole.refused; ring = H.whole.ring; low = H.whole.low };
       values = record { home = λ k near z. let r = H.values.home k near z in (r.0, r.1, stands_seat key.setting w seat' b.hold k r.0 r.2) };
       views = each;
     }
@@ -105,7 +109,7 @@ enters key slots i s rule long fits =
     let H = rule.1 in
     let b = board (capacity key) s.words in
     let same : (s : Shelf) (j : ℕ) → ShelfFits w.log w.seat j s → ShelfFits w.log w.seat j s = λ s j f. f in
-    (blank [], (w, record { words = H.words; whole = record { turns = turns_longer b.turn w.holder s.views (blank [] ∷ []) H.whole.turns; positions = H.whole.positions; machine = machine_same key.setting w _ refl refl refl refl H.whole.machine; numbers = H.whole.numbers; verdicts = H.whole.verdicts; refused = H.whole.refused; ring = H.whole.ring; low = H.whole.low }; values = H.values; views = each_add (blank []) H.views (λ j o near f. f) (nothing_fits key b w (length s.views)) }), refl)
+    (blank [], (w, record { words = H.words; whole = record { tries = H.whole.tries; turns = turns_longer b.turn w.holder s.views (blank [] ∷ []) H.whole.turns; positions = H.whole.positions; machine = machine_same key.setting w _ refl refl refl refl H.whole.machine; numbers = H.whole.numbers; verdicts = H.whole.verdicts; refused = H.whole.refused; ring = H.whole.ring; low = H.whole.low }; values = H.values; views = each_add (blank []) H.views (λ j o near f. f) (nothing_fits key b w (length s.views)) }), refl)
 
 in_first : (s : Shelf) (l : List Shelf) (r : Shelf) → Contains (s ∷ []) r → Contains (s ∷ l) r
 in_first s l r (zero, q, e) = (zero, omega arith, e)
@@ -139,11 +143,13 @@ splits key id t v l is apart s rule at =
     let own : P sh = All-head P sh l mine.positions.shelves in
     let left : Fits key b w' id (blank l) = blank_fits key b w' id l
     (both_map P (λ (r : Shelf). r.thread ≢ t) (ShelfFits w.log seat' id) l (λ r p q. shelf_moves w.log w.seat t new id r q p) (All-tail P sh l mine.positions.shelves) apart)
-    (All-tail (ShelfDraws w.draws []) sh l mine.numbers.shelves) (All-tail (AreBelow 0) sh l mine.knowledge.own) (All-tail (ShelfTrims w.trims) sh l mine.ring.lows) (All-tail (ShelfRefusals w.until) sh l mine.refusals.shelves) (All-tail (ShelfCarries w.values) sh l mine.carries.shelves) (owed_sub w.draws (sh ∷ l) l (λ r c. in_cons sh l r c) mine.owed) in
+    (All-tail (ShelfDraws w.draws []) sh l mine.numbers.shelves) (All-tail (AreBelow 0) sh l mine.knowledge.own) (All-tail (ShelfTrims w.trims) sh l mine.ring.lows) (All-tail (ShelfRefusals w.until) sh l mine.refusals.shelves) (All-tail (ShelfCarries w.values) sh l mine.carries.shelves) (owed_sub w.draws (sh ∷ l) l (λ r c. in_cons sh l r c) mine.owed)
+    (All-tail (TellsTaken w.takers []) sh l mine.tries.taken) in
     let one : (Q : Shelf → Type 0) → Q sh → All Q (sh ∷ []) = λ Q q. All-cons Q sh [] q (All-nil Q) in
     let right : Fits key b w' new (blank (sh ∷ [])) = blank_fits key b w' new (sh ∷ [])
     (one (ShelfFits w.log seat' new) (record { here = moved_here w.seat t new; named = own.named; events = own.events; form = own.form; made = own.made }))
-    (one (ShelfDraws w.draws []) (All-head (ShelfDraws w.draws []) sh l mine.numbers.shelves)) (one (AreBelow 0) (All-head (AreBelow 0) sh l mine.knowledge.own)) (one (ShelfTrims w.trims) (All-head (ShelfTrims w.trims) sh l mine.ring.lows)) (one (ShelfRefusals w.until) (All-head (ShelfRefusals w.until) sh l mine.refusals.shelves)) (one (ShelfCarries w.values) (All-head (ShelfCarries w.values) sh l mine.carries.shelves)) (owed_sub w.draws (sh ∷ l) (sh ∷ []) (λ r c. in_first sh l r c) mine.owed) in
+    (one (ShelfDraws w.draws []) (All-head (ShelfDraws w.draws []) sh l mine.numbers.shelves)) (one (AreBelow 0) (All-head (AreBelow 0) sh l mine.knowledge.own)) (one (ShelfTrims w.trims) (All-head (ShelfTrims w.trims) sh l mine.ring.lows)) (one (ShelfRefusals w.until) (All-head (ShelfRefusals w.until) sh l mine.refusals.shelves)) (one (ShelfCarries w.values) (All-head (ShelfCarries w.values) sh l mine.carries.shelves)) (owed_sub w.draws (sh ∷ l) (sh ∷ []) (λ r c. in_first sh l r c) mine.owed)
+    (one (TellsTaken w.takers []) (All-head (TellsTaken w.takers []) sh l mine.tries.taken)) in
     let cut : Each (Fits key b w') (set s.views id (blank l)) = each_set id (blank l) H.views (λ j o away f. fits_seat key b w seat' j o (λ r p. shelf_moves w.log w.seat t new j r (λ same. away (sym p.here ∙ ap w.seat same ∙ own.here)) p) f) left in
     let size : length (set s.views id (blank l)) ≡ new = length-set s.views id (blank l) in
     let keeps : (k : ℕ) → HasObject v k → HasObject (blank l) k = λ k o. absurd (let c = o.1.1 in let e : length v.held ≡ 0 = ap (λ (x : View). length x.held) is in omega arith) in (
@@ -171,8 +177,8 @@ quiet_both now false true f g e = g refl
 quiet_both now false false f g e = absurd (cc)
 
 -- a seat takes in another's shelves
-pub joins : (key : Key) (id other : ℕ) (v u : View) → u.held ≡ [] → v.held ≡ [] → u.drawn ≡ [] → v.drawn ≡ [] → v.stored ≡ [] → u.owed ≡ [] → v.owed ≡ [] → table.Joins (Rule key) id v other u (both v u) (blank [])
-joins key id other v u free idle none empty bare paid clear s rule at apart there =
+pub joins : (key : Key) (id other : ℕ) (v u : View) (r : Shelf) → (v.shelves ≡ [] → v.reads ≡ []) → Contains u.shelves r → u.held ≡ [] → v.held ≡ [] → u.drawn ≡ [] → v.drawn ≡ [] → v.stored ≡ [] → u.owed ≡ [] → v.owed ≡ [] → table.Joins (Rule key) id v other u (both v u) (blank [])
+joins key id other v u r unread has free idle none empty bare paid clear s rule at apart there =
     let w = rule.0 in
     let H = rule.1 in
     let b = board (capacity key) s.words in
@@ -190,6 +196,7 @@ joins key id other v u free idle none empty bare paid clear s rule at apart ther
     let q = theirs.knowledge.seen in
     let apart' : id ≢ other = λ e. apart (sym e) in
     let own : Fits key b w' id (both v u) = record {
+      tries = tries_both w.stopped w.takers v u r unread has mine.tries theirs.tries;
       turns = record { held = subst (λ l. All (HeldOne b.turn w.holder id (v.shelves ++ u.shelves)) l) (sym idle) (All-nil (HeldOne b.turn w.holder id (v.shelves ++ u.shelves))) };
       positions = record {
         shelves = All-append (S' id) v.shelves u.shelves (all_map (S id) (S' id) v.shelves (λ r p. shelf_joined w.log w.seat other id id r apart' p) mine.positions.shelves)
@@ -202,7 +209,7 @@ joins key id other v u free idle none empty bare paid clear s rule at apart ther
         own = All-append (AreBelow m) v.shelves u.shelves (all_map (AreBelow v.seen) (AreBelow m) v.shelves (λ r p. below_more v.seen m r vm p) mine.knowledge.own) (all_map (AreBelow u.seen) (AreBelow m) u.shelves (λ r p. below_more u.seen m r um p) theirs.knowledge.own);
         known = mine.knowledge.known;
         tails = subst (λ l. All (TailsFit (length w.log) b.hold m) l) (sym idle) (All-nil (TailsFit (length w.log) b.hold m));
-        reads = mine.knowledge.reads;
+        reads = All-append (ReadFits b.hold) v.reads u.reads mine.knowledge.reads theirs.knowledge.reads;
         loaded = mine.knowledge.loaded;
       };
       ring = record { floors = mine.ring.floors; stored = mine.ring.stored; few = mine.ring.few; by_holder = inl bare; lows = All-append (ShelfTrims w.trims) v.shelves u.shelves mine.ring.lows theirs.ring.lows };

@@ -5,11 +5,11 @@ use Rattle.std.proofs.lemmas.List.Elements.{All-contains}
 use Rattle.std.proofs.lemmas.Option.{slice_get_within}
 use native.Mathlib.Decide.{ℕ_discrete}
 use Rattle.atomic_table.specs.Table as table
-use Rattle.atomic_table.proofs.Lists.{one_turn, set_again}
+use Rattle.atomic_table.proofs.Lists.{one_turn}
 use Rattle.gl_model.specs.declared.limits.TheConstants.{THREADS, VARIABLES}
 use Rattle.gl_rule.specs.declared.slot.Slot.{Slot}
 use Rattle.gl_rule.specs.Objects.{Key, Board, board, capacity, objects, cell_at}
-use Rattle.gl_rule.specs.View.{View, Held, Hold, SetStop, saw, put_word}
+use Rattle.gl_rule.specs.View.{View, Held, Shelf, Read, Hold, SetStop, saw, put_word}
 use Rattle.gl_rule.specs.World.{World}
 use Rattle.gl_rule.specs.Turns.{HeldOne}
 use Rattle.gl_rule.specs.Values.{HeldStands}
@@ -20,10 +20,12 @@ use Rattle.gl_rule.specs.Rule.{Fits, Holds, Rule}
 use Rattle.gl_rule.specs.Told.{PutWord, Saw}
 use Rattle.gl_rule.proofs.Each.{each_set}
 use Rattle.gl_rule.proofs.Loading.{tail_zero}
-use Rattle.gl_rule.proofs.Words.{still_long, stop_turns, stop_counts, stop_holds, stop_cells, cell_turns, cell_counts, cell_holds, cell_here, cell_else, SameTurns, SameHolds}
+use Rattle.gl_rule.proofs.Words.{still_long, stop_turns, stop_counts, stop_holds, stop_cells, cell_turns, cell_counts, cell_holds, cell_here, cell_else, cell_stop, stop_here, SameTurns, SameHolds}
 use Rattle.gl_rule.proofs.HeldLists.{all_map, both_map}
-use Rattle.gl_rule.proofs.Frames.{machine_same, turns_kept, turns_same, stands_at, held_at, tail_at, read_at, fits_board, floor_moves, fits_saw, reviews}
+use Rattle.gl_rule.proofs.Frames.{machine_same, turns_kept, turns_same, stands_at, stands_same, held_at, tail_at, read_at, fits_board, floor_moves, fits_saw, reviews}
 use Rattle.gl_rule.proofs.RingFrames.{ring_same}
+use Rattle.gl_rule.specs.Tries.{TriesFit}
+use Rattle.gl_rule.proofs.Tries.{tries_same, tries_saw, tries_grow}
 
 -- the stop word
 pub sets_stop : (key : Key) (slots id : ℕ) (v : View) (c : List (ℕ × Slot)) → table.Allows (Rule key) slots id (v, c) 3075 (λ _. 1) (λ _. Saw SetStop v c)
@@ -41,9 +43,13 @@ sets_stop key slots id v c st rule long here fits =
     let zero_near : 0 < objects = omega arith in
     let set_to : table.State Slot View = record { words = set st.words 3075 n; homes = st.homes; views = st.views } in
     let u = saw v SetStop in
-    let done : Holds key w set_to = record {
+    let w' : World = record w { stopped = 1 } in
+    let least = H.whole.tries.least in
+    let up : (shelves : List Shelf) (reads : List Read) → TriesFit w.stopped w.takers shelves reads → TriesFit 1 w.takers shelves reads = λ shelves reads f. tries_grow w.stopped 1 w.takers w.takers shelves reads least (omega arith) (λ g t q. q) (λ r a g q. q) f in
+    let done : Holds key w' set_to = record {
       words = still_long cap st.words 3075 n H.words;
       whole = record {
+        tries = record { named = λ g t q e. H.whole.tries.named g t q (sym (turns g q) ∙ e); word = stop_here cap st.words H.words n; least = omega arith };
         turns = record { named = λ k q. subst (λ z. z ≤ THREADS) (sym (turns k q)) (H.whole.turns.named k q); busy = λ k q nz. H.whole.turns.busy k q (λ z. nz (turns k q ∙ z)) };
         positions = record { count = counts 0 zero_near ∙ H.whole.positions.count; kept = H.whole.positions.kept; few = H.whole.positions.few };
         machine = machine_same key.setting w _ refl refl refl refl H.whole.machine;
@@ -53,10 +59,10 @@ sets_stop key slots id v c st rule long here fits =
         ring = ring_same key b b' w.log (holds 0 zero_near) holds cells H.whole.ring;
         low = subst (λ z. Rattle.gl_rule.specs.Ring.LowHolds z w.trims) (sym (holds 0 zero_near)) H.whole.low;
       };
-      values = record { home = λ k q z. let r = H.values.home k q (sym (turns k q) ∙ z) in (r.0, r.1, stands_at key.setting w b.hold b'.hold k r.0 (holds k q) r.2) };
-      views = record { at = λ j o e. let f = H.views.at j o e in fits_board key b b' w w.holder j o holds cells (turns_same b.turn b'.turn w.holder j o turns f.turns) f };
+      values = record { home = λ k q z. let r = H.values.home k q (sym (turns k q) ∙ z) in (r.0, r.1, stands_same key.setting w w.holder w.takers 1 b.hold b'.hold k r.0 (holds k q) r.2) };
+      views = record { at = λ j o e. let f = H.views.at j o e in fits_board key b b' w w.holder w.takers 1 j o holds cells (turns_same b.turn b'.turn w.holder j o turns f.turns) (up o.shelves o.reads f.tries) f };
     } in
-    (u, table.keeps, tt, (w, reviews key w set_to id v u here (λ g o. o) done (fits_saw key b' w id v SetStop tt (done.views.at id v here))), refl)
+    (u, table.keeps, tt, (w', reviews key w' set_to id v u here (λ g o. o) done (fits_saw key b' w' id v SetStop tt (tries_saw 1 w.takers v.shelves v.reads SetStop refl (λ r g by one is. absurd (cc)) (done.views.at id v here).tries) (done.views.at id v here))), refl)
 
 last_here : (xs : List ℕ) (x : ℕ) → slice_index (xs ++ x ∷ []) (length xs) ≡ x
 last_here [] x = refl
@@ -72,6 +78,7 @@ fits_cells : (key : Key) (b b' : Board) (w : World) (j : ℕ) (v : View) → Sam
 fits_cells key b b' w j v turns holds cells f =
     let O = HeldOne b.turn w.holder j v.shelves in record {
       turns = turns_same b.turn b'.turn w.holder j v turns f.turns;
+      tries = f.tries;
       positions = f.positions;
       values = record { held = both_map O (HeldStands key.setting w b.hold) (HeldStands key.setting w b'.hold) v.held (λ h a s. held_at key.setting w b.hold b'.hold h.drew h.object h.taken (holds h.object a.named) s) f.turns.held f.values.held };
       numbers = f.numbers;
@@ -143,6 +150,7 @@ puts_word key slots id n v c h tail may st rule long here fits =
     ] in
     let still : Fits key b' w id (record v { stored = [] }) = fits_cells key b b' w id (record v { stored = [] }) turns holds (λ k q. absurd (omega arith)) (record {
       turns = record { held = mine.turns.held };
+      tries = mine.tries;
       positions = record { shelves = mine.positions.shelves };
       values = record { held = mine.values.held };
       numbers = record { shelves = mine.numbers.shelves };
@@ -155,6 +163,7 @@ puts_word key slots id n v c h tail may st rule long here fits =
     }) in
     let own : Fits key b' w id u = record {
       turns = record { held = still.turns.held };
+      tries = still.tries;
       positions = record { shelves = still.positions.shelves };
       values = record { held = still.values.held };
       numbers = record { shelves = still.numbers.shelves };
@@ -174,6 +183,7 @@ puts_word key slots id n v c h tail may st rule long here fits =
           words = still_long cap st.words (cell_at cap tail i) n H.words;
           whole = record {
             turns = turns_kept b.turn b'.turn w.holder id st.views v u here turns (λ k o. o) H.whole.turns;
+            tries = tries_same b b' w.stopped w.takers turns (cell_stop cap st.words H.words tail i n) H.whole.tries;
             positions = record { count = counts 0 zero_near ∙ H.whole.positions.count; kept = H.whole.positions.kept; few = H.whole.positions.few };
             machine = machine_same key.setting w _ refl refl refl refl H.whole.machine;
             numbers = record { counts = λ z q. counts (suc z) (omega arith) ∙ H.whole.numbers.counts z q; threads = H.whole.numbers.threads; few = H.whole.numbers.few };

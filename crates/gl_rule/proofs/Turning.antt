@@ -3,7 +3,7 @@ use Rattle.std.proofs.Common.{◌≡◌, ◌≢◌, ℕ, zero, suc, ◌+◌, ◌
 use Rattle.std.specs.Prelude.{Contains, if◌then◌else◌}
 use Rattle.std.proofs.lemmas.List.Elements.{All-cons, All-contains, All-push}
 use native.Mathlib.Decide.{ℕ_discrete}
-use mathlib.Core.Option.{some, none}
+use mathlib.Core.Option.{some, none, some-injective}
 use lib.ListN.{get_elem?}
 use prog.Atomic.{either}
 use Rattle.atomic_table.specs.Table as table
@@ -17,6 +17,7 @@ use Rattle.gl_rule.specs.declared.slot.Slot.{Slot}
 use Rattle.gl_rule.specs.Objects.{Key, Board, board, capacity, objects}
 use Rattle.gl_rule.specs.View.{View, Held, Shelf, HasObject, Busy, Taken, new_held, took, refused, left, without}
 use Rattle.gl_rule.specs.Turns.{HeldOne}
+use Rattle.gl_rule.specs.Tries.{TriesFit}
 use Rattle.gl_rule.specs.Positions.{ShelfFits}
 use Rattle.gl_rule.specs.Values.{InRow, Stands, HeldStands}
 use Rattle.gl_rule.specs.Knowledge.{TailsFit, ReadFits}
@@ -28,9 +29,10 @@ use Rattle.gl_rule.specs.Taken.{TakenTold}
 use Rattle.gl_rule.specs.declared.slot.Slot.TheVariants as slot
 use Rattle.gl_rule.specs.Told.{Took, Left}
 use Rattle.gl_rule.proofs.Each.{each_set}
-use Rattle.gl_rule.proofs.Words.{still_long, turn_here, turn_else, turn_counts, turn_holds, turn_cells}
+use Rattle.gl_rule.proofs.Words.{still_long, turn_here, turn_else, turn_counts, turn_holds, turn_cells, turn_stop}
 use Rattle.gl_rule.proofs.HeldLists.{all_map, in_cons, in_without, only_shelf}
-use Rattle.gl_rule.proofs.Frames.{machine_same, turns_step, stands_at, stands_same, stands_held, fits_board, fits_saw, reviews, loads_word}
+use Rattle.gl_rule.proofs.Frames.{machine_same, turns_step, stands_at, stands_same, stands_held, held_same, fits_board, fits_saw, reviews, loads_word}
+use Rattle.gl_rule.proofs.Tries.{taker, taker_more, taker_here, taker_cases, tries_grow, tries_saw, tries_took}
 use Rattle.gl_rule.proofs.FittingLaws.{leave_stands}
 
 -- no Info of a row at home lies below its hold
@@ -50,9 +52,9 @@ taken_told key w id v s hold b whole one f mine (suc x) slot.Empty st = absurd s
 taken_told key w id v s hold b whole one f mine (suc x) (slot.List l) st = absurd st
 
 -- taking a turn keeps the rule
-pub takes_turn : (key : Key) (slots id k : ℕ) (v : View) (c : List (ℕ × Slot)) (s : Shelf) → k < objects → v.shelves ≡ s ∷ []
+pub takes_turn : (key : Key) (slots id k : ℕ) (v : View) (c : List (ℕ × Slot)) (s : Shelf) → k < objects → v.shelves ≡ s ∷ [] → (HasObject v k → ⊥)
     → table.Allows (Rule key) slots id (v, c) (3 * k + 1) (λ n. either (n == 0) (s.thread + 1) n) (Took key.setting k v c)
-takes_turn key slots id k v c s near one st rule long here fits =
+takes_turn key slots id k v c s near one unheld st rule long here fits =
     let w = rule.0 in
     let H = rule.1 in
     let cap = capacity key in
@@ -70,19 +72,22 @@ takes_turn key slots id k v c s near one st rule long here fits =
     let words' = set st.words (3 * k + 1) (s.thread + 1) in
     let b' = board cap words' in
     let holder' : ℕ → ℕ = with_at w.holder k id in
-    let w' = record w { holder = holder' } in
+    let takers' : ℕ → List ℕ = taker w.takers k s.thread in
+    let w1 : World = record w { holder = holder' } in
+    let w' : World = record w { holder = holder'; takers = takers' } in
+    let few = H.whole.tries.least in
     let hh : b'.turn k ≡ s.thread + 1 = turn_here cap st.words H.words k near (s.thread + 1) in
     let other : (y : ℕ) → y ≢ k → b'.turn y ≡ b.turn y = turn_else cap st.words H.words k near (s.thread + 1) in
     let holds = turn_holds cap st.words H.words k near (s.thread + 1) in
     let cells = turn_cells cap st.words H.words k near (s.thread + 1) in
     let busy_not : (g : ℕ) (m : ℕ) → b.turn g ≡ m + 1 → g ≢ k = λ g m p e. let z : b.turn g ≡ 0 = ap b.turn e ∙ free in absurd (omega arith) in
-    let not_held : HasObject v k → ⊥ = λ o.
-    let p = All-contains (HeldOne b.turn w.holder id v.shelves) v.held o.0 mine.turns.held o.1 in
-    busy_not o.0.object p.shelf.thread p.busy o.2 in
     let moves : (j : ℕ) (l : List Shelf) (g : Held) → HeldOne b.turn w.holder j l g → HeldOne b'.turn holder' j l g = λ j l g p.
     let ne = busy_not g.object p.shelf.thread p.busy in
     record { named = p.named; here = with_else w.holder k g.object id ne ∙ p.here; shelf = p.shelf; one = p.one; busy = other g.object ne ∙ p.busy } in
-    let still : Fits key b' w' id v = fits_board key b b' w holder' id v holds cells (record { held = all_map (HeldOne b.turn w.holder id v.shelves) (HeldOne b'.turn holder' id v.shelves) v.held (moves id v.shelves) mine.turns.held }) mine in
+    let still : Fits key b' w1 id v = fits_board key b b' w holder' w.takers w.stopped id v holds cells (record { held = all_map (HeldOne b.turn w.holder id v.shelves) (HeldOne b'.turn holder' id v.shelves) v.held (moves id v.shelves) mine.turns.held }) mine.tries mine in
+    let others : (j : ℕ) (o : View) → j ≢ id → Fits key b w j o → TriesFit w.stopped takers' o.shelves o.reads = λ j o apart f.
+    tries_grow w.stopped w.stopped w.takers takers' o.shelves o.reads (omega arith) few (taker_more w.takers k s.thread)
+    (λ r has g c. elim (taker_cases w.takers k s.thread g r.thread c) [ inl old ↦ old | inr hit ↦ absurd (let a : ShelfFits w.log w.seat j r = All-contains (ShelfFits w.log w.seat j) o.shelves r f.positions.shelves has in apart (sym a.here ∙ ap w.seat (sym hit.1) ∙ shelf.here)) ]) f.tries in
     let h = new_held k y in (
       u,
       table.takes k y,
@@ -102,6 +107,14 @@ takes_turn key slots id k v c s near one st rule long here fits =
                   | no ne ↦ inr (with_else w.holder k g id ne, (λ z. nz (other g ne ∙ z)), λ o. (o.0, in_cons h v.held o.0 o.1, o.2))
                 ])
                 H.whole.turns;
+            tries = record {
+              named = λ g t q e. elim (ℕ_discrete g k) [
+                | yes is ↦ (let a : suc t ≡ s.thread + 1 = sym e ∙ ap b'.turn is ∙ hh in let same : s.thread ≡ t = omega arith in subst (λ z. Contains (takers' z) t) (sym is) (subst (λ z. Contains (takers' k) z) same (taker_here w.takers k s.thread)))
+                | no ne ↦ taker_more w.takers k s.thread g t (H.whole.tries.named g t q (sym (other g ne) ∙ e))
+              ];
+              word = turn_stop cap st.words H.words k near (s.thread + 1) ∙ H.whole.tries.word;
+              least = few;
+            };
             positions = record { count = turn_counts cap st.words H.words k near (s.thread + 1) 0 (omega arith) ∙ H.whole.positions.count; kept = H.whole.positions.kept; few = H.whole.positions.few };
             machine = machine_same key.setting w _ refl refl refl refl H.whole.machine;
             numbers = record { counts = λ x m. turn_counts cap st.words H.words k near (s.thread + 1) (suc x) (omega arith) ∙ H.whole.numbers.counts x m; threads = H.whole.numbers.threads; few = H.whole.numbers.few };
@@ -114,14 +127,18 @@ takes_turn key slots id k v c s near one st rule long here fits =
             home = λ g m z.
                 let ne : g ≢ k = λ e. let q : b'.turn g ≡ s.thread + 1 = ap b'.turn e ∙ hh in absurd (omega arith) in
                 let q = H.values.home g m (sym (other g ne) ∙ z) in
-                (q.0, set_else st.homes k g none ne ∙ q.1, stands_same key.setting w holder' b.hold b'.hold g q.0 (holds g m) q.2);
+                (q.0, set_else st.homes k g none ne ∙ q.1, stands_same key.setting w holder' takers' w.stopped b.hold b'.hold g q.0 (holds g m) q.2);
           };
           views = each_set id u H.views
-              (λ j o apart f. fits_board key b b' w holder' j o holds cells (record { held = all_map (HeldOne b.turn w.holder j o.shelves) (HeldOne b'.turn holder' j o.shelves) o.held (moves j o.shelves) f.turns.held }) f)
+              (λ j o apart f. fits_board key b b' w holder' takers' w.stopped j o holds cells (record { held = all_map (HeldOne b.turn w.holder j o.shelves) (HeldOne b'.turn holder' j o.shelves) o.held (moves j o.shelves) f.turns.held }) (others j o apart f) f)
               (record {
+                tries = tries_took w.stopped w.takers v s k y one few mine.tries;
                 turns = record { held = All-cons (HeldOne b'.turn holder' id v.shelves) h v.held (record { named = near; here = with_here w.holder k id; shelf = s; one = one; busy = hh }) still.turns.held };
                 positions = record { shelves = still.positions.shelves };
-                values = record { held = All-cons (HeldStands key.setting w' b'.hold) h v.held (stands_held key.setting w' b'.hold k y (stands_same key.setting w holder' b.hold b'.hold k y (holds k near) stands)) still.values.held };
+                values = record {
+                  held = All-cons (HeldStands key.setting w' b'.hold) h v.held (stands_held key.setting w' b'.hold k y (stands_same key.setting w holder' takers' w.stopped b.hold b'.hold k y (holds k near) stands))
+                      (all_map (HeldStands key.setting w1 b'.hold) (HeldStands key.setting w' b'.hold) v.held (λ g q. held_same key.setting w1 holder' takers' w.stopped b'.hold b'.hold g.drew g.object g.taken refl q) still.values.held);
+                };
                 numbers = record { shelves = still.numbers.shelves };
                 knowledge = record {
                   seen = still.knowledge.seen;
@@ -145,11 +162,28 @@ takes_turn key slots id k v c s near one st rule long here fits =
               });
         },
       ),
-      inl (free, (y, refl, taken_told key w id v s b.hold b H.whole one shelf mine k y stands, not_held)),
+      inl (free, (y, refl, taken_told key w id v s b.hold b H.whole one shelf mine k y stands)),
     ))
     (λ busy.
-    let r : Rule key (record { words = st.words; homes = st.homes; views = set st.views id (refused v k (n - 1)) }) = (w, reviews key w st id v (refused v k (n - 1)) here (λ g o. o) H (fits_saw key b w id v (Busy k (n - 1)) tt mine)) in
-    (refused v k (n - 1), table.keeps, tt, loads_word key st id (3 * k + 1) (refused v k (n - 1)) r, inr (busy, H.whole.turns.named k near, refl)))
+    let who = H.whole.turns.busy k near busy in
+    let theirs : Fits key b w (w.holder k) who.0 = H.views.at (w.holder k) who.0 who.1 in
+    let has : HasObject who.0 k = who.2 in
+    let P : Held → Type 0 = HeldOne b.turn w.holder (w.holder k) who.0.shelves in
+    let p : P has.0 = All-contains P who.0.held has.0 theirs.turns.held has.1 in
+    let its : ShelfFits w.log w.seat (w.holder k) p.shelf = only_shelf (ShelfFits w.log w.seat (w.holder k)) who.0 p.shelf p.one theirs.positions.shelves in
+    let at : n ≡ p.shelf.thread + 1 = ap b.turn (sym has.2) ∙ p.busy in
+    let by : n - 1 ≡ p.shelf.thread = omega arith in
+    let next : n ≡ suc (n - 1) = omega arith in
+    let taken : Contains (w.takers k) (n - 1) = H.whole.tries.named k (n - 1) near next in
+    let not_own : (r : Shelf) → v.shelves ≡ r ∷ [] → n - 1 ≢ r.thread = λ r is same.
+    let mine_r : ShelfFits w.log w.seat id r = only_shelf (ShelfFits w.log w.seat id) v r is mine.positions.shelves in
+    let e : w.holder k ≡ id = sym its.here ∙ ap w.seat (sym by ∙ same) ∙ mine_r.here in
+    unheld (subst (λ o. HasObject o k) (sym (some-injective v who.0 (sym here ∙ ap (get_elem? st.views) (sym e) ∙ who.1))) has) in
+    let r : Rule key (record { words = st.words; homes = st.homes; views = set st.views id (refused v k (n - 1)) }) = (w, reviews key w st id v (refused v k (n - 1)) here (λ g o. o) H (fits_saw key b w id v (Busy k (n - 1)) tt (tries_saw w.stopped w.takers v.shelves v.reads (Busy k (n - 1)) taken (λ r g by is e. (let a : n - 1 ≡ by = busy_by k (n - 1) g by e in subst (λ z. z ≢ r.thread) a (not_own r is))) mine.tries) mine)) in
+    (refused v k (n - 1), table.keeps, tt, loads_word key st id (3 * k + 1) (refused v k (n - 1)) r, inr (busy, H.whole.turns.named k near, refl, not_own)))
+  where
+    busy_by : (k a g c : ℕ) → Busy k a ≡ Busy g c → a ≡ c
+    busy_by k a g c e = cc
 
 -- putting an object back keeps the rule
 pub leaves_turn : (key : Key) (slots id : ℕ) (v : View) (c : List (ℕ × Slot)) (s : Shelf) (h : Held) (y : Slot) (q : Bool) → objects ≤ slots → v.shelves ≡ s ∷ [] → Contains v.held h → MayLeave key.setting s v h y → (q ≡ true → SaysQuiet h.object h.taken)
@@ -199,6 +233,14 @@ leaves_turn key slots id v c s h y q many one has may quiet st rule long here fi
                   | no ne ↦ inr (refl, (λ z. nz (other g ne ∙ z)), λ o. (o.0, in_without k v.held o.0 (λ e. ne (sym o.2 ∙ e)) o.1, o.2))
                 ])
                 H.whole.turns;
+            tries = record {
+              named = λ g t q e. elim (ℕ_discrete g k) [
+                | yes is ↦ absurd (let a : suc t ≡ 0 = sym e ∙ ap b'.turn is ∙ hh in omega arith)
+                | no ne ↦ H.whole.tries.named g t q (sym (other g ne) ∙ e)
+              ];
+              word = turn_stop cap st.words H.words k near 0 ∙ H.whole.tries.word;
+              least = H.whole.tries.least;
+            };
             positions = record { count = turn_counts cap st.words H.words k near 0 0 (omega arith) ∙ H.whole.positions.count; kept = H.whole.positions.kept; few = H.whole.positions.few };
             machine = machine_same key.setting w _ refl refl refl refl H.whole.machine;
             numbers = record { counts = λ x m. turn_counts cap st.words H.words k near 0 (suc x) (omega arith) ∙ H.whole.numbers.counts x m; threads = H.whole.numbers.threads; few = H.whole.numbers.few };
@@ -209,9 +251,10 @@ leaves_turn key slots id v c s h y q many one has may quiet st rule long here fi
           };
           values = record { home = λ g m z. home g m z (ℕ_discrete g k) };
           views = each_set id u H.views
-              (λ j o apart f. fits_board key b b' w w.holder j o holds cells (record { held = all_map (HeldOne b.turn w.holder j o.shelves) (HeldOne b'.turn w.holder j o.shelves) o.held (λ g p. moves j o.shelves g (λ e. apart (sym p.here ∙ ap w.holder e ∙ turn.here)) p) f.turns.held }) f)
+              (λ j o apart f. fits_board key b b' w w.holder w.takers w.stopped j o holds cells (record { held = all_map (HeldOne b.turn w.holder j o.shelves) (HeldOne b'.turn w.holder j o.shelves) o.held (λ g p. moves j o.shelves g (λ e. apart (sym p.here ∙ ap w.holder e ∙ turn.here)) p) f.turns.held }) f.tries f)
               (record {
                 turns = record { held = still.turns.held };
+                tries = still.tries;
                 positions = record { shelves = still.positions.shelves };
                 values = record { held = still.values.held };
                 numbers = record { shelves = still.numbers.shelves };

@@ -52,6 +52,9 @@ module _ (cap : ℕ) (words : List ℕ) (long : length words ≡ word_count cap)
     pub turn_cells : SameCells (board cap words) (board cap (set words (3 * k + 1) n))
     turn_cells p i = get_or-set_other words (3 * k + 1) (cell_at cap p i) n 0 (λ e. omega arith)
 
+    pub turn_stop : (board cap (set words (3 * k + 1) n)).stop ≡ (board cap words).stop
+    turn_stop = get_or-set_other words (3 * k + 1) 3075 n 0 (λ e. omega arith)
+
     pub count_here : (board cap (set words (3 * k) n)).count k ≡ n
     count_here = get_or-set_same words (3 * k) n 0 (omega arith)
 
@@ -66,6 +69,9 @@ module _ (cap : ℕ) (words : List ℕ) (long : length words ≡ word_count cap)
 
     pub count_cells : SameCells (board cap words) (board cap (set words (3 * k) n))
     count_cells p i = get_or-set_other words (3 * k) (cell_at cap p i) n 0 (λ e. omega arith)
+
+    pub count_stop : (board cap (set words (3 * k) n)).stop ≡ (board cap words).stop
+    count_stop = get_or-set_other words (3 * k) 3075 n 0 (λ e. omega arith)
 
     pub hold_here : (board cap (set words (3 * k + 2) n)).hold k ≡ n
     hold_here = get_or-set_same words (3 * k + 2) n 0 (omega arith)
@@ -82,7 +88,13 @@ module _ (cap : ℕ) (words : List ℕ) (long : length words ≡ word_count cap)
     pub hold_cells : SameCells (board cap words) (board cap (set words (3 * k + 2) n))
     hold_cells p i = get_or-set_other words (3 * k + 2) (cell_at cap p i) n 0 (λ e. omega arith)
 
+    pub hold_stop : (board cap (set words (3 * k + 2) n)).stop ≡ (board cap words).stop
+    hold_stop = get_or-set_other words (3 * k + 2) 3075 n 0 (λ e. omega arith)
+
   module _ (n : ℕ) where
+    pub stop_here : (board cap (set words 3075 n)).stop ≡ n
+    stop_here = get_or-set_same words 3075 n 0 (omega arith)
+
     pub stop_turns : SameTurns (board cap words) (board cap (set words 3075 n))
     stop_turns y m = get_or-set_other words 3075 (3 * y + 1) n 0 (λ e. omega arith)
 
@@ -105,6 +117,9 @@ module _ (cap : ℕ) (words : List ℕ) (long : length words ≡ word_count cap)
 
     pub cell_holds : SameHolds (board cap words) (board cap (set words (cell_at cap q i) n))
     cell_holds y m = get_or-set_other words (cell_at cap q i) (3 * y + 2) n 0 (λ e. omega arith)
+
+    pub cell_stop : (board cap (set words (cell_at cap q i) n)).stop ≡ (board cap words).stop
+    cell_stop = get_or-set_other words (cell_at cap q i) 3075 n 0 (λ e. omega arith)
 
     pub cell_here : 0 < cap → i < 5 → (board cap (set words (cell_at cap q i) n)).cell q i ≡ n
     cell_here some few = let r : q % cap < cap = Rattle.std.proofs.Common.mod-lt q some in get_or-set_same words (cell_at cap q i) n 0 (omega arith)

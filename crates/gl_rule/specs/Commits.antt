@@ -6,6 +6,7 @@ use Rattle.gl_rule.specs.declared.slot.Slot.{Slot}
 use Rattle.gl_model.specs.declared.event.Stamp.{Stamp}
 use Rattle.gl_model.specs.declared.row.Row.{Row}
 use Rattle.gl_model.specs.declared.row.Question.{Question}
+use Rattle.gl_model.specs.declared.tx.Look.{Look}
 use Rattle.gl_model.specs.declared.tx.Tx.{Tx}
 use Rattle.gl_model.specs.declared.tx.Why.{Why}
 use Rattle.gl_model.specs.declared.tx.Why.TheVariants.{Changed, Raised}
@@ -66,10 +67,21 @@ pub record MayDrop (s : Shelf) (v : View) (tx : Tx) (why : Why) (zs : List ℕ) 
   pub names : NumbersName tx zs
   pub formed : EntryForm s.thread (Abort tx why)
 
+-- the row of the look's variable is held, and has its word
+pub record IsUnchanged (v : View) (l : Look) : Type 0 where
+  pub one : Held
+  pub row : Row
+  pub held : Contains v.held one
+  pub object : one.object ≡ suc l.var
+  pub taken : one.taken ≡ slot.Row row
+  pub word : l.value ≡ row.value
+
 -- and of one whose variable was changed
 pub record MayChange (s : Shelf) (v : View) (tx : Tx) (var : ℕ) (read found : ℤ) (p : ℕ) : Type 0 where
   pub drop : MayDrop s v tx (Changed var read found) (var ∷ []) p
   pub word : (b : is_in var (var ∷ []) ≡ true) → found ≡ (drop.rows var b).row.value
+  -- it is the least such variable
+  pub least : (l : Look) → Contains tx.looks l → l.var < var → IsUnchanged v l
 
 -- and of one that is refused for a race on var
 pub record MayRefuse (setting : Setting) (s : Shelf) (v : View) (tx : Tx) (var p m : ℕ) (question : ℕ → Question) : Type 0 where
@@ -78,6 +90,8 @@ pub record MayRefuse (setting : Setting) (s : Shelf) (v : View) (tx : Tx) (var p
   pub saw : (y : ℕ) (b : is_in y (variables_of tx) ≡ true) → Contains (drop.rows y b).one.tails m
   pub asks : (y : ℕ) → ((question y).thread ≡ s.thread) × ((question y).commit ≡ Some (variables_of tx)) × (((question y).write ≡ true) ↔ Writes (Abort tx (Raised var)) y)
   pub touches : is_in var (variables_of tx) ≡ true
+  -- each look has its row's word
+  pub words : (y : ℕ) (b : is_in y (variables_of tx) ≡ true) → LooksHave tx y (drop.rows y b).row.value
   -- over each fitting list of m events some conflicting Info of var fails its test, and none of a lower variable
   pub judged : (l : List Stamp) → IsFitting setting s m v.known l → ((y : ℕ) (b : is_in y (variables_of tx) ≡ true) → InfosStand setting l (drop.rows y b).row) → (b : is_in var (variables_of tx) ≡ true) → SomeFails l (drop.rows var b).row (question var)
   pub least : (l : List Stamp) → IsFitting setting s m v.known l → ((y : ℕ) (b : is_in y (variables_of tx) ≡ true) → InfosStand setting l (drop.rows y b).row) → (y : ℕ) (b : is_in y (variables_of tx) ≡ true) → y < var → SomeFails l (drop.rows y b).row (question y) → ⊥

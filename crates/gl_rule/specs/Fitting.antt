@@ -16,7 +16,7 @@ use Rattle.gl_model.specs.Records.{position_of, event_of}
 use Rattle.gl_draws.specs.Draws.{Draw}
 use Rattle.gl_draws.specs.Events.{AreEvents}
 use Rattle.gl_draws.specs.RowFacts.{read_of, RowStands, SomeFails}
-use Rattle.gl_draws.specs.Ties.{last_position, counted}
+use Rattle.gl_draws.specs.Ties.{Drawn, last_position, counted}
 use Rattle.gl_rule.specs.declared.slot.Slot.{Slot}
 use Rattle.gl_rule.specs.declared.slot.Slot.TheVariants as slot
 use Rattle.gl_state.specs.States.{IsStateOf, IsQuiet}
@@ -167,8 +167,13 @@ pub record MayMark (setting : Setting) (s : Shelf) (v : View) (h : Held) (x : �
   pub reads : write ≡ false → raised ≡ false → value ≡ taken.value
   pub zero : raised ≡ true → write ≡ false → value ≡ pos 0
 
+-- a look draws the first number of its attempt on the variable; before the number of an end there is at most that one
+abbrev pub HasPlace : Option ℤ → ℕ → List Drawn → Type 0
+HasPlace (Some value) x drawn = count_on x drawn ≡ 0
+HasPlace None x drawn = count_on x drawn ≤ 1
+
 -- what is asked of a number that waits for its entry: of a look with the row's word, or of the end of an attempt
 pub record MayOpen (s : Shelf) (v : View) (h : Held) (x : ℕ) (taken : Row) (p : ℕ) (look : Option ℤ) : Type 0 where
   pub draws : MayDraw s v h x taken p
   pub word : (value : ℤ) → look ≡ Some value → value ≡ taken.value
-  pub room : count_on x v.drawn ≤ 1
+  pub room : HasPlace look x v.drawn

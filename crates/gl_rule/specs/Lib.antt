@@ -3,6 +3,7 @@ pub mod Each
 pub mod View
 pub mod World
 pub mod Turns
+pub mod Tries
 pub mod Positions
 pub mod Values
 pub mod Numbers

@@ -9,6 +9,7 @@ use Rattle.gl_rule.specs.Objects.{Key, Board, board, capacity, word_count}
 use Rattle.gl_rule.specs.View.{View}
 use Rattle.gl_rule.specs.World.{World}
 use Rattle.gl_rule.specs.Turns.{TurnsFit, TurnsHold}
+use Rattle.gl_rule.specs.Tries.{TriesFit, TriesHold}
 use Rattle.gl_rule.specs.Positions.{PositionsHold, PositionsFit}
 use Rattle.gl_rule.specs.Values.{ValuesHold, ValuesFit}
 use Rattle.gl_rule.specs.Numbers.{NumbersHold, NumbersFit}
@@ -23,6 +24,7 @@ use Rattle.gl_rule.specs.Refusals.{RefusalsFit}
 -- what is said of the view v of seat j
 pub record Fits (key : Key) (b : Board) (w : World) (j : ℕ) (v : View) : Type 0 where
   pub turns : TurnsFit b.turn w.holder j v
+  pub tries : TriesFit w.stopped w.takers v.shelves v.reads
   pub positions : PositionsFit w.log w.seat j v
   pub values : ValuesFit key.setting w b.hold v
   pub numbers : NumbersFit w.draws v
@@ -36,6 +38,7 @@ pub record Fits (key : Key) (b : Board) (w : World) (j : ℕ) (v : View) : Type 
 -- what is said of the whole table
 pub record Whole (key : Key) (b : Board) (w : World) (views : List View) : Type 0 where
   pub turns : TurnsHold b.turn w.holder views
+  pub tries : TriesHold b.turn b.stop w.stopped w.takers
   pub positions : PositionsHold (b.count 0) w.log
   pub machine : MachineHolds key.setting w
   pub numbers : NumbersHold b.count w.draws

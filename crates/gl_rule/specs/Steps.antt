@@ -27,13 +27,13 @@ use Rattle.gl_rule.specs.Fitting.{MayLeave, SaysQuiet, MayWalk, MayPublish, MayS
 use Rattle.gl_rule.specs.Objects.{Key, capacity, objects, stop_word, cell_at}
 use Rattle.gl_rule.specs.Opened.{first_words, first_slots, sixteen}
 use Rattle.gl_rule.specs.Rule.{Rule}
-use Rattle.gl_rule.specs.Told.{Took, Left, SawTail, Saw, SawHold, SawFloor, SawCell, SawEvent, PutWord, Published, PublishedAct, Raised, Lowered, Marked, Opened}
-use Rattle.gl_rule.specs.View.{View, Shelf, shelf, Held, Hold, Stop, SetStop, blank, both}
+use Rattle.gl_rule.specs.Told.{Took, Left, SawTail, Saw, SawStop, SawHold, SawFloor, SawCell, SawEvent, PutWord, Published, PublishedAct, Raised, Lowered, Marked, Opened}
+use Rattle.gl_rule.specs.View.{View, Shelf, shelf, Held, HasObject, SetStop, blank, both}
 
--- the turn of an object that is free is taken
+-- the turn of an object that the pass does not hold is tried, and taken where it is free
 abbrev pub TakesTurn : Type 0
 TakesTurn =
-    (key : Key) (slots id k : ℕ) (v : View) (c : List (ℕ × Slot)) (s : Shelf) → k < objects → v.shelves ≡ s ∷ [] →
+    (key : Key) (slots id k : ℕ) (v : View) (c : List (ℕ × Slot)) (s : Shelf) → k < objects → v.shelves ≡ s ∷ [] → (HasObject v k → ⊥) →
     table.Allows (Rule key) slots id (v, c) (3 * k + 1) (λ n. either (n == 0) (s.thread + 1) n) (Took key.setting k v c)
 
 -- an object that is held is put back
@@ -67,7 +67,7 @@ LoadsFloor =
 
 -- the stop word is loaded
 abbrev pub LoadsStop : Type 0
-LoadsStop = (key : Key) (slots id : ℕ) (v : View) (c : List (ℕ × Slot)) → table.Allows (Rule key) slots id (v, c) stop_word (λ n. n) (λ n. Saw (Stop n) v c)
+LoadsStop = (key : Key) (slots id : ℕ) (v : View) (c : List (ℕ × Slot)) → table.Allows (Rule key) slots id (v, c) stop_word (λ n. n) (SawStop v c)
 
 -- one word of the event at position p is loaded
 abbrev pub LoadsCell : Type 0

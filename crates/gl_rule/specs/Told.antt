@@ -17,17 +17,17 @@ use Rattle.gl_model.specs.Elements.{IsStampInRange}
 use Rattle.gl_rule.specs.declared.slot.Slot.{Slot}
 use Rattle.gl_model.specs.Entries.{Entry, Plain, Sync}
 use Rattle.gl_draws.specs.Draws.{Draw, draw, What, Entered, Looked, Open}
-use Rattle.gl_rule.specs.View.{Hold, View, Shelf, Held, HasObject, published, put_word, raised, saw_floor, lowered, marked, shelf, Read, CellWord, took, refused, left, saw_tail, saw, saw_cell, knows}
+use Rattle.gl_rule.specs.View.{Hold, Stop, SetStop, View, Shelf, Held, published, put_word, raised, saw_floor, lowered, marked, shelf, Read, CellWord, took, refused, left, saw_tail, saw, saw_cell, knows}
 
 -- a seat's view, and the slots that it has taken
 abbrev pub Seat : Type 0
 Seat = table.Me Slot View
 
--- the object was free, and its value, with which it was taken, is told; it was not held before. Or another pass holds it
+-- the object was free, and its value, with which it was taken, is told. Or another pass holds it
 abbrev pub Took : Setting → ℕ → View → List (ℕ × Slot) → ℕ → Seat → Type 0
 Took setting k v c n w =
-    ((n ≡ 0) × ((y : Slot) × (w ≡ (took v k y, (k, y) ∷ c)) × TakenTold setting v k y × (HasObject v k → ⊥)))
-    ⊎ ((n ≢ 0) × (n ≤ THREADS) × (w ≡ (refused v k (n - 1), c)))
+    ((n ≡ 0) × ((y : Slot) × (w ≡ (took v k y, (k, y) ∷ c)) × TakenTold setting v k y))
+    ⊎ ((n ≢ 0) × (n ≤ THREADS) × (w ≡ (refused v k (n - 1), c)) × ((s : Shelf) → v.shelves ≡ s ∷ [] → n - 1 ≢ s.thread))
 
 -- the object was put back; q says whether no thread was live in the list's state that was put back
 abbrev pub Left : ℕ → Bool → View → List (ℕ × Slot) → Seat → Type 0
@@ -37,9 +37,13 @@ Left k q v c w = w ≡ (left v k q, table.rest c)
 abbrev pub SawTail : View → List (ℕ × Slot) → ℕ → Seat → Type 0
 SawTail v c n w = (w ≡ (saw_tail v n, c)) × (v.seen ≤ n) × ((h : Held) (row : Row) → Contains v.held h → h.taken ≡ slot.Row row → IsWithin row n)
 
--- the stop word was seen
+-- the stop word was set
 abbrev pub Saw : Read → View → List (ℕ × Slot) → Seat → Type 0
 Saw r v c w = w ≡ (saw v r, c)
+
+-- the stop word was seen: it has not fallen
+abbrev pub SawStop : View → List (ℕ × Slot) → ℕ → Seat → Type 0
+SawStop v c n w = (w ≡ (saw v (Stop n), c)) × (n ≤ 1) × ((m : ℕ) → Contains v.reads (Stop m) → m ≤ n) × (Contains v.reads SetStop → n ≡ 1)
 
 -- word i of the event at p was seen; the tail was not so far ahead that the cell was given again
 abbrev pub SawCell : ℕ → ℕ → ℕ → View → List (ℕ × Slot) → ℕ → Seat → Type 0

@@ -137,9 +137,9 @@ marked v s drawn h d = record v { shelves = s ∷ []; drawn = drawn; held = with
 abbrev pub raised : View → Held → Slot → ℕ → View
 raised v h y to = record v { held = record h { taken = y; tails = v.seen ∷ []; floor = Some to } ∷ without h.object v.held }
 
--- a view that takes in another's list
+-- a view that takes in another's list, and what it read
 abbrev pub both : View → View → View
-both v u = record v { shelves = v.shelves ++ u.shelves; seen = max v.seen u.seen; quiet = v.quiet || u.quiet }
+both v u = record v { shelves = v.shelves ++ u.shelves; seen = max v.seen u.seen; reads = v.reads ++ u.reads; quiet = v.quiet || u.quiet }
 
 -- the hold of a held object was loaded
 abbrev pub saw_floor : View → Held → ℕ → View

@@ -15,12 +15,12 @@ use Rattle.gl_table.specs.CaughtUp.{caught_up}
 use Rattle.gl_table.specs.PassInside.{IsReady}
 use Rattle.gl_state.specs.ListView.{ListView}
 use Rattle.gl_rule.specs.Objects.{Key, objects, capacity, cell_at}
-use Rattle.gl_rule.specs.View.{View, Held, Shelf, shelf, Hold, Stop, SetStop}
+use Rattle.gl_rule.specs.View.{View, Held, Shelf, shelf, Hold, SetStop}
 use Rattle.gl_rule.specs.Fitting.{MayPublish, MayMark, MayOpen, MayWalk, MayStoreWord, MayRaise, MayTrim}
-use Rattle.gl_table.specs.Putting.{MayPutBack}
+use Rattle.gl_table.specs.Putting.{MayPutBack, DoesNotHold}
 use Rattle.gl_rule.specs.Rule.{Rule}
 use Rattle.gl_table.specs.Says.{EventSaid, MarkSaid}
-use Rattle.gl_rule.specs.Told.{Took, Left, SawTail, Saw, SawHold, PutWord, PublishedAct, Marked, Opened, SawCell, SawEvent, SawFloor, Raised, Lowered}
+use Rattle.gl_rule.specs.Told.{Took, Left, SawTail, Saw, SawStop, SawHold, PutWord, PublishedAct, Marked, Opened, SawCell, SawEvent, SawFloor, Raised, Lowered}
 use Rattle.gl_table.specs.Told.{PaidLeft, PublishedTx}
 use Rattle.gl_table.specs.Committing.{commit_stamp}
 use Rattle.gl_model.specs.declared.tx.Tx.{Tx}
@@ -40,10 +40,10 @@ module _ (key : Key) (slots id : ℕ) (me : table.Me Slot View) (t : ℕ) (es : 
   as_told : (i : ℕ) (f : ℕ → ℕ) (tells : View → ℕ → table.Me Slot View → Type 0) → table.Allows (Rule key) slots id (caught_up me.0 t es, me.1) i f (tells (caught_up me.0 t es)) → table.Allows (Rule key) slots id me i f (tells u)
   as_told i f tells a = subst (λ z. table.Allows (Rule key) slots id me i f (tells z)) (sym told) (record_first key slots id me.0 (caught_up me.0 t es) me.1 ready.more i f (tells (caught_up me.0 t es)) ready.adds a)
 
-  pub may_take : (setting : Setting) (k y : ℕ) → y ≡ k → setting ≡ key.setting → k < objects → table.Allows (Rule key) slots id me (3 * k + 1) (λ n. either (n == 0) (t + 1) n) (Took setting y u me.1)
-  may_take setting k y is same near =
+  pub may_take : (setting : Setting) (k y : ℕ) → y ≡ k → setting ≡ key.setting → k < objects → DoesNotHold (caught_up me.0 t es).held k → table.Allows (Rule key) slots id me (3 * k + 1) (λ n. either (n == 0) (t + 1) n) (Took setting y u me.1)
+  may_take setting k y is same near free =
       subst (λ s. table.Allows (Rule key) slots id me (3 * k + 1) (λ n. either (n == 0) (t + 1) n) (Took s y u me.1)) (sym same)
-      (subst (λ z. table.Allows (Rule key) slots id me (3 * k + 1) (λ n. either (n == 0) (t + 1) n) (Took key.setting z u me.1)) (sym is) (as_told (3 * k + 1) (λ n. either (n == 0) (t + 1) n) (λ z. Took key.setting k z me.1) (takes_turn key slots id k (caught_up me.0 t es) me.1 (shelf t es) near refl)))
+      (subst (λ z. table.Allows (Rule key) slots id me (3 * k + 1) (λ n. either (n == 0) (t + 1) n) (Took key.setting z u me.1)) (sym is) (as_told (3 * k + 1) (λ n. either (n == 0) (t + 1) n) (λ z. Took key.setting k z me.1) (takes_turn key slots id k (caught_up me.0 t es) me.1 (shelf t es) near refl (λ o. free o.0 o.1 o.2))))
 
   pub may_leave : (k y : ℕ) (q r : Bool) → y ≡ k → r ≡ q → objects ≤ slots
       → (x : Slot) × (c : List (ℕ × Slot)) × (me.1 ≡ (k, x) ∷ c) × MayPutBack key.setting (shelf t es) (caught_up me.0 t es) k x q
@@ -64,8 +64,8 @@ module _ (key : Key) (slots id : ℕ) (me : table.Me Slot View) (t : ℕ) (es : 
   pub may_set : table.Allows (Rule key) slots id me 3075 (λ _. 1) (λ _. Saw SetStop u me.1)
   may_set = as_told 3075 (λ _. 1) (λ z _. Saw SetStop z me.1) (sets_stop key slots id (caught_up me.0 t es) me.1)
 
-  pub may_stop : table.Allows (Rule key) slots id me 3075 (λ n. n) (λ n. Saw (Stop n) u me.1)
-  may_stop = as_told 3075 (λ n. n) (λ z n. Saw (Stop n) z me.1) (loads_stop key slots id (caught_up me.0 t es) me.1)
+  pub may_stop : table.Allows (Rule key) slots id me 3075 (λ n. n) (SawStop u me.1)
+  may_stop = as_told 3075 (λ n. n) (λ z. SawStop z me.1) (loads_stop key slots id (caught_up me.0 t es) me.1)
 
   pub may_put : (cell i n : ℕ) → (h : Held) × (tail : ℕ) × MayStoreWord key (caught_up me.0 t es) h tail × (cell ≡ tail % capacity key) → i ≡ length (caught_up me.0 t es).stored → table.Allows (Rule key) slots id me (3076 + 5 * cell + i) (λ _. n) (λ _. PutWord n u me.1)
   may_put cell i n (h, tail, may, here) next =

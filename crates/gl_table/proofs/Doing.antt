@@ -1,5 +1,5 @@
 -- A pass between taking the list and putting it back.
-use Rattle.std.proofs.Common.{◌≡◌, ℕ, suc, ◌+◌, ◌*◌, ◌<◌, List, [], ◌∷◌, ◌++◌, eq-eqb, refl, sym, ap, subst, arith, ◌∙◌, false, Some, inr}
+use Rattle.std.proofs.Common.{◌≡◌, ℕ, suc, ◌+◌, ◌*◌, ◌<◌, List, [], ◌∷◌, ◌++◌, length, eq-eqb, refl, sym, ap, subst, arith, ◌∙◌, false, Some, inr}
 use Rattle.std.specs.Prelude.{ℤ, Contains, Option, if◌then◌else◌}
 use Rattle.gl_model.specs.declared.event.Act.{Act}
 use Rattle.gl_model.specs.declared.event.Event.TheVariants.{Act as Does}
@@ -18,7 +18,7 @@ use Rattle.gl_rule.specs.Lives.{Running, life_of}
 use Rattle.gl_rule.specs.Objects.{Key, capacity}
 use Rattle.gl_table.specs.PassView.{PassView, view_of, shelf_of, after, after_storing}
 use Rattle.gl_draws.specs.Forming.{MayStore}
-use Rattle.gl_table.specs.Putting.{MayPublishAct, MayPutBack}
+use Rattle.gl_table.specs.Putting.{DoesNotHold, MayPublishAct, MayPutBack}
 use Rattle.gl_state.specs.States.{IsStateOf, monitor_state}
 use Rattle.gl_table.specs.TableView.{TableView}
 use Rattle.gl_rule.specs.Taken.{StateTold}
@@ -29,6 +29,10 @@ use Rattle.gl_table.proofs.Passes.{published_object}
 use Rattle.gl_draws.proofs.Running.{running_law}
 use Rattle.gl_table.proofs.Depths.{depth_law}
 use Rattle.gl_rule.proofs.Lasting.{no_end, no_over, has_block, has_begun}
+
+-- who holds nothing does not hold this
+pub holds_none : (held : List Held) (k : ℕ) → held ≡ [] → DoesNotHold held k
+holds_none held k none h c = absurd (let n : length held ≡ 0 = ap length none in let l = c.1 in omega arith)
 
 -- the list was taken
 abbrev pub with_list : PassView → ListView → PassView

@@ -1,5 +1,5 @@
 -- The passes of a table, one after another, while their lists are gathered.
-use Rattle.std.proofs.Common.{◌≡◌, ℕ, zero, suc, ◌+◌, ◌<◌, List, [], ◌∷◌, ◌++◌, length, map, sym, refl, ap, subst, arith, ◌∙◌, ⊎_elim, true, false, Bool, ◌==◌}
+use Rattle.std.proofs.Common.{◌≡◌, ℕ, zero, suc, ◌+◌, ◌<◌, List, [], ◌∷◌, ◌++◌, length, length-append, map, sym, refl, ap, subst, arith, ◌∙◌, ⊎_elim, true, false, Bool, ◌==◌}
 use Rattle.std.specs.Prelude.{slice_get, Some, Contains, ◌≢◌}
 use Rattle.std.specs.List.{AllByRecursion}
 use Rattle.std.proofs.lemmas.List.{map-append}
@@ -31,7 +31,7 @@ use Rattle.gl_table.specs.PassView.{PassView, shelf_of}
 
 -- the root, which has no list yet
 pub root_none : IsRoot (blank [], []) []
-root_none = record { out = refl; shelves = refl; held = refl; drawn = refl; stored = refl; owed = refl; done = λ s c. absurd (let near = c.1 in omega arith) }
+root_none = record { unread = λ e. refl; out = refl; shelves = refl; held = refl; drawn = refl; stored = refl; owed = refl; done = λ s c. absurd (let near = c.1 in omega arith) }
 
 one_in : (s r : Shelf) → Contains (s ∷ []) r → s ≡ r
 one_in s r (zero, near, is) = is
@@ -50,10 +50,11 @@ joins_root key id other me u ps r root one free done st rule at apart there =
     let there' : get_elem? st.views other ≡ some u = ⊎_elim (λ (t : (other ≡ id) × (both v u ≡ u)). absurd (apart t.0)) (λ (t : (other ≢ id) × (get_elem? st.views other ≡ some u)). t.1) (at_set st.views id other (both v u) u there) in
     let has : Contains u.shelves r = subst (λ l. Contains l r) (sym one) (zero, omega arith, refl) in
     let all = one_done u r one done in
-    joins key id other v u free root.held (drew_all key w st other u H there' free all r has) root.drawn root.stored (paid_all key w st other u H there' free all) root.owed st rule at apart there
+    joins key id other v u r root.unread has free root.held (drew_all key w st other u H there' free all r has) root.drawn root.stored (paid_all key w st other u H there' free all) root.owed st rule at apart there
 
 pub root_more : (me : table.Me Slot View) (u : View) (ps : List PassView) (p : PassView) → IsRoot me ps → u.shelves ≡ shelf_of p ∷ [] → IsDone p.own.mine u.quiet → IsRoot (both me.0 u, me.1) (ps ++ p ∷ [])
 root_more me u ps p root one done = record {
+  unread = λ e. absurd (let l = length-append me.0.shelves u.shelves in let n : length (me.0.shelves ++ u.shelves) ≡ 0 = ap length e in let m : length u.shelves ≡ 1 = ap length one in omega arith);
   out = root.out;
   shelves = ap (λ l. l ++ u.shelves) root.shelves ∙ ap (λ l. shelves_of ps ++ l) one ∙ sym (map-append shelf_of ps (p ∷ []));
   held = root.held;

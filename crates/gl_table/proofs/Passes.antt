@@ -104,15 +104,15 @@ module _ (me : table.Me Slot View) (t : ℕ) (mine : List Entry) (seen : ℕ) (o
   pub pass_steps : (u : View) (c : List (ℕ × Slot)) (order' : List ℕ) (quiet' : Bool) (w : table.Me Slot View) → u.shelves ≡ shelf t mine ∷ [] → u.seen ≡ now.seen → quiet' ≡ u.quiet → u.stored ≡ [] → AreOut c order' u.held → w ≡ (u, c) → IsPass w t mine seen order' quiet'
   pass_steps u c order' quiet' w one sees quiets unstored gone is = subst (λ x. IsPass x t mine seen order' quiet') (sym is) (is_pass u c t mine seen order' quiet' one p.ready.named (p.sees ∙ sym sees) quiets unstored gone p.below p.kept)
 
-  pub pass_refuses : (setting : Setting) (k n : ℕ) (w : table.Me Slot View) → Took setting k now me.1 n w → n ≢ 0 → IsPass w t mine seen order quiet × (w.0 ≡ refused now k (n - 1)) × (n ≤ THREADS)
+  pub pass_refuses : (setting : Setting) (k n : ℕ) (w : table.Me Slot View) → Took setting k now me.1 n w → n ≢ 0 → IsPass w t mine seen order quiet × (w.0 ≡ refused now k (n - 1)) × (n ≤ THREADS) × (n - 1 ≢ t)
   pass_refuses setting k n w told busy =
       ⊎_elim
       (λ a. absurd (busy a.0))
-      (λ b. (pass_steps (refused now k (n - 1)) me.1 order quiet w refl refl p.quiets p.unstored p.out b.2, ap (λ x. x.0) b.2, b.1))
+      (λ b. (pass_steps (refused now k (n - 1)) me.1 order quiet w refl refl p.quiets p.unstored p.out b.2, ap (λ x. x.0) b.2, b.1, b.3 (shelf t mine) refl))
       told
 
   -- what was taken lies in front
-  pub took_slot : (setting : Setting) (k n : ℕ) (w : table.Me Slot View) → Took setting k now me.1 n w → n ≡ 0 → (y : Slot) × (w ≡ (took now k y, (k, y) ∷ me.1)) × TakenTold setting now k y × (HasObject now k → ⊥)
+  pub took_slot : (setting : Setting) (k n : ℕ) (w : table.Me Slot View) → Took setting k now me.1 n w → n ≡ 0 → (y : Slot) × (w ≡ (took now k y, (k, y) ∷ me.1)) × TakenTold setting now k y
   took_slot setting k n w told hit = ⊎_elim (λ a. a.1) (λ b. absurd (b.0 hit)) told
 
   -- there is room for what was taken

@@ -48,6 +48,7 @@ pub record ClosedTold (key : Key) (v : View) (w : Seat) : Type 0 where
 pub record IsRoot (me : Seat) (ps : List PassView) : Type 0 where
   pub out : me.1 ≡ []
   pub shelves : me.0.shelves ≡ shelves_of ps
+  pub unread : me.0.shelves ≡ [] → me.0.reads ≡ []
   pub held : me.0.held ≡ []
   pub drawn : me.0.drawn ≡ []
   pub stored : me.0.stored ≡ []

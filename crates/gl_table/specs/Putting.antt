@@ -1,5 +1,5 @@
 -- What is asked of an object that is put back.
-use Rattle.std.specs.Prelude.{◌≡◌, ℕ, suc, Option, ℤ, ◌%◌, Bool, true, false, Contains, List, [], ◌∷◌, ◌++◌, ◌+◌, ◌==◌, if◌then◌else◌}
+use Rattle.std.specs.Prelude.{◌≡◌, ◌≢◌, ℕ, suc, Option, ℤ, ◌%◌, Bool, true, false, Contains, List, [], ◌∷◌, ◌++◌, ◌+◌, ◌==◌, if◌then◌else◌}
 use Rattle.gl_model.specs.Machine.{Setting}
 use Rattle.gl_rule.specs.declared.slot.Slot.{Slot}
 use Rattle.gl_rule.specs.declared.slot.Slot.TheVariants as slot
@@ -45,6 +45,10 @@ pub record MayPublishAct (key : Key) (p : PassView) (act : Act) (value : ℤ) (s
   pub old : ListView
   pub may : MayPublish key (shelf_of p) (record (view_of p) { stored = packed (record { thread = p.own.id; event = Does act }) }) held old state (λ n. Sync n act value) (record { thread = p.own.id; event = Does act }) value
   pub tail : may.tail ≡ p.seen
+
+-- object k is none of these
+abbrev pub DoesNotHold : List Held → ℕ → Type 0
+DoesNotHold held k = (h : Held) → Contains held h → h.object ≢ k
 
 -- the first held object with this number
 abbrev pub held_at : ℕ → List Held → Held

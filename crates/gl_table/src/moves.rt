@@ -15,9 +15,9 @@ ghost use Rattle.gl_state.specs.ListView.{ListView};
 ghost use Rattle.gl_rule.specs.Objects.{capacity, objects};
 ghost use Rattle.gl_table.specs.OfTable.{OfTable};
 ghost use Rattle.gl_table.specs.PassInside.{IsReady};
-ghost use Rattle.gl_table.specs.Putting.{MayPutBack, held_at};
-ghost use Rattle.gl_rule.specs.Told.{Took, Left, SawTail, Saw, SawHold, PutWord, PublishedAct, Marked, Opened, SawCell, SawEvent, SawFloor, Raised, Lowered};
-ghost use Rattle.gl_rule.specs.View.{Shelf, shelf, Held, Hold, Stop, SetStop};
+ghost use Rattle.gl_table.specs.Putting.{DoesNotHold, MayPutBack, held_at};
+ghost use Rattle.gl_rule.specs.Told.{Took, Left, SawTail, Saw, SawStop, SawHold, PutWord, PublishedAct, Marked, Opened, SawCell, SawEvent, SawFloor, Raised, Lowered};
+ghost use Rattle.gl_rule.specs.View.{Shelf, shelf, Held, Hold, SetStop};
 ghost use Rattle.gl_rule.specs.declared.slot.Slot.{Slot as ASlot};
 ghost use Rattle.gl_rule.specs.declared.slot.Slot.TheVariants as slot;
 
@@ -47,6 +47,7 @@ pub fn take_turn<B: Told>(
     requires ready { IsReady seat.old.me.0 id mine.now.entries }
     requires told { (B.view ≡ caught_up seat.old.me.0 id mine.now.entries) × (B.object ≡ object) × (B.setting ≡ (key_of board.now.key).setting) }
     requires near { object < objects }
+    requires free { DoesNotHold (caught_up seat.old.me.0 id mine.now.entries).held object }
     ensures seat { (seat.new.table_id ≡ seat.old.table_id) × (seat.new.id ≡ seat.old.id) }
     ensures took { Took (key_of board.now.key).setting object (caught_up seat.old.me.0 id mine.now.entries) seat.old.me.1 result seat.new.me }
 {
@@ -230,7 +231,7 @@ pub fn load_stop<B: Told>(board: &Board, seat: &mut Seat, id: u8, mine: &OwnList
     requires ready { IsReady seat.old.me.0 id mine.now.entries }
     requires told { B.view ≡ caught_up seat.old.me.0 id mine.now.entries }
     ensures seat { (seat.new.table_id ≡ seat.old.table_id) × (seat.new.id ≡ seat.old.id) }
-    ensures saw { Saw (Stop result) (caught_up seat.old.me.0 id mine.now.entries) seat.old.me.1 seat.new.me }
+    ensures saw { SawStop (caught_up seat.old.me.0 id mine.now.entries) seat.old.me.1 result seat.new.me }
 {
     board.load::<SeesStop<B>>(seat, 3075)
 }

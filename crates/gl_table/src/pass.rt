@@ -1,5 +1,5 @@
 // What one thread brings to the table and takes from it.
-ghost use Rattle.std.specs.Prelude.{◌≡◌, map, ◌||◌, ℕ, ◌<◌, ◌≤◌, ◌+◌, true, false, suc, Contains, OnOk, OnErr, IfOk, IfErr, Some};
+ghost use Rattle.std.specs.Prelude.{◌≡◌, ◌≢◌, map, ◌||◌, ℕ, ◌<◌, ◌≤◌, ◌+◌, true, false, suc, Contains, OnOk, OnErr, IfOk, IfErr, Some};
 ghost use Rattle.gl_model.specs.declared.limits.TheConstants.{THREADS};
 ghost use Rattle.gl_model.specs.Entries.{Abort, Over, Plain};
 ghost use Rattle.gl_rule.specs.Lives.{Ended, life_of};
@@ -16,7 +16,7 @@ ghost use Rattle.gl_table.specs.Lowering.{lowered_pass};
 ghost use Rattle.gl_rule.specs.Objects.{objects};
 ghost use Rattle.gl_table.specs.OfTable.{OfTable};
 ghost use Rattle.gl_table.specs.PassView.{view_of, shelf_of, after, after_adding};
-ghost use Rattle.gl_table.specs.Putting.{MayAbort, MayPutBack, held_at};
+ghost use Rattle.gl_table.specs.Putting.{DoesNotHold, MayAbort, MayPutBack, held_at};
 ghost use Rattle.gl_rule.specs.Taken.{TakenTold};
 ghost use Rattle.gl_draws.specs.RowFacts.{IsWithin};
 ghost use Rattle.gl_rule.specs.Knowledge.{AreBelow};
@@ -160,9 +160,11 @@ impl Pass {
 pub(crate) fn take_object(board: &Board, pass: &mut Pass, k: u16) -> Result<Slot, u8>
     requires table { OfTable pass.old.own.table board.now.table_id (key_of board.now.key) }
     requires near { k < objects }
+    requires free { DoesNotHold pass.old.own.held k }
     ensures ok { IfOk result (λ y. pass.new ≡ after pass.old (took (view_of pass.old) k y)) }
     ensures told { IfOk result (λ y. TakenTold (key_of board.now.key).setting (view_of pass.old) k y) }
     ensures busy { IfErr result (λ by. (by < 16) × (pass.new ≡ after pass.old (refused (view_of pass.old) k by))) }
+    ensures other { IfErr result (λ by. by ≢ pass.old.own.id) }
 {
     let found = take_turn::<Brand>(board, &mut pass.seat, pass.id, &pass.mine, k);
     if found != 0 {
@@ -229,6 +231,8 @@ pub(crate) fn stop(board: &Board, pass: &mut Pass)
 pub(crate) fn see_stop(board: &Board, pass: &mut Pass) -> u64
     requires table { OfTable pass.old.own.table board.now.table_id (key_of board.now.key) }
     ensures pass { pass.new ≡ after pass.old (saw (view_of pass.old) (Stop result)) }
+    ensures risen { (m : ℕ) → Contains pass.old.reads (Stop m) → m ≤ result }
+    ensures own { Contains pass.old.reads SetStop → result ≡ 1 }
 {
     load_stop::<Brand>(board, &mut pass.seat, pass.id, &pass.mine)
 }

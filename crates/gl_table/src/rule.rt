@@ -214,10 +214,9 @@ impl<B: Told> Play<Slot, Know> for Stops<B> {
 pub struct SeesStop<B>(PhantomData<B>);
 
 impl<B: Told> Play<Slot, Know> for SeesStop<B> {
-    ghost use Rattle.gl_rule.specs.Told.{Saw};
-    ghost use Rattle.gl_rule.specs.View.{Stop};
+    ghost use Rattle.gl_rule.specs.Told.{SawStop};
 
-    ghost then = { λ s v n w. Saw (Stop n) B.view v.1 w };
+    ghost then = { λ s v n w. SawStop B.view v.1 n w };
 }
 
 pub struct Opens<B>(PhantomData<B>);

@@ -11,7 +11,7 @@ ghost use Rattle.gl_table.specs.Committing.{MayPublishTx, published_tx};
 ghost use Rattle.gl_table.specs.Walking.{four_words, knew};
 ghost use Rattle.gl_table.specs.Lowering.{lowered_pass};
 ghost use Rattle.gl_table.specs.PassView.{view_of, shelf_of, after};
-ghost use Rattle.gl_table.specs.Putting.{MayPutBack, MayPublishAct, MayMarkPlain, MayOpenOn, MayPayOn, held_at, marked_plain, opened, paid_back, published_act};
+ghost use Rattle.gl_table.specs.Putting.{DoesNotHold, MayPutBack, MayPublishAct, MayMarkPlain, MayOpenOn, MayPayOn, held_at, marked_plain, opened, paid_back, published_act};
 ghost use Rattle.gl_rule.specs.Taken.{StateTold};
 ghost use Rattle.gl_draws.specs.RowFacts.{IsWithin};
 ghost use Rattle.gl_rule.specs.Knowledge.{AreBelow};
@@ -60,12 +60,14 @@ pub struct Busy {
 }
 
 impl Shared {
-    /// Tries to take the list's state.
+    /// Tries to take the list's state, which the pass does not hold. The Err names another pass, which holds it.
     pub fn take_list(&self, pass: &mut Pass) -> Result<ListState, Busy>
         requires table { pass.old.own.table ≡ self.now.id }
+        requires free { DoesNotHold pass.old.own.held 0 }
         ensures ok { IfOk result (λ l. pass.new ≡ after pass.old (took (view_of pass.old) 0 (slot.List l))) }
         ensures told { IfOk result (λ l. StateTold self.now.key.setting (view_of pass.old) l) }
         ensures busy { IfErr result (λ b. (b.by < 16) × (pass.new ≡ after pass.old (refused (view_of pass.old) 0 b.by))) }
+        ensures other { IfErr result (λ b. b.by ≢ pass.old.own.id) }
     {
         match take_object(&self.table.shared, pass, 0) {
             Ok(Slot::List(state)) => Ok(state),
@@ -168,12 +170,14 @@ impl Shared {
         event_at(&self.table.shared, pass, self.layout.ring.len(), pos)
     }
 
-    /// Tries to take a row.
+    /// Tries to take a row, which the pass does not hold. The Err names another pass, which holds it.
     pub fn take_row(&self, pass: &mut Pass, var: u16) -> Result<KeptRow, Busy>
         requires table { pass.old.own.table ≡ self.now.id }
         requires near { var < VARIABLES }
+        requires free { DoesNotHold pass.old.own.held (suc var) }
         ensures ok { IfOk result (λ r. pass.new ≡ after pass.old (took (view_of pass.old) (suc var) (slot.Row r))) }
         ensures busy { IfErr result (λ b. (b.by < 16) × (pass.new ≡ after pass.old (refused (view_of pass.old) (suc var) b.by))) }
+        ensures other { IfErr result (λ b. b.by ≢ pass.old.own.id) }
     {
         match take_object(&self.table.shared, pass, var + 1) {
             Ok(Slot::Row(row)) => Ok(row),
@@ -254,10 +258,12 @@ impl Shared {
         stop(&self.table.shared, pass);
     }
 
-    /// Whether the passes were told to stop.
+    /// Whether the passes were told to stop. Once this pass told them, or learnt that they were told, they were.
     pub fn stopped(&self, pass: &mut Pass) -> bool
         requires table { pass.old.own.table ≡ self.now.id }
-        ensures { (n : ℕ) × (IsTrue result ↔ (n ≢ 0)) × (pass.new ≡ after pass.old (saw (view_of pass.old) (Stop n))) }
+        ensures pass { (n : ℕ) × (IsTrue result ↔ (n ≢ 0)) × (pass.new ≡ after pass.old (saw (view_of pass.old) (Stop n))) }
+        ensures risen { (m : ℕ) → Contains pass.old.reads (Stop m) → m ≢ 0 → IsTrue result }
+        ensures own { Contains pass.old.reads SetStop → IsTrue result }
     {
         see_stop(&self.table.shared, pass) != 0
     }

@@ -29,7 +29,9 @@ fn layout(alloc: Global) -> Layout
 // How many threads are live by the list's state; None where another pass holds it.
 fn live(shared: &Shared, pass: &mut Pass) -> Option<usize>
     requires table { pass.old.own.table ≡ shared.now.id }
+    requires held { pass.old.own.held ≡ [] }
     ensures table { pass.new.own.table ≡ pass.old.own.table }
+    ensures held { pass.new.own.held ≡ [] }
 {
     let Ok(state) = shared.take_list(pass) else {
         return None;
@@ -43,7 +45,9 @@ fn live(shared: &Shared, pass: &mut Pass) -> Option<usize>
 fn word(shared: &Shared, pass: &mut Pass, var: u16) -> Option<i64>
     requires table { pass.old.own.table ≡ shared.now.id }
     requires near { var < VARIABLES }
+    requires held { pass.old.own.held ≡ [] }
     ensures table { pass.new.own.table ≡ pass.old.own.table }
+    ensures held { pass.new.own.held ≡ [] }
 {
     let Ok(kept) = shared.take_row(pass, var) else {
         return None;
@@ -79,7 +83,9 @@ fn a_table_begins(rt: HostRuntime) -> Result<(), Fail> {
 // How often the list was taken and put back, in so many tries.
 fn rounds(shared: &Shared, pass: &mut Pass, tries: u32) -> u32
     requires table { pass.old.own.table ≡ shared.now.id }
+    requires held { pass.old.own.held ≡ [] }
     ensures table { pass.new.own.table ≡ pass.old.own.table }
+    ensures held { pass.new.own.held ≡ [] }
     ensures few { result ≤ tries }
 {
     let mut taken = 0;
@@ -94,14 +100,15 @@ fn rounds(shared: &Shared, pass: &mut Pass, tries: u32) -> u32
 // The same of two passes, each in a thread of its own.
 fn both<R: Threads + Sync>(rt: &R, shared: &Shared, mut one: Pass, mut other: Pass) -> (u32, u32)
     requires table { (one.own.table ≡ shared.now.id) × (other.own.table ≡ shared.now.id) }
+    requires held { (one.own.held ≡ []) × (other.own.held ≡ []) }
 {
     thread::join(
         rt,
         move || -> u32
-            requires { one.own.table ≡ shared.now.id }
+            requires { (one.own.table ≡ shared.now.id) × (one.own.held ≡ []) }
         { rounds(shared, &mut one, ROUNDS) },
         move || -> u32
-            requires { other.own.table ≡ shared.now.id }
+            requires { (other.own.table ≡ shared.now.id) × (other.own.held ≡ []) }
         { rounds(shared, &mut other, ROUNDS) },
     )
 }

@@ -1,11 +1,9 @@
 -- Why an attempt ended as it did, or waits, from the list back to its rows.
-use Rattle.std.proofs.Common.{◌≡◌, ◌≢◌, ℕ, zero, suc, ◌+◌, ◌-◌, ◌<◌, ◌≤◌, List, [], ◌∷◌, ◌++◌, length, map, true, false, Bool, refl, sym, ap, ◌∙◌, subst, arith, Some, None, inl, inr, append_assoc, append-nil}
-use Rattle.std.specs.Prelude.{Contains, Option, ◌⊎◌, slice_get}
-use Rattle.gl_model.specs.declared.event.Stamp.{Stamp}
+use Rattle.std.proofs.Common.{◌≡◌, ℕ, suc, [], ◌∷◌, ◌++◌, ap, ◌∙◌, append_assoc}
 use Rattle.gl_model.specs.declared.tx.Tx.{Tx}
 use Rattle.gl_model.specs.Entries.{Commit}
 use Rattle.gl_rule.specs.declared.slot.Slot.TheVariants as slot
-use Rattle.gl_rule.specs.View.{Read, Busy, Taken, Hold}
+use Rattle.gl_rule.specs.View.{Taken, Hold}
 use Rattle.gl_state.specs.ListView.{ListView}
 use Rattle.gl_table.specs.Committing.{commit_stamp}
 use Rattle.gl_table.specs.PassView.{PassView}
@@ -17,8 +15,8 @@ use Rattle.gl_txn.specs.declared.stops.TxWait.{TxWait}
 use Rattle.gl_txn.specs.declared.stops.TxWait.TheVariants as wait
 
 -- the list was reached and the commit published
-pub reached_done : (z : TableView) (l : ListView) (tx : Tx) (at : ℕ) (p q r : PassView) → HasReached z p l q → HasPublished tx at q r → q.seen ≤ at → ReachedDone z at p r
-reached_done z l tx at p q r h u later =
+pub reached_done : (z : TableView) (l : ListView) (tx : Tx) (at : ℕ) (p q r : PassView) → HasReached z p l q → HasPublished tx at q r → at ≡ q.seen → ReachedDone z at p r
+reached_done z l tx at p q r h u here =
     let e = u.is ∙ ap (λ (v : PassView). record (with_entry v (Commit at u.ended)) { seen = suc at; known = v.known ++ (at, commit_stamp v.own.id u.ended) ∷ []; stored = [] }) h.is in
     record {
       list = l;
@@ -26,7 +24,7 @@ reached_done z l tx at p q r h u later =
       tail = h.tail;
       reads = ap (λ (v : PassView). v.reads) e ∙ append_assoc p.reads (Taken 0 (slot.List l) ∷ []) (Hold 0 h.low ∷ []);
       later = h.later;
-      behind = (let s = ap (λ (v : PassView). v.seen) h.is in omega arith);
+      here = here ∙ ap (λ (v : PassView). v.seen) h.is;
       room = h.room;
       seen = ap (λ (v : PassView). v.seen) e;
       more = (at, commit_stamp p.own.id u.ended) ∷ [];

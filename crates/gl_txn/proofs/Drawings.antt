@@ -1,6 +1,6 @@
 -- A number more, for the end of an attempt.
-use Rattle.std.proofs.Common.{◌≡◌, ◌≢◌, ℕ, zero, suc, ◌+◌, ◌<◌, ◌≤◌, ◌==◌, List, [], ◌∷◌, ◌++◌, length, map, true, false, Bool, refl, sym, ap, ◌∙◌, subst, arith, Some, None, inl, inr, eq-eqb, ne_eqb, add-one, append_assoc}
-use Rattle.std.specs.Prelude.{Contains, Option, ◌⊎◌, ℤ, if◌then◌else◌}
+use Rattle.std.proofs.Common.{◌≡◌, ◌≢◌, ℕ, zero, suc, ◌+◌, ◌==◌, List, [], ◌∷◌, ◌++◌, map, true, false, refl, sym, ap, ◌∙◌, subst, arith, Some, None, inl, inr, ne_eqb, add-one, append_assoc}
+use Rattle.std.specs.Prelude.{Contains, Option, ℤ, if◌then◌else◌}
 use Rattle.std.proofs.lemmas.Bool.{cases_Bool}
 use Rattle.std.proofs.lemmas.List.Elements.{Contains-push_cases}
 use native.Mathlib.Decide.{ℕ_discrete}
@@ -9,7 +9,6 @@ use Rattle.gl_model.specs.Trace.{is_in}
 use Rattle.gl_draws.specs.Draws.{Draw, draw, Open}
 use Rattle.gl_draws.specs.Ties.{Drawn}
 use Rattle.gl_draws.proofs.EntryKinds.{is_in-contains, contains-is_in}
-use Rattle.gl_rule.specs.declared.slot.Slot.TheVariants as slot
 use Rattle.gl_rule.specs.Fitting.{MayOpen}
 use Rattle.gl_rule.specs.Numbers.{count_on}
 use Rattle.gl_rule.specs.Told.{IsAboveDrawn}
@@ -19,7 +18,7 @@ use Rattle.gl_table.specs.CaughtUp.{block_of}
 use Rattle.gl_table.specs.PassView.{PassView, view_of, shelf_of}
 use Rattle.gl_table.specs.Putting.{MayOpenOn, held_at, opened}
 use Rattle.gl_txn.specs.Drawing.{end_of, numbered, drew_on, MayNumber, HasDrawn}
-use Rattle.gl_txn.specs.Holding.{vars_of, found, row_at, row_held, held_by, held_of, AreHeld, undrawn}
+use Rattle.gl_txn.specs.Holding.{found, row_at, row_held, held_by, held_of, AreHeld}
 use Rattle.gl_txn.specs.declared.taken.TakenRow.{TakenRow}
 use Rattle.gl_txn.proofs.Finding.{found_here, found_past, found_held, found_at, found_gone, found_still, once_more, once_without}
 use Rattle.gl_txn.proofs.Holdings.{row_among}

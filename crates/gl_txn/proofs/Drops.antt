@@ -1,28 +1,32 @@
 -- An attempt that is dropped, from the number of its end to its rows going back.
-use Rattle.std.proofs.Common.{◌≡◌, ◌≢◌, ℕ, zero, suc, ◌+◌, ◌-◌, ◌<◌, ◌≤◌, ◌==◌, ◌^◌, List, [], ◌∷◌, ◌++◌, length, map, true, false, Bool, refl, sym, ap, ◌∙◌, subst, arith, Some, None, inl, inr, eq-eqb, ne_eqb}
-use Rattle.std.specs.Prelude.{Contains, Option, ℤ, if◌then◌else◌, slice_get}
+use Rattle.gl_model.specs.Kept.{AreVariables}
+use Rattle.gl_model.specs.Rising.{with_all}
+use Rattle.gl_txn.proofs.Finding.{found_held}
+use Rattle.gl_txn.proofs.Holdings.{row_among}
+use Rattle.gl_txn.proofs.Refusals.{row_of, lower_before}
+use Rattle.gl_txn.proofs.Changes.{look_found, place_at}
+use Rattle.std.proofs.Common.{◌≡◌, ℕ, zero, suc, ◌<◌, ◌==◌, List, [], ◌∷◌, ◌++◌, map, true, false, refl, sym, ap, ◌∙◌, subst, arith, Some, None, ne_eqb}
+use Rattle.std.specs.Prelude.{Contains, ℤ}
 use native.Mathlib.Decide.{ℕ_discrete}
 use Rattle.gl_model.specs.declared.tx.Look.{Look}
 use Rattle.gl_model.specs.declared.tx.Number.{Number}
 use Rattle.gl_model.specs.declared.tx.Pair.{Pair}
 use Rattle.gl_model.specs.declared.tx.Tx.{Tx}
 use Rattle.gl_model.specs.declared.tx.Why.TheVariants.{Changed, Raised}
-use Rattle.gl_model.specs.Entries.{Entry, Abort}
+use Rattle.gl_model.specs.Entries.{Abort}
 use Rattle.gl_model.specs.Trace.{is_in}
-use Rattle.gl_draws.specs.Draws.{Draw, draw, Looked, Entered}
-use Rattle.gl_draws.specs.Ties.{counted}
-use Rattle.gl_draws.proofs.EntryKinds.{is_in-contains}
-use Rattle.gl_rule.specs.Commits.{MayChange, with_drew}
-use Rattle.gl_rule.specs.Lives.{Running, life_of}
+use Rattle.gl_draws.specs.Draws.{draw, Looked, Entered}
+use Rattle.gl_draws.proofs.EntryKinds.{contains-is_in}
+use Rattle.gl_rule.specs.Commits.{with_drew, IsUnchanged}
 use Rattle.gl_rule.specs.Told.{IsAboveDrawn}
 use Rattle.gl_rule.specs.View.{Held}
 use Rattle.gl_table.specs.CaughtUp.{block_of}
-use Rattle.gl_table.specs.PassView.{PassView, view_of, shelf_of, after_adding}
+use Rattle.gl_table.specs.PassView.{PassView, view_of, after_adding}
 use Rattle.gl_table.specs.Putting.{MayAbort, opened}
 use Rattle.gl_txn.specs.Attempts.{Attempting}
-use Rattle.gl_txn.specs.Changing.{IsChange, IsFirstChange, look_in}
+use Rattle.gl_txn.specs.Changing.{IsFirstChange, look_in}
 use Rattle.gl_txn.specs.Drawing.{end_of, numbered, drew_on, MayNumber, HasDrawn, with_entry}
-use Rattle.gl_txn.specs.Holding.{vars_of, row_at, AreHeld, AreUnused, undrawn}
+use Rattle.gl_txn.specs.Holding.{vars_of, row_at, AreHeld, AreUnused, undrawn, row_held, held_by}
 use Rattle.gl_txn.specs.Trying.{Draws}
 use Rattle.gl_txn.specs.declared.changing.Change.{Change}
 use Rattle.gl_txn.specs.declared.taken.TakenRow.{TakenRow}
@@ -30,7 +34,7 @@ use Rattle.gl_txn.proofs.Drawings.{number_more, may_number}
 use Rattle.gl_txn.proofs.EndFacts.{after_numbers, end_tx, may_drop, unused_dropped}
 use Rattle.gl_txn.proofs.Numberings.{row_found, row_near, drawn_none}
 use Rattle.gl_txn.proofs.Sizes.{of_look}
-use Rattle.gl_txn.proofs.Unions.{found_part}
+use Rattle.gl_txn.proofs.Unions.{found_part, all_right}
 
 one_only : (y x : ℕ) → is_in y (x ∷ []) ≡ true → y ≡ x
 one_only y x b = elim (ℕ_discrete y x) [
@@ -66,8 +70,32 @@ module _ (a : Attempting) (writes : List Pair) (p : PassView) (rows : List Taken
       look_is : (k : Look) → k.var ≡ c.var → k.value ≡ c.read → k ≡ record { var = c.var; value = c.read; nth = k.nth }
       look_is k e g = ap (λ v. record k { var = v }) e ∙ ap (λ v. record k { var = c.var; value = v }) g
 
-  pub may_change : (q : PassView) (n : ℕ) → HasDrawn p q None rows [] (record { var = c.var; nth = n } ∷ []) → MayAbort q (record { looks = a.looks; writes = writes; numbers = record { var = c.var; nth = n } ∷ [] }) (Changed c.var c.read c.found)
-  may_change q n d =
+  unchanged : vars_of rows ≡ with_all (map (λ w. w.var) writes) (map (λ l. l.var) a.looks) → AreVariables (map (λ l. l.var) a.looks) → (q : PassView) (n : ℕ) → HasDrawn p q None rows [] (record { var = c.var; nth = n } ∷ []) → (l : Look) → Contains a.looks l → l.var < c.var
+      → IsUnchanged (view_of (record p { own = record p.own { held = q.own.held; drawn = p.own.drawn ++ map end_of (record { var = c.var; nth = n } ∷ []) } })) l
+  unchanged of looks q n d l has less =
+      let b : is_in l.var (vars_of rows) ≡ true = contains-is_in l.var (vars_of rows) (subst (λ ys. Contains ys l.var) (sym of) (all_right (map (λ w. w.var) writes) (map (λ l. l.var) a.looks) l.var (among a.looks l has))) in
+      let r = row_of rows l.var b in
+      let at : r.0.var ≡ l.var = (row_among rows l.var r.0 r.1).1 in
+      let k = place_at rows l.var r.0 r.1 in
+      let v = f.is.var in
+      let before = lower_before rows held.are.1 f.place k.0 f.row r.0 f.there k.1 (omega arith) in
+      let one : Held = row_held [] (drew_on p (c.var ∷ [])) r.0 in
+      record {
+        one = one;
+        row = r.0.row;
+        held = (found_held (suc l.var) q.own.held one (d.held.at (suc l.var) ∙ ap (held_by [] (drew_on p (c.var ∷ []))) r.1)).0;
+        object = ap suc at;
+        taken = refl;
+        word = sym (f.before k.0 r.0 before k.1 l (ap (look_in a.looks) at ∙ look_found a.looks looks.1 l has));
+      }
+    where
+      among : (xs : List Look) (l : Look) → Contains xs l → Contains (map (λ l. l.var) xs) l.var
+      among [] l c = absurd (let n = c.1 in omega arith)
+      among (x ∷ xs) l (zero, n, e) = (0, omega arith, ap (λ (z : Look). z.var) e)
+      among (x ∷ xs) l (suc k, n, e) = let f = among xs l (k, omega arith, e) in (suc f.0, (let n = f.1 in omega arith), f.2)
+
+  pub may_change : vars_of rows ≡ with_all (map (λ w. w.var) writes) (map (λ l. l.var) a.looks) → AreVariables (map (λ l. l.var) a.looks) → (q : PassView) (n : ℕ) → HasDrawn p q None rows [] (record { var = c.var; nth = n } ∷ []) → MayAbort q (record { looks = a.looks; writes = writes; numbers = record { var = c.var; nth = n } ∷ [] }) (Changed c.var c.read c.found)
+  may_change of looks q n d =
       let ns : List Number = record { var = c.var; nth = n } ∷ [] in
       let names = Rattle.gl_txn.proofs.EndFacts.names_one a writes p q.own.held None rows [] ns (c.var ∷ []) draws refl (tt, tt) d.held d.above in_rows m.runs in
       subst (λ (z : PassView). MayAbort z (record { looks = a.looks; writes = writes; numbers = record { var = c.var; nth = n } ∷ [] }) (Changed c.var c.read c.found)) (sym d.is) (
@@ -75,6 +103,7 @@ module _ (a : Attempting) (writes : List Pair) (p : PassView) (rows : List Taken
         record {
           drop = may_drop a writes p q.own.held None rows [] ns (c.var ∷ []) draws refl (tt, tt) d.held d.above in_rows m.runs (Changed c.var c.read c.found) (formed n names);
           word = λ b. f.is.found;
+          least = λ l has less. unchanged of looks q n d l has less;
         },
       )
 

@@ -1,34 +1,28 @@
 -- What is true of an attempt whose end has its numbers.
-use Rattle.std.proofs.Common.{◌≡◌, ◌≢◌, ℕ, zero, suc, ◌+◌, ◌<◌, ◌≤◌, ◌==◌, List, [], ◌∷◌, ◌++◌, length, map, true, false, Bool, refl, sym, ap, ◌∙◌, subst, arith, Some, None, inl, inr}
-use Rattle.std.specs.Prelude.{Contains, Option, ◌⊎◌, ◌↔◌, ℤ, if◌then◌else◌, slice_get}
+use Rattle.std.proofs.Common.{◌≡◌, ℕ, zero, suc, ◌<◌, List, [], ◌∷◌, ◌++◌, map, true, false, refl, sym, ap, ◌∙◌, subst, arith, Some, None, inl, inr}
+use Rattle.std.specs.Prelude.{Contains, Option, ◌⊎◌, ◌↔◌, ℤ, if◌then◌else◌}
 use Rattle.std.specs.List.{AllByRecursion}
 use Rattle.std.proofs.lemmas.Bool.{cases_Bool}
 use Rattle.std.proofs.lemmas.List.Elements.{Contains-append_left, Contains-append_right}
-use Rattle.gl_model.specs.declared.row.Row.{Row}
-use Rattle.gl_model.specs.declared.tx.Look.{Look}
 use Rattle.gl_model.specs.declared.tx.Number.{Number}
 use Rattle.gl_model.specs.declared.tx.Pair.{Pair}
 use Rattle.gl_model.specs.declared.tx.Tx.{Tx}
 use Rattle.gl_model.specs.declared.tx.Why.{Why}
-use Rattle.gl_model.specs.declared.tx.Why.TheVariants.{Changed, Raised}
-use Rattle.gl_model.specs.Entries.{Entry, Abort}
+use Rattle.gl_model.specs.Entries.{Abort}
 use Rattle.gl_model.specs.Form.{NumbersName, EntryForm}
-use Rattle.gl_model.specs.Kept.{AreVariables}
 use Rattle.gl_model.specs.Rising.{Rises}
 use Rattle.gl_model.specs.Trace.{is_in}
-use Rattle.gl_draws.specs.Draws.{Draw, draw, Open, Looked, Entered, is_write, is_read}
+use Rattle.gl_draws.specs.Draws.{Draw, draw, Open, is_write, is_read}
 use Rattle.gl_draws.specs.Ties.{Drawn}
-use Rattle.gl_draws.proofs.EntryKinds.{is_in-contains, contains-is_in}
-use Rattle.gl_rule.specs.declared.slot.Slot.TheVariants as slot
-use Rattle.gl_rule.specs.Commits.{HeldRow, MayDrop, MayChange, with_drew, drew_commit}
+use Rattle.gl_rule.specs.Commits.{HeldRow, MayDrop, with_drew}
 use Rattle.gl_rule.specs.Lives.{Running, life_of}
-use Rattle.gl_rule.specs.View.{View, Shelf, Held, shelf}
+use Rattle.gl_rule.specs.View.{Held, shelf}
 use Rattle.gl_rule.proofs.Lasting.{no_end}
 use Rattle.gl_table.specs.CaughtUp.{block_of}
-use Rattle.gl_table.specs.PassView.{PassView, view_of, shelf_of}
+use Rattle.gl_table.specs.PassView.{PassView, view_of}
 use Rattle.gl_txn.specs.Attempts.{Attempting}
-use Rattle.gl_txn.specs.Drawing.{end_of, numbered, drew_on, HasDrawn}
-use Rattle.gl_txn.specs.Holding.{vars_of, found, row_at, row_held, held_by, held_of, AreHeld, AreUnused}
+use Rattle.gl_txn.specs.Drawing.{end_of, numbered, drew_on}
+use Rattle.gl_txn.specs.Holding.{found, row_at, row_held, held_by, held_of, AreHeld, AreUnused}
 use Rattle.gl_txn.specs.Trying.{Draws}
 use Rattle.gl_txn.specs.declared.taken.TakenRow.{TakenRow}
 use Rattle.gl_txn.proofs.Finding.{found_held, found_mapped, changed, once_mapped}

@@ -1,6 +1,6 @@
 -- Held objects are found by their numbers.
-use Rattle.std.proofs.Common.{◌≡◌, ◌≢◌, ℕ, zero, suc, ◌==◌, List, [], ◌∷◌, map, true, false, Bool, not, eq-eqb, ne_eqb, refl, sym, ap, ◌∙◌, subst, arith, Some, None, inl, inr}
-use Rattle.std.specs.Prelude.{Contains, Option, if◌then◌else◌, ◌⊎◌}
+use Rattle.std.proofs.Common.{◌≡◌, ◌≢◌, ℕ, zero, suc, ◌==◌, List, [], ◌∷◌, map, true, false, eq-eqb, ne_eqb, refl, sym, ap, ◌∙◌, subst, arith, Some, None, inl, inr}
+use Rattle.std.specs.Prelude.{Contains, Option, ◌⊎◌}
 use native.Mathlib.Decide.{ℕ_discrete}
 use Rattle.gl_rule.specs.View.{Held, without}
 use Rattle.gl_table.specs.Putting.{held_at}

@@ -1,9 +1,9 @@
 -- What is held after each thing that an attempt's end does.
-use Rattle.std.proofs.Common.{◌≡◌, ◌≢◌, ℕ, zero, suc, ◌+◌, ◌<◌, ◌≤◌, ◌==◌, List, [], ◌∷◌, ◌++◌, length, map, true, false, Bool, refl, sym, ap, ◌∙◌, subst, arith, Some, None, inl, inr, eq-eqb, ne_eqb}
-use Rattle.std.specs.Prelude.{Contains, Option, ◌⊎◌, if◌then◌else◌}
+use Rattle.std.proofs.Common.{◌≡◌, ◌≢◌, ℕ, zero, suc, ◌<◌, ◌==◌, List, [], ◌∷◌, ◌++◌, length, true, false, refl, sym, ap, ◌∙◌, subst, arith, Some, None, inr, eq-eqb, ne_eqb}
+use Rattle.std.specs.Prelude.{Contains, Option}
 use Rattle.std.specs.List.{AllByRecursion}
 use native.Mathlib.Decide.{ℕ_discrete}
-use Rattle.gl_model.specs.declared.limits.TheConstants.{VARIABLES, TX_VARIABLES}
+use Rattle.gl_model.specs.declared.limits.TheConstants.{VARIABLES}
 use Rattle.gl_model.specs.declared.row.Row.{Row}
 use Rattle.gl_model.specs.Kept.{AreVariables}
 use Rattle.gl_model.specs.Machine.{Setting}
@@ -11,15 +11,13 @@ use Rattle.gl_model.specs.Rising.{Rises}
 use Rattle.gl_draws.specs.Draws.{Draw, is_write, is_read}
 use Rattle.gl_draws.specs.RowFacts.{RowStands}
 use Rattle.gl_draws.proofs.RowGrowth.{row_stays}
-use Rattle.gl_rule.specs.declared.slot.Slot.{Slot}
 use Rattle.gl_rule.specs.declared.slot.Slot.TheVariants as slot
-use Rattle.gl_rule.specs.Fitting.{MayPut, Stays}
 use Rattle.gl_rule.specs.Values.{with_draw}
-use Rattle.gl_rule.specs.View.{View, Held, Shelf, new_held, without, with_tail, took, left}
-use Rattle.gl_table.specs.Putting.{MayPutBack, held_at}
+use Rattle.gl_rule.specs.View.{View, Held, Shelf, new_held, without}
+use Rattle.gl_table.specs.Putting.{MayPutBack, DoesNotHold}
 use Rattle.gl_txn.specs.declared.taken.TakenRow.{TakenRow}
 use Rattle.gl_txn.specs.Holding.{vars_of, found, row_at, row_held, held_by, held_of, AreHeld, AreUnused, undrawn}
-use Rattle.gl_txn.proofs.Finding.{found_here, found_past, found_held, found_at, found_mapped, changed, found_gone, found_still, once_more, once_mapped, once_without, none_held}
+use Rattle.gl_txn.proofs.Finding.{found_here, found_past, found_held, found_gone, found_still, once_more, once_without, none_held}
 
 -- the row of a variable among others
 pub row_here : (r : TakenRow) (rs : List TakenRow) (y : ℕ) → r.var ≡ y → row_at (r ∷ rs) y ≡ Some r
@@ -184,3 +182,12 @@ taken_unused held rows a = record { tails = []; drew = undrawn; holds = a; unuse
 
 pub last_near : (held : List Held) (rows : List TakenRow) (r : TakenRow) → AreUnused held (rows ++ r ∷ []) → r.var < VARIABLES
 last_near held rows r u = (front_are (vars_of rows) r.var (subst AreVariables (vars_pushed rows r) u.holds.are)).1
+
+-- a variable behind those of the rows is not held, nor is the list where it is none of what is held
+pub lacks_next : (held : List Held) (rows : List TakenRow) (y : ℕ) → AreHeld held None rows [] undrawn → AreVariables (vars_of rows ++ y ∷ []) → DoesNotHold held (suc y)
+lacks_next held rows y a are h c e =
+    let z : None ≡ Some h = sym (a.at (suc y) ∙ ap (held_by [] undrawn) (row_absent rows y (last_once (vars_of rows) y are.1))) ∙ ap (λ k. found k held) (sym e) ∙ a.once h c in
+    absurd (cc)
+
+pub lacks_list : (held : List Held) (rows : List TakenRow) (tails : List ℕ) (drew : ℕ → Option Draw) → AreHeld held None rows tails drew → DoesNotHold held 0
+lacks_list held rows tails drew a h c e = let z : None ≡ Some h = sym (a.at 0) ∙ ap (λ k. found k held) (sym e) ∙ a.once h c in absurd (cc)

@@ -1,23 +1,22 @@
 -- A look, from taking the row to putting it back.
-use Rattle.std.proofs.Common.{◌≡◌, ◌≢◌, ℕ, zero, suc, ◌+◌, ◌<◌, ◌≤◌, ◌==◌, List, [], ◌∷◌, ◌++◌, true, false, Bool, refl, sym, ap, ◌∙◌, subst, arith, Some, None, inl, inr, add-one, ne_eqb}
-use Rattle.std.specs.Prelude.{Contains, Option, ◌⊎◌, ◌↔◌, ◌||◌, ℤ, ◌^◌, if◌then◌else◌}
+use Rattle.std.proofs.Common.{◌≡◌, ℕ, suc, ◌+◌, ◌<◌, ◌==◌, List, [], ◌∷◌, ◌++◌, true, false, Bool, refl, sym, ap, ◌∙◌, subst, arith, Some, inr, add-one, ne_eqb}
+use Rattle.std.specs.Prelude.{Contains, Option, ◌||◌, ℤ, ◌^◌, if◌then◌else◌}
 use Rattle.gl_model.specs.declared.row.Row.{Row}
 use Rattle.gl_model.specs.Machine.{Setting}
 use Rattle.gl_model.specs.Entries.{Entry}
-use Rattle.gl_draws.specs.Draws.{Draw, draw, Looked}
+use Rattle.gl_draws.specs.Draws.{draw, Looked}
 use Rattle.gl_draws.specs.Ties.{Drawn, counted, last_position}
 use Rattle.gl_rule.specs.declared.slot.Slot.TheVariants as slot
-use Rattle.gl_rule.specs.Fitting.{MayDraw, MayOpen, MayPut}
+use Rattle.gl_rule.specs.Fitting.{MayOpen}
 use Rattle.gl_rule.specs.Lives.{Running, life_of}
 use Rattle.gl_rule.specs.Numbers.{count_on}
-use Rattle.gl_rule.specs.Told.{what_of}
-use Rattle.gl_rule.specs.View.{View, Held, Shelf, new_held, without, took, marked, left, Taken}
+use Rattle.gl_rule.specs.View.{Held, new_held, without, left, Taken}
 use Rattle.gl_rule.proofs.Lasting.{no_end, has_block}
 use Rattle.gl_table.specs.CaughtUp.{block_of, or_zero}
 use Rattle.gl_table.specs.PassView.{PassView, view_of, shelf_of, after}
 use Rattle.gl_table.specs.Putting.{MayOpenOn, MayPutBack, held_at, opened}
 use Rattle.gl_table.proofs.Doing.{with_row}
-use Rattle.gl_txn.proofs.Finding.{found_here, found_at, found_gone, without_here}
+use Rattle.gl_txn.proofs.Finding.{found_here, found_at, without_here}
 
 -- the block of a thread that runs
 pub block_is : (es : List Entry) → life_of es ≡ Running → last_position es ≡ Some (block_of es)
@@ -32,7 +31,7 @@ pub row_there : (x : ℕ) (y : Rattle.gl_rule.specs.declared.slot.Slot.Slot) (he
 row_there x y held = found_at (x + 1) (new_held (suc x) y ∷ held) (new_held (suc x) y) (found_here (new_held (suc x) y) held (x + 1) (sym (add-one x)))
 
 -- it may be marked for a look with its word
-pub may_look : (p : PassView) (x : ℕ) (row : Row) (value : ℤ) → value ≡ row.value → p.own.held ≡ [] → p.own.owed ≡ [] → counted p.own.mine < 2 ^ 50 → life_of p.own.mine ≡ Running → count_on x p.own.drawn ≤ 1
+pub may_look : (p : PassView) (x : ℕ) (row : Row) (value : ℤ) → value ≡ row.value → p.own.held ≡ [] → p.own.owed ≡ [] → counted p.own.mine < 2 ^ 50 → life_of p.own.mine ≡ Running → count_on x p.own.drawn ≡ 0
     → (q : PassView) → q ≡ with_row p x row → MayOpenOn q x (Some value)
 may_look p x row value word held owed few runs room q is = subst (λ (q : PassView). MayOpenOn q x (Some value)) (sym is) (record {
   taken = row;

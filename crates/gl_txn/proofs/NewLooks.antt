@@ -1,5 +1,5 @@
 -- What a look makes of the attempt.
-use Rattle.std.proofs.Common.{◌≡◌, ◌≢◌, ℕ, zero, suc, ◌+◌, ◌<◌, ◌≤◌, ◌==◌, List, [], ◌∷◌, ◌++◌, map, true, false, Bool, refl, sym, ap, ◌∙◌, subst, arith, Some, None, inl, inr, eq-eqb, ne_eqb}
+use Rattle.std.proofs.Common.{◌≡◌, ◌≢◌, ℕ, zero, suc, ◌+◌, ◌<◌, ◌==◌, List, [], ◌∷◌, ◌++◌, map, true, false, Bool, refl, sym, ap, ◌∙◌, subst, arith, Some, None, inl, inr, eq-eqb, ne_eqb}
 use Rattle.std.specs.Prelude.{Contains, Option, ◌⊎◌, ◌↔◌, ℤ, if◌then◌else◌}
 use Rattle.std.proofs.lemmas.List.Elements.{Contains-push_cases, Contains-append_left, Contains-append_right}
 use native.Mathlib.Decide.{ℕ_discrete}
@@ -10,11 +10,11 @@ use Rattle.gl_model.specs.Rising.{with_part}
 use Rattle.gl_draws.specs.Ties.{Drawn}
 use Rattle.gl_rule.specs.Numbers.{count_on}
 use Rattle.gl_table.specs.PassView.{Own, PassView}
-use Rattle.gl_txn.specs.Attempts.{Attempting, written, looked, is_in, size, with_look}
+use Rattle.gl_txn.specs.Attempts.{Attempting, written, looked, size, with_look}
 use Rattle.gl_txn.specs.Looked.{IsLookAt, drawn_of}
 use Rattle.gl_txn.specs.Reading.{IsRead, ReadBy, HasLooked, LooksBy}
 use Rattle.gl_txn.specs.Trying.{Draws}
-use Rattle.gl_txn.proofs.Sizes.{of_look, is_no_variable, neither}
+use Rattle.gl_txn.proofs.Sizes.{of_look}
 use Rattle.gl_txn.proofs.Unions.{with_new, with_first, with_old, not_found}
 
 -- no number on x waits where none is among them
@@ -99,3 +99,7 @@ pub has_looked : (x : ℕ) (l : Look) (a : Attempting) (p q : PassView) → writ
 has_looked x l a p q no_write no_look at =
     subst (λ (w : Option Pair). LooksBy w (looked a x) x l.value p q) (sym no_write) (subst (λ (k : Option Look). LooksBy None k x l.value p q) (sym no_look)
     (at.0, at.2, at.3 ∙ ap (λ (o : Own). record p { own = o; reads = p.reads ++ Rattle.gl_rule.specs.View.Taken (suc x) (Rattle.gl_rule.specs.declared.slot.Slot.TheVariants.Row at.0) ∷ [] }) (sym (ap (λ (r : PassView). r.own) at.3))))
+
+-- no number waits on a variable that the attempt did not look at
+pub none_waits : (a : Attempting) (o : Own) → Draws a o → (x : ℕ) → looked a x ≡ None → count_on x o.drawn ≡ 0
+none_waits a o d x out = count_none x o.drawn (λ q c. none_on a o d (record { var = x; value = Rattle.std.specs.Prelude.pos 0; nth = 0 }) out q c)

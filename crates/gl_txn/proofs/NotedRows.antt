@@ -1,11 +1,9 @@
 -- The row that comes back after a commit: over each fitting list it is that of the draws of the row as it was taken, and of the commit's.
-use Rattle.std.proofs.Common.{◌≡◌, ◌≢◌, ℕ, zero, suc, ◌+◌, ◌<◌, ◌≤◌, ◌==◌, List, [], ◌∷◌, ◌++◌, length, map, take, set, replicate, true, false, Bool, not, refl, sym, ap, ◌∙◌, subst, arith, Some, None, inl, inr, eq-eqb, ne_eqb, length-set}
+use Rattle.std.proofs.Common.{◌≡◌, ℕ, zero, suc, ◌+◌, ◌<◌, ◌≤◌, ◌==◌, List, [], ◌∷◌, ◌++◌, length, map, take, set, replicate, true, false, Bool, refl, sym, ap, ◌∙◌, subst, arith, Some, None, inl, inr, eq-eqb, ne_eqb, length-set}
 use Rattle.std.specs.Prelude.{Contains, Option, ◌↔◌, ◌⊎◌, ℤ, is_some, slice_set, if◌then◌else◌}
-use Rattle.std.specs.List.{find}
-use Rattle.std.proofs.lemmas.Bool.{cases_Bool, cases_lt, eqb-true}
+use Rattle.std.proofs.lemmas.Bool.{cases_lt}
 use Rattle.std.proofs.lemmas.List.{take_all, get_or-set_same, get_or-set_other, get_or_past}
 use native.Mathlib.Decide.{ℕ_discrete}
-use Rattle.gl_model.specs.declared.event.Element.{Element}
 use Rattle.gl_model.specs.declared.event.Stamp.{Stamp}
 use Rattle.gl_model.specs.declared.limits.TheConstants.{THREADS, VARIABLES}
 use Rattle.gl_model.specs.declared.row.Info.{Info}
@@ -17,18 +15,17 @@ use Rattle.gl_model.specs.Entries.{Commit}
 use Rattle.gl_model.specs.Infos.{InfoFor, AreLeastOwned}
 use Rattle.gl_model.specs.Lockset.{Has}
 use Rattle.gl_model.specs.Locksets.{InitialLockset}
-use Rattle.gl_model.specs.Machine.{Setting, State, Allows}
+use Rattle.gl_model.specs.Machine.{Setting, Allows}
 use Rattle.gl_model.specs.Records.{variables_of}
 use Rattle.gl_model.specs.Trace.{is_in}
-use Rattle.gl_draws.specs.Draws.{Draw, draw, Entered, access_of, is_write, is_read, last_read, value_in}
+use Rattle.gl_draws.specs.Draws.{Draw, draw, Entered, access_of, last_read, value_in}
 use Rattle.gl_draws.specs.RowFacts.{InfoOf, RowStands, read_of}
-use Rattle.gl_judge.specs.Noted.{IsNewInfo, IsNoted}
-use Rattle.gl_rule.specs.Agreeing.{IsOwnCommit}
+use Rattle.gl_judge.specs.Noted.{IsNewInfo}
 use Rattle.gl_rule.specs.Fitting.{IsFitting}
 use Rattle.gl_rule.specs.Values.{InRow}
 use Rattle.gl_rule.proofs.Agreeing.{commit_stands}
 use Rattle.gl_table.specs.PassView.{PassView, shelf_of, view_of, after}
-use Rattle.gl_txn.specs.Holding.{vars_of, found, row_held, AreHeld, write_in, word_by}
+use Rattle.gl_txn.specs.Holding.{vars_of, found, row_held, AreHeld, write_in}
 use Rattle.gl_txn.specs.Noting.{IsNotedRow, AreCommitted, drew_commit_at}
 use Rattle.gl_txn.proofs.Finding.{found_held}
 use Rattle.gl_txn.proofs.Holdings.{held_last, held_fewer, held_none, front_are, vars_pushed}

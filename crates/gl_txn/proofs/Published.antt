@@ -1,56 +1,23 @@
 -- A commit, from reaching the list to the rows going back.
-use Rattle.std.proofs.Common.{◌≡◌, ◌≢◌, ℕ, zero, suc, ◌+◌, ◌-◌, ◌*◌, ◌<◌, ◌≤◌, ◌==◌, ◌^◌, List, [], ◌∷◌, ◌++◌, length, map, true, false, Bool, refl, sym, ap, ◌∙◌, subst, arith, Some, None, inl, inr, eq-eqb, ne_eqb}
-use Rattle.std.specs.Prelude.{Contains, Option, ◌↔◌, ◌⊎◌, ◌||◌, ℤ, pos, if◌then◌else◌, slice_get}
-use Rattle.std.specs.List.{find}
-use native.Mathlib.Decide.{ℕ_discrete}
-use Rattle.gl_model.specs.declared.event.Event.TheVariants.{Commit as Commits}
-use Rattle.gl_model.specs.declared.event.Stamp.{Stamp}
-use Rattle.gl_model.specs.declared.row.Row.{Row}
-use Rattle.gl_model.specs.declared.tx.Look.{Look}
-use Rattle.gl_model.specs.declared.tx.Number.{Number}
+use Rattle.std.proofs.Common.{◌≡◌, ℕ, zero, suc, ◌==◌, List, [], ◌∷◌, map, true, false, Bool, refl, ap, ◌∙◌, subst, arith, Some, None, ne_eqb}
+use Rattle.std.specs.Prelude.{Contains, Option, if◌then◌else◌}
 use Rattle.gl_model.specs.declared.tx.Tx.{Tx}
 use Rattle.gl_model.specs.Entries.{Entry, Commit}
 use Rattle.gl_model.specs.Form.{NumbersName}
-use Rattle.gl_model.specs.Kept.{AreVariables}
-use Rattle.gl_model.specs.Machine.{Setting, State, Step}
 use Rattle.gl_model.specs.Records.{variables_of}
-use Rattle.gl_model.specs.Rising.{Rises}
 use Rattle.gl_model.specs.Trace.{is_in}
-use Rattle.gl_draws.specs.Draws.{Draw, draw, Entered}
+use Rattle.gl_draws.specs.Draws.{Draw}
 use Rattle.gl_draws.specs.Forming.{MayStore}
-use Rattle.gl_draws.specs.RowFacts.{SomeFails}
-use Rattle.gl_draws.specs.Verdicts.{LooksHave}
-use Rattle.gl_draws.proofs.EntryKinds.{is_in-contains, contains-is_in}
+use Rattle.gl_draws.proofs.EntryKinds.{contains-is_in}
 use Rattle.gl_rule.specs.declared.slot.Slot.{Slot}
-use Rattle.gl_rule.specs.declared.slot.Slot.TheVariants as slot
-use Rattle.gl_rule.specs.Commits.{MayCommit, drew_commit}
-use Rattle.gl_rule.specs.Fitting.{IsFitting, InfosStand}
+use Rattle.gl_rule.specs.Commits.{drew_commit}
 use Rattle.gl_rule.specs.Lives.{Running, life_of}
-use Rattle.gl_rule.specs.Objects.{Key, capacity}
-use Rattle.gl_rule.specs.Taken.{StateTold}
-use Rattle.gl_rule.specs.View.{View, Held, Read, Taken, Hold, new_held, with_tail, without, after_publish, left}
+use Rattle.gl_rule.specs.View.{Held, new_held, with_tail, without, after_publish}
 use Rattle.gl_rule.proofs.Lasting.{no_end, no_over, has_begun}
-use Rattle.gl_state.specs.ListView.{ListView}
-use Rattle.gl_state.specs.States.{IsStateOf}
-use Rattle.gl_table.specs.CaughtUp.{block_of}
-use Rattle.gl_table.specs.Committing.{MayPublishTx, published_tx, commit_stamp}
-use Rattle.gl_table.specs.PassView.{PassView, view_of, shelf_of, after}
-use Rattle.gl_table.specs.Putting.{MayPutBack}
-use Rattle.gl_table.specs.TableView.{TableView}
-use Rattle.gl_table.proofs.Doing.{state_runs}
-use Rattle.gl_txn.specs.Changing.{AreUnchangedIn, look_in}
-use Rattle.gl_txn.specs.Drawing.{attempt_in, numbered, drew_on, HasDrawn, with_entry}
 use Rattle.gl_txn.specs.Holding.{vars_of, found, row_at, row_held, held_by, held_of, AreHeld, undrawn}
-use Rattle.gl_txn.specs.Noting.{AreCommitted, drew_commit_at}
-use Rattle.gl_txn.specs.Publishing.{HasReached, IsReady, MayPublish, HasPublished, with_room, with_list}
-use Rattle.gl_txn.specs.Racing.{Over, asked_of}
-use Rattle.gl_txn.specs.Trying.{Draws}
 use Rattle.gl_txn.specs.declared.taken.TakenRow.{TakenRow}
-use Rattle.gl_txn.proofs.EndFacts.{row_one, each_one, looks_one, owns_one, once_one, names_one}
-use Rattle.gl_txn.proofs.Finding.{found_here, found_past, found_held, found_mapped, changed, found_gone, found_still, once_more, once_mapped, once_without}
-use Rattle.gl_txn.proofs.Holdings.{row_among, row_here, row_past, above_in}
-use Rattle.gl_txn.proofs.LookSteps.{block_is, or_no}
-use Rattle.gl_txn.proofs.Refusals.{row_of, row_is}
+use Rattle.gl_txn.proofs.Finding.{found_here, found_past, found_mapped, changed, found_gone, found_still, once_more, once_mapped, once_without}
+use Rattle.gl_txn.proofs.Holdings.{row_among}
 
 -- the list is held beside the rows, and a tail was seen
 module _ (held : List Held) (rows : List TakenRow) (tails : List ℕ) (a : AreHeld held None rows tails undrawn) (y : Slot) (n : ℕ) where
@@ -121,24 +88,3 @@ may_store_commit t es n tx runs form = record {
   cached = λ x k write v e. absurd (cc);
   repeats = λ x k v e. absurd (cc);
 }
-
--- the only look of a variable is found
-pub look_found : (looks : List Look) → Rises (map (λ l. l.var) looks) → (l : Look) → Contains looks l → look_in looks l.var ≡ Some l
-look_found [] r l c = absurd (let n = c.1 in omega arith)
-look_found (k ∷ ls) r l (zero, n, e) = let b : (k.var == l.var) ≡ true = eq-eqb k.var l.var (ap (λ (z : Look). z.var) e) in rw b (ap (λ (z : Look). Some z) e)
-look_found (k ∷ ls) r l (suc i, n, e) =
-    let far = above_in k.var (map (λ l. l.var) ls) l.var r.0 (among ls (i, omega arith, e)) in
-    let b : (k.var == l.var) ≡ false = ne_eqb k.var l.var (λ z. absurd (omega arith)) in
-    rw b (look_found ls r.1 l (i, omega arith, e))
-  where
-    among : (xs : List Look) → Contains xs l → Contains (map (λ l. l.var) xs) l.var
-    among [] c = absurd (let n = c.1 in omega arith)
-    among (x ∷ xs) (zero, n, e) = (0, omega arith, ap (λ (z : Look). z.var) e)
-    among (x ∷ xs) (suc k, n, e) = let f = among xs (k, omega arith, e) in (suc f.0, (let n = f.1 in omega arith), f.2)
-
-pub place_at : (xs : List TakenRow) (y : ℕ) (r : TakenRow) → row_at xs y ≡ Some r → (k : ℕ) × (slice_get xs k ≡ Some r)
-place_at [] y r e = absurd (cc)
-place_at (u ∷ xs) y r e = elim (ℕ_discrete u.var y) [
-  | yes same ↦ (0, sym (row_here u xs y same) ∙ e)
-  | no other ↦ (let f = place_at xs y r (sym (row_past u xs y other) ∙ e) in (suc f.0, f.1))
-]

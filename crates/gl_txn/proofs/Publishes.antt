@@ -1,10 +1,10 @@
 -- What is asked of the commit that is published, and what stands after it.
-use Rattle.std.proofs.Common.{◌≡◌, ◌≢◌, ℕ, zero, suc, ◌+◌, ◌-◌, ◌*◌, ◌<◌, ◌≤◌, ◌==◌, ◌^◌, List, [], ◌∷◌, ◌++◌, length, map, true, false, Bool, refl, sym, ap, ◌∙◌, subst, arith, Some, None, inl, inr, eq-eqb, ne_eqb, add-one}
-use Rattle.std.specs.Prelude.{Contains, Option, ◌↔◌, ◌⊎◌, ◌||◌, ℤ, pos, if◌then◌else◌, slice_get}
+use Rattle.gl_txn.proofs.Changes.{look_found, place_at}
+use Rattle.std.proofs.Common.{◌≡◌, ℕ, zero, suc, ◌+◌, ◌<◌, ◌≤◌, List, [], ◌∷◌, ◌++◌, length, map, true, false, refl, sym, ap, ◌∙◌, subst, arith, Some, None, eq-eqb, add-one}
+use Rattle.std.specs.Prelude.{Contains, Option, ℤ, pos, if◌then◌else◌}
 use Rattle.gl_model.specs.declared.event.Stamp.{Stamp}
 use Rattle.gl_model.specs.declared.limits.TheConstants.{THREADS}
 use Rattle.gl_model.specs.declared.row.Question.{Question}
-use Rattle.gl_model.specs.declared.tx.Look.{Look}
 use Rattle.gl_model.specs.declared.tx.Number.{Number}
 use Rattle.gl_model.specs.declared.tx.Tx.{Tx}
 use Rattle.gl_model.specs.Entries.{Entry, Commit}
@@ -18,16 +18,14 @@ use Rattle.gl_model.specs.Trace.{is_in}
 use Rattle.gl_draws.specs.Draws.{Draw, draw, Entered}
 use Rattle.gl_draws.specs.Events.{AreEvents}
 use Rattle.gl_draws.specs.RowFacts.{SomeFails}
-use Rattle.gl_draws.proofs.EntryKinds.{is_in-contains, contains-is_in}
+use Rattle.gl_draws.proofs.EntryKinds.{contains-is_in}
 use Rattle.gl_draws.proofs.Pushes.{at_new}
 use Rattle.gl_rule.specs.declared.slot.Slot.{Slot}
 use Rattle.gl_rule.specs.declared.slot.Slot.TheVariants as slot
 use Rattle.gl_rule.specs.Commits.{MayCommit, drew_commit}
-use Rattle.gl_rule.specs.Fitting.{IsFitting, InfosStand, MayLeaveAt}
-use Rattle.gl_rule.specs.Lives.{Running, life_of}
-use Rattle.gl_rule.specs.Objects.{Key, capacity}
+use Rattle.gl_rule.specs.Fitting.{InfosStand, MayLeaveAt}
 use Rattle.gl_rule.specs.Taken.{StateTold}
-use Rattle.gl_rule.specs.View.{View, Held, Read, Taken, Hold, new_held, with_tail, without, after_publish, left}
+use Rattle.gl_rule.specs.View.{View, Held, Read, Taken, Hold, new_held, with_tail, after_publish, left}
 use Rattle.gl_rule.proofs.HeldLists.{in_mapped}
 use Rattle.gl_rule.proofs.Lasting.{no_end}
 use Rattle.gl_state.specs.ListView.{ListView}
@@ -40,11 +38,11 @@ use Rattle.gl_table.specs.TableView.{TableView}
 use Rattle.gl_table.proofs.Doing.{state_runs}
 use Rattle.gl_table.proofs.Passes.{published_object}
 use Rattle.gl_txn.specs.Changing.{look_in}
-use Rattle.gl_txn.specs.Drawing.{attempt_in, end_of, numbered, drew_on, MayNumber, HasDrawn, with_entry}
+use Rattle.gl_txn.specs.Drawing.{attempt_in, end_of, numbered, drew_on, MayNumber, with_entry}
 use Rattle.gl_txn.specs.Ending.{HasRoomAt}
 use Rattle.gl_txn.specs.Holding.{vars_of, found, row_at, row_held, AreHeld, undrawn}
 use Rattle.gl_txn.specs.Noting.{AreCommitted, drew_commit_at}
-use Rattle.gl_txn.specs.Publishing.{IsReady, MayPublish, with_room}
+use Rattle.gl_txn.specs.Publishing.{IsReady, with_room}
 use Rattle.gl_txn.specs.Racing.{asked_of}
 use Rattle.gl_txn.specs.Trying.{Draws}
 use Rattle.gl_txn.specs.declared.taken.TakenRow.{TakenRow}
@@ -52,7 +50,7 @@ use Rattle.gl_txn.proofs.EndFacts.{row_one, each_one, looks_one, owns_one, once_
 use Rattle.gl_txn.proofs.Finding.{found_held}
 use Rattle.gl_txn.proofs.Holdings.{row_among}
 use Rattle.gl_txn.proofs.LookSteps.{block_is, or_no}
-use Rattle.gl_txn.proofs.Published.{held_reached, held_published, may_store_commit, look_found, place_at}
+use Rattle.gl_txn.proofs.Published.{held_reached, held_published, may_store_commit}
 use Rattle.gl_txn.proofs.Refusals.{row_of, row_is}
 
 taken_after : (n : ℕ) (y : Slot) (drew : Held → Option Draw) (h : Held) → h.object ≡ 0 → (after_publish n y drew h).taken ≡ y

@@ -1,8 +1,8 @@
 -- One row after another is judged.
-use Rattle.std.proofs.Common.{◌≡◌, ◌≢◌, ℕ, zero, suc, ◌+◌, ◌<◌, ◌≤◌, ◌==◌, List, [], ◌∷◌, ◌++◌, length, map, true, false, Bool, refl, sym, ap, ◌∙◌, subst, arith, Some, None, inl, inr, append_assoc, append-nil, eq-eqb, ne_eqb}
-use Rattle.std.specs.Prelude.{Contains, Option, ◌↔◌, is_some, slice_get, if◌then◌else◌}
+use Rattle.std.proofs.Common.{◌≡◌, ℕ, zero, suc, ◌+◌, ◌≤◌, ◌==◌, List, [], ◌∷◌, ◌++◌, length, map, true, false, refl, sym, ap, ◌∙◌, subst, arith, Some, inl, inr, append_assoc, append-nil, eq-eqb, ne_eqb}
+use Rattle.std.specs.Prelude.{Contains, ◌↔◌, is_some, slice_get}
 use Rattle.std.specs.List.{find}
-use Rattle.std.proofs.lemmas.Bool.{cases_lt, cases_Bool, eqb-true}
+use Rattle.std.proofs.lemmas.Bool.{cases_lt}
 use Rattle.std.proofs.lemmas.Option.{slice_get_within}
 use native.Mathlib.Decide.{ℕ_discrete}
 use Rattle.gl_model.specs.declared.event.Stamp.{Stamp}
@@ -22,7 +22,7 @@ use Rattle.gl_rule.specs.Fitting.{IsFitting, InfosStand}
 use Rattle.gl_rule.proofs.Lasting.{no_end, has_block}
 use Rattle.gl_shortcut.specs.Ordering.{IsOfNext}
 use Rattle.gl_table.specs.PassView.{PassView, shelf_of}
-use Rattle.gl_txn.specs.Holding.{vars_of, row_at, row_held, held_by}
+use Rattle.gl_txn.specs.Holding.{row_held, held_by}
 use Rattle.gl_txn.specs.Racing.{asked_on, MayJudge, KnowsOn, Over, IsClearOn, AreClearBefore, AreClear, IsFirstRace}
 use Rattle.gl_txn.specs.declared.taken.TakenRow.{TakenRow}
 use Rattle.gl_txn.proofs.Finding.{found_held}

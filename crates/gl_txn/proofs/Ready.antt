@@ -1,11 +1,11 @@
 -- From the rows that were taken to an end that is certain.
-use Rattle.std.proofs.Common.{◌≡◌, ◌≢◌, ℕ, zero, suc, ◌+◌, ◌-◌, ◌<◌, ◌≤◌, List, [], ◌∷◌, ◌++◌, length, map, true, false, Bool, refl, sym, ap, ◌∙◌, subst, arith, Some, None, inl, inr}
+use Rattle.gl_txn.proofs.Changes.{look_found}
+use Rattle.std.proofs.Common.{◌≡◌, ℕ, zero, suc, ◌-◌, ◌<◌, ◌≤◌, List, [], ◌∷◌, ◌++◌, map, refl, sym, ap, ◌∙◌, subst, arith, Some, None}
 use Rattle.std.specs.Prelude.{Contains, Option, ◌⊎◌, slice_get}
 use Rattle.gl_model.specs.declared.event.Stamp.{Stamp}
 use Rattle.gl_model.specs.declared.limits.TheConstants.{THREADS}
 use Rattle.gl_model.specs.declared.row.Question.{Question}
 use Rattle.gl_model.specs.declared.row.Row.{Row}
-use Rattle.gl_model.specs.declared.tx.Pair.{Pair}
 use Rattle.gl_model.specs.declared.tx.Tx.{Tx}
 use Rattle.gl_model.specs.Infos.{AreLeastOwned}
 use Rattle.gl_model.specs.Kept.{AreVariables}
@@ -15,11 +15,11 @@ use Rattle.gl_draws.specs.Events.{AreEvents}
 use Rattle.gl_draws.specs.RowFacts.{IsWithin, SomeFails}
 use Rattle.gl_rule.specs.declared.slot.Slot.TheVariants as slot
 use Rattle.gl_rule.specs.Knowledge.{AreBelow}
-use Rattle.gl_rule.specs.View.{View, Held, saw_tail, with_tail}
+use Rattle.gl_rule.specs.View.{Held, saw_tail, with_tail}
 use Rattle.gl_table.specs.PassView.{PassView, view_of, shelf_of, after}
 use Rattle.gl_table.specs.TableView.{TableView}
 use Rattle.gl_txn.specs.Changing.{AreUnchangedIn, IsFirstChange, look_in}
-use Rattle.gl_txn.specs.Drawing.{attempt_in, MayNumber, HasDropped, with_entry}
+use Rattle.gl_txn.specs.Drawing.{attempt_in, MayNumber, HasDropped}
 use Rattle.gl_txn.specs.Ending.{entry_of, AreUnchanged, OverEach, IsClear, IsCauseBy, IsWaitBy}
 use Rattle.gl_rule.specs.Fitting.{IsFitting}
 use Rattle.gl_rule.specs.View.{Read, Busy, Taken, Hold}
@@ -33,10 +33,9 @@ use Rattle.gl_txn.specs.declared.changing.Change.{Change}
 use Rattle.gl_txn.specs.declared.stops.TxEnd.TheVariants as end
 use Rattle.gl_txn.specs.declared.stops.TxWait.{TxWait}
 use Rattle.gl_txn.specs.declared.stops.TxWait.TheVariants as wait
-use Rattle.gl_txn.proofs.Published.{look_found}
 use Rattle.gl_txn.proofs.Sizes.{of_look}
 use Rattle.gl_txn.proofs.Unions.{found_part}
-use Rattle.gl_txn.specs.Holding.{vars_of, found, row_at, row_held, held_by, held_of, AreHeld, undrawn, HaveTaken, HaveWrites, takes}
+use Rattle.gl_txn.specs.Holding.{vars_of, found, row_at, row_held, held_by, held_of, AreHeld, undrawn, HaveTaken, HaveWrites}
 use Rattle.gl_txn.specs.Publishing.{IsReady}
 use Rattle.gl_txn.specs.Racing.{asked_on, asked_of, MayJudge, KnowsOn, Over, AreClear, IsFirstRace, RacesOn}
 use Rattle.gl_txn.specs.Stages.{HoldsRows, EndsAs, IsPutBack}
@@ -94,9 +93,11 @@ module _ (p q r : PassView) (rows : List TakenRow) (tx : Tx) (h : HoldsRows p ro
   seen_below : AreBelow r.seen (shelf_of r)
   seen_below = subst (λ (u : PassView). AreBelow u.seen (shelf_of u)) (sym is) below
 
-  pub races_on : (x : ℕ) → IsFirstRace r base tx.writes rows x → RacesOn r rows tx x
-  races_on x f = record {
+  pub races_on : AreUnchangedIn tx.looks rows → AreVariables (map (λ l. l.var) tx.looks) → (x : ℕ) → IsFirstRace r base tx.writes rows x → RacesOn r rows tx x
+  races_on unchanged looks x f = record {
     of = h.of;
+    unchanged = unchanged;
+    looks = looks;
     held = seen_held;
     below = seen_below;
     place = f.place;
@@ -141,20 +142,9 @@ module _ (p q r : PassView) (rows : List TakenRow) (tx : Tx) (h : HoldsRows p ro
   pub seen_spare : r.spare ≡ p.spare
   seen_spare = ap (λ (u : PassView). u.spare) is
 
--- the rows may be judged once the tail was seen
-pub may_judge : (p q : PassView) (rows : List TakenRow) (tx : Tx) → HoldsRows p rows tx → (n : ℕ) → q ≡ after p (saw_tail (view_of p) n) → ((h : Held) (row : Row) → Contains p.own.held h → h.taken ≡ slot.Row row → IsWithin row n) → (base : Question) → base.thread ≡ q.own.id → base.thread < THREADS
-    → ((setting : Setting) (l : List Stamp) (now : State) → AreEvents l q.own.id q.own.mine → Allows setting l now → AreLeastOwned now q.own.id base.held) → MayJudge q rows base
-may_judge p q rows tx h n saw within base thread near owned = record {
-  list = None;
-  tails = n ∷ [];
-  drew = undrawn;
-  held = subst (λ (u : PassView). AreHeld u.own.held None rows (n ∷ []) undrawn) (sym saw) (held_tail p.own.held rows [] h.held n);
-  within = λ r c. subst (λ (u : PassView). IsWithin r.row u.seen) (sym saw) (within (row_held [] undrawn r) r.row (found_held (suc r.var) p.own.held (row_held [] undrawn r) (h.held.at (suc r.var) ∙ ap (held_by [] undrawn) (there r c))).0 refl);
-  thread = thread;
-  near = near;
-  runs = ap (λ (u : PassView). Rattle.gl_rule.specs.Lives.life_of u.own.mine) saw ∙ h.runs;
-  owned = owned;
-}
+-- the Infos of the rows lie within a tail that was seen since they were taken
+rows_within : (p : PassView) (rows : List TakenRow) (tx : Tx) → HoldsRows p rows tx → (n : ℕ) → ((h : Held) (row : Row) → Contains p.own.held h → h.taken ≡ slot.Row row → IsWithin row n) → (r : TakenRow) → Contains rows r → IsWithin r.row n
+rows_within p rows tx h n within r c = within (row_held [] undrawn r) r.row (found_held (suc r.var) p.own.held (row_held [] undrawn r) (h.held.at (suc r.var) ∙ ap (held_by [] undrawn) (there r c))).0 refl
   where
     among : (xs : List TakenRow) (r : TakenRow) → Contains xs r → Contains (vars_of xs) r.var
     among [] r c = absurd (let n = c.1 in omega arith)
@@ -165,6 +155,21 @@ may_judge p q rows tx h n saw within base thread near owned = record {
     there r c =
         let b = Rattle.gl_draws.proofs.EntryKinds.contains-is_in r.var (vars_of rows) (among rows r c) in
         (row_of rows r.var b).1 ∙ ap (λ (u : TakenRow). Some u) (row_is rows h.held.are.1 r c b)
+
+-- the rows may be judged once the tail was seen
+pub may_judge : (p q : PassView) (rows : List TakenRow) (tx : Tx) → HoldsRows p rows tx → (n : ℕ) → q ≡ after p (saw_tail (view_of p) n) → ((h : Held) (row : Row) → Contains p.own.held h → h.taken ≡ slot.Row row → IsWithin row n) → (base : Question) → base.thread ≡ q.own.id → base.thread < THREADS
+    → ((setting : Setting) (l : List Stamp) (now : State) → AreEvents l q.own.id q.own.mine → Allows setting l now → AreLeastOwned now q.own.id base.held) → MayJudge q rows base
+may_judge p q rows tx h n saw within base thread near owned = record {
+  list = None;
+  tails = n ∷ [];
+  drew = undrawn;
+  held = subst (λ (u : PassView). AreHeld u.own.held None rows (n ∷ []) undrawn) (sym saw) (held_tail p.own.held rows [] h.held n);
+  within = λ r c. subst (λ (u : PassView). IsWithin r.row u.seen) (sym saw) (rows_within p rows tx h n within r c);
+  thread = thread;
+  near = near;
+  runs = ap (λ (u : PassView). Rattle.gl_rule.specs.Lives.life_of u.own.mine) saw ∙ h.runs;
+  owned = owned;
+}
 
 pub drops_as : (tx : Tx) (e : TxEnd) (why : _) (p q : PassView) → ((t : Tx) → entry_of e t ≡ Rattle.gl_model.specs.Entries.Abort t why) → HasDropped tx why p q → EndsAs tx e p q
 drops_as tx e why p q entry d = record {
@@ -223,7 +228,8 @@ pub unchanged_all : (a : Tx) (rows : List TakenRow) → AreVariables (map (λ l.
 unchanged_all a rows looks u l r c d e = let k = at_in rows r d in u k.0 r k.1 l (look_same a l r looks.1 c e)
 
 module _ (p q r : PassView) (rows : List TakenRow) (tx : Tx) (h : HoldsRows p rows tx) (n : ℕ) (saw : q ≡ after p (saw_tail (view_of p) n)) (below : AreBelow n (shelf_of p)) (k : KnowsOn q r) (base : Question) (thread : base.thread ≡ p.own.id) (commit : base.commit ≡ Some (variables_of tx))
-    (later : p.seen ≤ n) (looks : AreVariables (map (λ l. l.var) tx.looks)) (unchanged : AreUnchangedIn tx.looks rows) where
+    (later : p.seen ≤ n) (looks : AreVariables (map (λ l. l.var) tx.looks)) (unchanged : AreUnchangedIn tx.looks rows)
+    (reaches : (h : Held) (row : Row) → Contains p.own.held h → h.taken ≡ slot.Row row → IsWithin row n) where
   abbrev J : PassView
   J = record (after p (saw_tail (view_of p) n)) { known = p.known ++ k.more; loaded = r.loaded }
 
@@ -247,6 +253,7 @@ module _ (p q r : PassView) (rows : List TakenRow) (tx : Tx) (h : HoldsRows p ro
     upto = r.seen;
     later = (let e = seen_j in omega arith);
     within = within;
+    reaches = λ u c. subst (IsWithin u.row) (sym seen_j) (rows_within p rows tx h n reaches u c);
     unraced = λ l fits stand u c fails.
         (let j = at_in rows u c in
         over_j (λ l. SomeFails l u.row (asked_on base tx.writes u.var) → ⊥) (λ setting l f st. clear j.0 u j.1 setting l f st) setting s.known more known l fits stand
@@ -255,13 +262,13 @@ module _ (p q r : PassView) (rows : List TakenRow) (tx : Tx) (h : HoldsRows p ro
 
   pub done_cause : (z : TableView) → AreClear r base tx.writes rows → (e : TxEnd) (s : PassView) → ReachedEnd z e r s → IsCauseBy z (attempt_in tx) e (shelf_of p) p.seen p.reads rows s
   done_cause z clear (end.Done at) s d = record {
-    clear = is_clear_by clear z.key.setting s d.more d.known (let a = d.later in let b = d.behind in let c = d.seen in omega arith);
+    clear = is_clear_by clear z.key.setting s d.more d.known (let a = d.later in let b = d.here in let c = d.seen in omega arith);
     list = d.list;
     low = d.low;
     tail = d.tail;
     reads = d.reads ∙ ap (λ (l : List Read). l ++ (Taken 0 (slot.List d.list) ∷ Hold 0 d.low ∷ [])) reads_j;
     room = d.room;
-    behind = d.behind;
+    here = d.here;
     seen = d.seen;
   }
   done_cause z clear (end.Raised var) s d = absurd d

@@ -1,11 +1,10 @@
 -- An attempt that is dropped since its commit would complete a race.
+use Rattle.gl_txn.specs.Changing.{look_in}
+use Rattle.gl_txn.proofs.Changes.{look_found}
 use Rattle.std.proofs.Common.{◌≡◌, ◌≢◌, ℕ, zero, suc, ◌+◌, ◌<◌, ◌≤◌, ◌==◌, List, [], ◌∷◌, ◌++◌, length, map, true, false, Bool, refl, sym, ap, ◌∙◌, subst, arith, Some, None, inl, inr}
-use Rattle.std.specs.Prelude.{Contains, Option, ◌↔◌, ℤ, slice_get}
-use Rattle.std.proofs.lemmas.Bool.{cases_lt}
-use Rattle.std.proofs.lemmas.Option.{slice_get_within}
+use Rattle.std.specs.Prelude.{Contains, slice_get}
 use native.Mathlib.Decide.{ℕ_discrete}
 use Rattle.gl_model.specs.declared.event.Stamp.{Stamp}
-use Rattle.gl_model.specs.declared.row.Row.{Row}
 use Rattle.gl_model.specs.declared.tx.Number.{Number}
 use Rattle.gl_model.specs.declared.tx.Tx.{Tx}
 use Rattle.gl_model.specs.declared.tx.Why.TheVariants.{Raised}
@@ -15,16 +14,14 @@ use Rattle.gl_model.specs.Rising.{Rises}
 use Rattle.gl_model.specs.Trace.{is_in}
 use Rattle.gl_draws.specs.RowFacts.{SomeFails}
 use Rattle.gl_draws.proofs.EntryKinds.{is_in-contains, contains-is_in}
-use Rattle.gl_rule.specs.Commits.{MayRefuse}
-use Rattle.gl_rule.specs.Fitting.{IsFitting, InfosStand}
+use Rattle.gl_rule.specs.Fitting.{InfosStand}
 use Rattle.gl_rule.specs.Lives.{Running, life_of}
-use Rattle.gl_rule.specs.View.{Held}
 use Rattle.gl_table.specs.CaughtUp.{block_of}
-use Rattle.gl_table.specs.PassView.{PassView, view_of, shelf_of}
+use Rattle.gl_table.specs.PassView.{PassView}
 use Rattle.gl_table.specs.Putting.{MayAbort}
 use Rattle.gl_txn.specs.Drawing.{attempt_in, numbered, drew_on, HasDrawn}
 use Rattle.gl_txn.specs.Holding.{vars_of, row_at, AreHeld}
-use Rattle.gl_txn.specs.Racing.{asked_of, Over, RacesOn}
+use Rattle.gl_txn.specs.Racing.{asked_of, RacesOn}
 use Rattle.gl_txn.specs.Trying.{Draws}
 use Rattle.gl_txn.specs.declared.taken.TakenRow.{TakenRow}
 use Rattle.gl_txn.proofs.EndFacts.{may_drop, names_one}
@@ -124,6 +121,12 @@ module _ (tx : Tx) (p q : PassView) (rows : List TakenRow) (x : ℕ) (numbers : 
       saw = λ y b. (0, omega arith, refl);
       asks = λ y. (refl, refl, (λ b. is_in-contains y (map (λ w. w.var) tx.writes) b, λ c. contains-is_in y (map (λ w. w.var) tx.writes) c));
       touches = subst (λ ys. is_in x ys ≡ true) races.of (contains-is_in x (vars_of rows) (subst (λ k. Contains (vars_of rows) k) (sym races.var) (in_vars rows races.place races.row races.there)));
+      words = λ y b value nth c.
+          (let r = (in_rows y b).0 in
+          let at = (row_among rows y r (in_rows y b).1).1 in
+          let k = place_of rows y r (in_rows y b).1 in
+          let f = look_found tx.looks races.looks.1 (record { var = y; value = value; nth = nth }) c in
+          sym (races.unchanged k.0 r k.1 (record { var = y; value = value; nth = nth }) (ap (look_in tx.looks) at ∙ f)));
       judged = λ l fits stand b. subst (λ (u : TakenRow). SomeFails l u.row (asked_of p.own.id tx x)) (sym (row_x b)) (races.races setting l fits (stand_all setting l stand));
       least = λ l fits stand y b less fails.
           (let r = (in_rows y b).0 in

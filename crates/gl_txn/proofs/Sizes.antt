@@ -1,12 +1,12 @@
 -- Whether an attempt has room for a variable.
-use Rattle.std.proofs.Common.{◌≡◌, ◌≢◌, ℕ, ◌+◌, ◌<◌, ◌≤◌, List, [], ◌∷◌, length, map, true, false, Bool, refl, sym, ap, ◌∙◌, subst, arith, Some, None, inl, inr}
-use Rattle.std.specs.Prelude.{Contains, Option, ◌⊎◌, ◌↔◌, ℤ}
+use Rattle.std.proofs.Common.{◌≡◌, ◌≢◌, ℕ, ◌<◌, ◌≤◌, List, length, map, true, false, refl, sym, ap, ◌∙◌, subst, arith, Some, None, inl, inr}
+use Rattle.std.specs.Prelude.{Contains, Option, ◌⊎◌}
 use Rattle.std.proofs.lemmas.Bool.{cases_Bool}
 use Rattle.gl_model.specs.declared.limits.TheConstants.{TX_VARIABLES}
 use Rattle.gl_model.specs.declared.tx.Look.{Look}
 use Rattle.gl_model.specs.declared.tx.Pair.{Pair}
-use Rattle.gl_model.specs.Rising.{Rises, with_one, with_all, with_part}
-use Rattle.gl_txn.specs.Attempts.{Attempting, written, looked, is_in, is_in_by, size, variables_in, IsTooLarge, with_write, with_look}
+use Rattle.gl_model.specs.Rising.{with_one, with_all, with_part}
+use Rattle.gl_txn.specs.Attempts.{Attempting, written, looked, is_in, is_in_by, size, variables_in, IsTooLarge}
 use Rattle.gl_txn.proofs.Unions.{keys_with, all_grow, all_one, one_all, all_left, all_right, all_from, found_among, not_found}
 
 abbrev pub of_write : Pair → ℕ

@@ -1,19 +1,16 @@
 -- The parts of an end, one after another.
-use Rattle.std.proofs.Common.{◌≡◌, ◌≢◌, ℕ, zero, suc, ◌+◌, ◌-◌, ◌<◌, ◌≤◌, List, [], ◌∷◌, ◌++◌, length, map, true, false, Bool, refl, sym, ap, ◌∙◌, subst, arith, Some, None, inl, inr}
-use Rattle.std.specs.Prelude.{Contains, Option, ◌||◌, slice_get}
+use Rattle.std.proofs.Common.{◌≡◌, ℕ, zero, suc, List, [], ◌∷◌, ◌++◌, map, sym, ap, ◌∙◌, subst, arith, Some, None}
 use Rattle.gl_model.specs.declared.tx.Tx.{Tx}
-use Rattle.gl_model.specs.Entries.{Commit, Abort}
+use Rattle.gl_model.specs.Entries.{Commit}
 use Rattle.gl_rule.specs.declared.slot.Slot.TheVariants as slot
-use Rattle.gl_rule.specs.View.{View, Held, left, new_held, with_tail, without}
+use Rattle.gl_rule.specs.View.{Held, new_held, with_tail, without}
 use Rattle.gl_state.specs.ListView.{ListView}
-use Rattle.gl_table.specs.PassView.{PassView, view_of, after}
+use Rattle.gl_table.specs.PassView.{PassView}
 use Rattle.gl_table.specs.TableView.{TableView}
-use Rattle.gl_txn.specs.Drawing.{with_entry, HasDropped}
-use Rattle.gl_txn.specs.Ending.{entry_of}
+use Rattle.gl_txn.specs.Drawing.{with_entry}
 use Rattle.gl_txn.specs.Holding.{AreHeld, AreUnused, held_of, found, undrawn}
-use Rattle.gl_txn.specs.Publishing.{HasReached, HasPublished, IsReady, IsReachStop, with_room}
-use Rattle.gl_txn.specs.Stages.{HoldsRows, EndsAs, IsPutBack}
-use Rattle.gl_txn.specs.declared.stops.TxEnd.{TxEnd}
+use Rattle.gl_txn.specs.Publishing.{HasReached, HasPublished, IsReady, IsReachStop}
+use Rattle.gl_txn.specs.Stages.{EndsAs, IsPutBack}
 use Rattle.gl_txn.specs.declared.stops.TxEnd.TheVariants as end
 use Rattle.gl_txn.specs.declared.stops.TxWait.{TxWait}
 use Rattle.gl_txn.specs.declared.stops.TxWait.TheVariants as wait

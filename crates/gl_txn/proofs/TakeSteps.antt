@@ -1,6 +1,6 @@
 -- Taking rows one after another, and putting them back.
-use Rattle.std.proofs.Common.{◌≡◌, ◌≢◌, ℕ, zero, suc, ◌+◌, ◌<◌, ◌≤◌, ◌==◌, List, [], ◌∷◌, ◌++◌, length, map, take, drop, get_or, true, false, Bool, refl, sym, ap, ◌∙◌, subst, arith, Some, None, inl, inr, ne_eqb, append_assoc, append-nil}
-use Rattle.std.specs.Prelude.{Contains, Option, ℤ, ◌||◌, if◌then◌else◌}
+use Rattle.std.proofs.Common.{◌≡◌, ℕ, suc, ◌+◌, ◌<◌, ◌==◌, List, [], ◌∷◌, ◌++◌, length, take, drop, get_or, false, refl, sym, ap, ◌∙◌, subst, arith, None, inl, inr, ne_eqb, append_assoc, append-nil}
+use Rattle.std.specs.Prelude.{Option, ℤ, ◌||◌, if◌then◌else◌}
 use Rattle.std.proofs.lemmas.List.{take_more, take-append-drop}
 use Rattle.std.proofs.Math.Seq.{drop-cons}
 use Rattle.gl_model.specs.declared.limits.TheConstants.{THREADS}
@@ -8,11 +8,11 @@ use Rattle.gl_model.specs.declared.row.Row.{Row}
 use Rattle.gl_model.specs.Kept.{AreVariables}
 use Rattle.gl_model.proofs.RisingLists.{All-take, Rises-take}
 use Rattle.gl_rule.specs.declared.slot.Slot.TheVariants as slot
-use Rattle.gl_rule.specs.View.{View, Held, Read, Busy, Taken, new_held, without, took, left, refused}
-use Rattle.gl_table.specs.PassView.{PassView, Own, view_of, after}
+use Rattle.gl_rule.specs.View.{Held, Read, Busy, Taken, new_held, without, took, left, refused}
+use Rattle.gl_table.specs.PassView.{PassView, view_of, after}
 use Rattle.gl_txn.specs.Holding.{vars_of, takes, AreHeld, AreUnused, HaveTaken, HaveWrites, WereBusy, undrawn, write_in}
 use Rattle.gl_txn.specs.declared.taken.TakenRow.{TakenRow}
-use Rattle.gl_txn.proofs.Holdings.{held_more, held_nothing, vars_pushed, taken_unused, unused_none}
+use Rattle.gl_txn.proofs.Holdings.{held_more, held_nothing, vars_pushed, unused_none}
 use Rattle.gl_txn.proofs.LookSteps.{or_no}
 
 -- a row that was put back

@@ -1,5 +1,5 @@
 -- Words that were changed since the attempt looked at them.
-use Rattle.std.specs.Prelude.{◌≡◌, ◌≢◌, ℕ, ◌==◌, ◌<◌, List, slice_get, Contains, Option, Some, None}
+use Rattle.std.specs.Prelude.{◌≡◌, ◌≢◌, ℕ, ◌==◌, ◌<◌, List, slice_get, Option, Some, None}
 use Rattle.std.specs.List.{find}
 use Rattle.gl_model.specs.declared.tx.Look.{Look}
 use Rattle.gl_txn.specs.declared.changing.Change.{Change}

@@ -1,7 +1,6 @@
 -- How an attempt ends, and why; and why it has not ended yet.
-use Rattle.std.specs.Prelude.{◌≡◌, ◌≢◌, ◌⊎◌, ℕ, ℤ, zero, suc, ◌+◌, ◌*◌, ◌<◌, ◌≤◌, Bool, List, [], ◌∷◌, ◌++◌, map, Contains, Some}
+use Rattle.std.specs.Prelude.{◌≡◌, ◌≢◌, ◌⊎◌, ℕ, ℤ, suc, ◌+◌, ◌*◌, ◌<◌, ◌≤◌, Bool, List, [], ◌∷◌, ◌++◌, map, Contains, Some}
 use Rattle.gl_model.specs.declared.event.Stamp.{Stamp}
-use Rattle.gl_model.specs.declared.event.Event.TheVariants.{Commit as Commits}
 use Rattle.gl_model.specs.declared.limits.TheConstants.{THREADS}
 use Rattle.gl_model.specs.declared.row.Question.{Question}
 use Rattle.gl_model.specs.declared.tx.Look.{Look}
@@ -10,13 +9,13 @@ use Rattle.gl_model.specs.declared.tx.Why.TheVariants.{Changed, Raised}
 use Rattle.gl_model.specs.Entries.{Entry, Commit, Abort}
 use Rattle.gl_model.specs.Machine.{Setting}
 use Rattle.gl_model.specs.Trace.{is_in}
-use Rattle.gl_draws.specs.RowFacts.{SomeFails}
+use Rattle.gl_draws.specs.RowFacts.{IsWithin, SomeFails}
 use Rattle.gl_rule.specs.declared.slot.Slot.TheVariants as slot
 use Rattle.gl_rule.specs.Fitting.{IsFitting, InfosStand}
 use Rattle.gl_rule.specs.Objects.{capacity}
 use Rattle.gl_rule.specs.View.{Shelf, Read, Busy, Taken, Hold}
 use Rattle.gl_state.specs.ListView.{ListView}
-use Rattle.gl_table.specs.PassView.{Own, PassView, view_of, shelf_of}
+use Rattle.gl_table.specs.PassView.{Own, PassView, shelf_of}
 use Rattle.gl_table.specs.TableView.{TableView}
 use Rattle.gl_txn.specs.Attempts.{Attempting, variables_in, writes_at}
 use Rattle.gl_txn.specs.Holding.{takes, vars_of, WereBusy}
@@ -76,13 +75,15 @@ pub record IsClear (setting : Setting) (a : Attempting) (s : Shelf) (from : ℕ)
   pub upto : ℕ
   pub later : from ≤ upto
   pub within : upto ≤ q.seen
+  -- each Info of the rows stands at that tail or before
+  pub reaches : (r : TakenRow) → Contains rows r → IsWithin r.row upto
   pub unraced : OverEach setting s upto q.known rows (λ l. (r : TakenRow) → Contains rows r → RacesAt s.thread a l r → ⊥)
 
 -- there is room for an event at this tail, where the ring begins with the segment low
 abbrev pub HasRoomAt : TableView → ℕ → ℕ → Type 0
 HasRoomAt z low tail = tail < low * z.key.cells + capacity z.key
 
--- why the attempt was committed: nothing speaks against it, and the list was free and had room. It stands at or behind the tail that was loaded then. What was
+-- why the attempt was committed: nothing speaks against it, and the list was free and had room. It stands at the tail that was loaded then. What was
 -- read before is what its rows' turns gave
 pub record WasDone (z : TableView) (a : Attempting) (at : ℕ) (s : Shelf) (from : ℕ) (before : List Read) (rows : List TakenRow) (q : PassView) : Type 0 where
   pub clear : IsClear z.key.setting a s from rows q
@@ -91,7 +92,7 @@ pub record WasDone (z : TableView) (a : Attempting) (at : ℕ) (s : Shelf) (from
   pub tail : ℕ
   pub reads : q.reads ≡ before ++ (Taken 0 (slot.List list) ∷ Hold 0 low ∷ [])
   pub room : HasRoomAt z low tail
-  pub behind : tail ≤ at
+  pub here : at ≡ tail
   pub seen : q.seen ≡ suc at
 
 -- why it was dropped as changed: at the least such variable its look has another word than the row

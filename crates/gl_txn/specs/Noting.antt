@@ -1,5 +1,5 @@
 -- Rows after a commit.
-use Rattle.std.specs.Prelude.{◌≡◌, ℕ, ℤ, suc, ◌<◌, ◌+◌, true, false, List, ◌∷◌, map, Contains, Option, Some, None}
+use Rattle.std.specs.Prelude.{◌≡◌, ℕ, ℤ, ◌<◌, ◌+◌, true, false, List, Contains, Option, Some, None}
 use Rattle.gl_model.specs.declared.event.Stamp.{Stamp}
 use Rattle.gl_model.specs.declared.limits.TheConstants.{THREADS}
 use Rattle.gl_model.specs.declared.row.Question.{Question}
@@ -10,7 +10,6 @@ use Rattle.gl_model.specs.Form.{At}
 use Rattle.gl_model.specs.Infos.{AreLeastOwned}
 use Rattle.gl_model.specs.Machine.{Setting, State, Allows}
 use Rattle.gl_model.specs.Records.{variables_of}
-use Rattle.gl_model.specs.Trace.{is_in}
 use Rattle.gl_draws.specs.Draws.{Draw, draw, Entered}
 use Rattle.gl_draws.specs.Events.{AreEvents}
 use Rattle.gl_judge.specs.Noted.{IsNoted}

@@ -1,5 +1,5 @@
 -- A pass that reaches for the list, and publishes a commit.
-use Rattle.std.specs.Prelude.{◌≡◌, ℕ, suc, false, slice_get, ◌+◌, ◌*◌, ◌<◌, ◌≤◌, ◌^◌, List, [], ◌∷◌, ◌++◌, map, Contains, Some, None}
+use Rattle.std.specs.Prelude.{◌≡◌, ℕ, suc, false, slice_get, ◌<◌, ◌≤◌, ◌^◌, List, [], ◌∷◌, ◌++◌, map, Some, None}
 use Rattle.gl_model.specs.declared.limits.TheConstants.{THREADS}
 use Rattle.gl_model.specs.declared.tx.Tx.{Tx}
 use Rattle.gl_model.specs.Entries.{Commit}
@@ -19,8 +19,7 @@ use Rattle.gl_txn.specs.Racing.{Over, asked_of}
 use Rattle.gl_txn.specs.Trying.{Draws}
 use Rattle.gl_txn.specs.declared.taken.TakenRow.{TakenRow}
 use Rattle.gl_rule.specs.declared.slot.Slot.TheVariants as slot
-use Rattle.gl_rule.specs.Objects.{capacity}
-use Rattle.gl_rule.specs.View.{Busy, Taken, Hold, saw, saw_tail, took, left}
+use Rattle.gl_rule.specs.View.{Busy, Hold, saw, saw_tail, took, left}
 use Rattle.gl_state.specs.ListView.{ListView}
 use Rattle.gl_table.specs.PassView.{PassView, view_of, after}
 use Rattle.gl_table.specs.TableView.{TableView}

@@ -6,6 +6,7 @@ use Rattle.gl_model.specs.declared.row.Question.{Question}
 use Rattle.gl_model.specs.declared.tx.Pair.{Pair}
 use Rattle.gl_model.specs.declared.tx.Tx.{Tx}
 use Rattle.gl_model.specs.Infos.{AreLeastOwned}
+use Rattle.gl_model.specs.Kept.{AreVariables}
 use Rattle.gl_model.specs.Records.{variables_of}
 use Rattle.gl_model.specs.Machine.{Setting, State, Allows}
 use Rattle.gl_model.specs.Trace.{is_in}
@@ -19,6 +20,7 @@ use Rattle.gl_table.specs.PassView.{PassView, shelf_of}
 use Rattle.gl_rule.specs.Knowledge.{AreBelow}
 use Rattle.gl_txn.specs.Holding.{AreHeld, undrawn, vars_of}
 use Rattle.gl_txn.specs.declared.taken.TakenRow.{TakenRow}
+use Rattle.gl_txn.specs.Changing.{AreUnchangedIn}
 
 -- the question of the row of y, where the commit has these writes
 abbrev pub asked_on : Question → List Pair → ℕ → Question
@@ -74,6 +76,9 @@ pub record RacesOn (p : PassView) (rows : List TakenRow) (tx : Tx) (x : ℕ) : T
   pub of : vars_of rows ≡ variables_of tx
   pub held : AreHeld p.own.held None rows (p.seen ∷ []) undrawn
   pub below : AreBelow p.seen (shelf_of p)
+  -- no word was changed
+  pub unchanged : AreUnchangedIn tx.looks rows
+  pub looks : AreVariables (map (λ l. l.var) tx.looks)
   pub place : ℕ
   pub row : TakenRow
   pub there : slice_get rows place ≡ Some row

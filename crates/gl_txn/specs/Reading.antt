@@ -1,11 +1,11 @@
 -- What a read inside an attempt answers, and why it stops.
-use Rattle.std.specs.Prelude.{◌≡◌, ℕ, ℤ, suc, ◌<◌, false, List, [], ◌∷◌, ◌++◌, Option, Some, None}
+use Rattle.std.specs.Prelude.{◌≡◌, ℕ, ℤ, suc, ◌<◌, false, [], ◌∷◌, ◌++◌, Option, Some, None}
 use Rattle.gl_model.specs.declared.limits.TheConstants.{THREADS, TX_VARIABLES}
 use Rattle.gl_model.specs.declared.row.Row.{Row}
 use Rattle.gl_model.specs.declared.tx.Look.{Look}
 use Rattle.gl_model.specs.declared.tx.Pair.{Pair}
 use Rattle.gl_rule.specs.declared.slot.Slot.TheVariants as slot
-use Rattle.gl_rule.specs.View.{Busy as ReadBusy, Taken, refused}
+use Rattle.gl_rule.specs.View.{Taken, refused}
 use Rattle.gl_table.specs.PassView.{Own, PassView, view_of, after}
 use Rattle.gl_txn.specs.Attempts.{Attempting, written, looked, is_in, size, IsTooLarge, with_look}
 use Rattle.gl_txn.specs.Trying.{Draws}

@@ -1,7 +1,6 @@
 -- What the parts of an attempt's end leave of the pass.
 use Rattle.std.specs.Prelude.{◌≡◌, ℕ, suc, ◌-◌, ◌<◌, ◌≤◌, ◌^◌, List, [], ◌∷◌, ◌++◌, None}
 use Rattle.gl_model.specs.declared.tx.Tx.{Tx}
-use Rattle.gl_model.specs.Kept.{AreVariables}
 use Rattle.gl_model.specs.Records.{variables_of}
 use Rattle.gl_model.specs.declared.event.Stamp.{Stamp}
 use Rattle.gl_model.specs.declared.limits.TheConstants.{THREADS}
@@ -12,7 +11,6 @@ use Rattle.gl_state.specs.ListView.{ListView}
 use Rattle.gl_table.specs.TableView.{TableView}
 use Rattle.gl_rule.specs.Lives.{Running, life_of}
 use Rattle.gl_table.specs.PassView.{PassView}
-use Rattle.gl_txn.specs.Changing.{AreUnchangedIn}
 use Rattle.gl_txn.specs.Drawing.{attempt_in}
 use Rattle.gl_txn.specs.Ending.{entry_of, HasRoomAt}
 use Rattle.gl_txn.specs.Holding.{AreHeld, undrawn, vars_of, HaveWrites}
@@ -55,7 +53,7 @@ pub record ReachedDone (z : TableView) (at : ℕ) (p q : PassView) : Type 0 wher
   pub tail : ℕ
   pub reads : q.reads ≡ p.reads ++ (Taken 0 (slot.List list) ∷ Hold 0 low ∷ [])
   pub later : p.seen ≤ tail
-  pub behind : tail ≤ at
+  pub here : at ≡ tail
   pub room : HasRoomAt z low tail
   pub seen : q.seen ≡ suc at
   pub more : List (ℕ × Stamp)

@@ -1,7 +1,6 @@
 -- An attempt's fields, and what is true of them.
-use Rattle.std.specs.Prelude.{◌≡◌, ◌≤◌, [], map, length, vec_capacity}
+use Rattle.std.specs.Prelude.{◌≡◌, ◌≤◌, [], map, vec_capacity}
 use Rattle.gl_model.specs.declared.limits.TheConstants.{TX_VARIABLES}
-use Rattle.gl_model.specs.Kept.{IsTxKept}
 use Rattle.gl_txn.specs.Attempts.{Attempting, variables_in}
 use Rattle.gl_txn.specs.declared.attempt.Txn.TheInside.{Inside}
 

@@ -1,8 +1,10 @@
 // Dropping an attempt: its numbers are drawn, its entry is stored, and its rows go back.
-ghost use Rattle.std.specs.Prelude.{◌≡◌, ℕ, ◌<◌, ◌≤◌, ◌++◌, ◌∷◌, [], List, Option, None, length};
+ghost use Rattle.std.specs.Prelude.{◌≡◌, ℕ, ◌<◌, ◌≤◌, ◌++◌, ◌∷◌, [], List, Option, None, length, map};
 ghost use Rattle.gl_model.specs.declared.tx.Why.TheVariants.{Changed, Raised};
 ghost use Rattle.gl_model.specs.declared.limits.TheConstants.{VARIABLES, TX_VARIABLES};
 ghost use Rattle.gl_model.specs.Rising.{Rises};
+ghost use Rattle.gl_model.specs.Kept.{AreVariables};
+ghost use Rattle.gl_model.specs.Records.{variables_of};
 ghost use Rattle.gl_rule.specs.View.{Held as AHeld};
 ghost use Rattle.gl_txn.specs.Changing.{IsFirstChange};
 ghost use Rattle.gl_txn.specs.Drawing.{MayNumber, HasDrawn, HasDropped, attempt_in, numbered};
@@ -63,6 +65,8 @@ pub(crate) fn drop_changed(
     requires draws { Draws (attempt_in tx.value) pass.old.own }
     requires none { tx.value.numbers ≡ [] }
     requires change { IsFirstChange tx.value.looks rows.old.items change.now }
+    requires of { vars_of rows.old.items ≡ variables_of tx.value }
+    requires looks { AreVariables (map (λ l. l.var) tx.value.looks) }
     ensures dropped { HasDropped tx.value (Changed change.now.var change.now.read change.now.found) pass.old pass.new }
     ensures end { result ≡ WasChanged change.now.var change.now.read change.now.found }
 {

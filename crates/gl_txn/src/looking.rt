@@ -19,7 +19,7 @@ pub(crate) fn look_at(shared: &Shared, pass: &mut Pass, var: u16) -> Result<Look
     requires owed { pass.old.own.owed ≡ [] }
     requires few { counted pass.old.own.mine < 2 ^ 50 }
     requires runs { life_of pass.old.own.mine ≡ Running }
-    requires room { count_on var pass.old.own.drawn ≤ 1 }
+    requires room { count_on var pass.old.own.drawn ≡ 0 }
     ensures look { IfOk result (λ l. IsLookAt var l pass.old pass.new) }
     ensures busy { IfErr result (λ by. (by < THREADS) × (pass.new ≡ after pass.old (refused (view_of pass.old) (suc var) by))) }
 {

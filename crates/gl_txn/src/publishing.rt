@@ -2,6 +2,7 @@
 ghost use Rattle.std.specs.Prelude.{◌≡◌, ◌<◌, ◌≤◌, IfOk, IfErr, []};
 ghost use Rattle.gl_rule.specs.Taken.{StateTold};
 ghost use Rattle.gl_table.specs.PassView.{view_of};
+ghost use Rattle.gl_table.specs.Putting.{DoesNotHold};
 ghost use Rattle.gl_model.specs.Records.{variables_of};
 ghost use Rattle.gl_txn.specs.Publishing.{HasReached, IsReachStop, MayPublish, HasPublished};
 
@@ -17,6 +18,7 @@ use gl_table::{Pass, Shared};
 // Takes the list where it has room for an event; else it is put back.
 pub(crate) fn reach_list(shared: &Shared, pass: &mut Pass) -> Result<ListState, TxWait>
     requires table { pass.old.own.table ≡ shared.now.id }
+    requires free { DoesNotHold pass.old.own.held 0 }
     ensures ok { IfOk result (λ l. HasReached shared.now pass.old l pass.new) }
     ensures told { IfOk result (λ l. StateTold shared.now.key.setting (view_of pass.old) l) }
     ensures stop { IfErr result (λ w. IsReachStop shared.now w pass.old pass.new) }
@@ -49,7 +51,7 @@ pub(crate) fn publish(
     requires none { tx.value.numbers ≡ [] }
     requires vars { vars.now ≡ variables_of tx.value }
     ensures published { HasPublished tx.value result pass.old pass.new }
-    ensures later { pass.old.seen ≤ result }
+    ensures here { result ≡ pass.old.seen }
 {
     let mut tx = tx;
     vars.keeps();

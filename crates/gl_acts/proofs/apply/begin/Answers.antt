@@ -7,4 +7,5 @@ pub returns : goal.returns
 returns c setting =
     let same : c.args.argument ≡ c.args.by.value = search rules in
     let begins : c.args.act ≡ Begin c.args.func = search rules in
-    begun setting c.args.by.thread c.args.func c.args.argument c.args.by.value c.args.act c.args.state.now c.begin.new.self c.begin.ensures.near c.requires.forked begins same c.begin.ensures.is
+    begun setting c.args.by.thread c.args.func c.args.argument c.args.by.value c.args.act c.args.state.now c.begin.new.self
+    c.begin.ensures.near c.requires.forked begins same c.begin.ensures.is

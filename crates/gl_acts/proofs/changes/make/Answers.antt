@@ -11,5 +11,7 @@ returns-else-reference-by c inputs =
     let same : c.in-Some-next_object.reference ≡ c.args.by.value = search rules in
     let room : HasRoom c.args.state.now fields = search rules in
     let told : c.in-Some-next_object.reference ≡ pos (reference_in c.args.state.now c.args.class) = search rules in
-    made (setting_of c.args.program.now inputs) c.args.by.thread c.args.by.value c.args.state.now c.requires.runs c.args.class fields c.make.new.self
-    (class_in c.args.program.now inputs c.args.class c.class_of.result fields c.class_of.ensures c.in-Some.is) room (sym told ∙ same) c.make.ensures
+    made (setting_of c.args.program.now inputs) c.args.by.thread c.args.by.value c.args.state.now c.requires.runs
+    c.args.class fields c.make.new.self
+    (class_in c.args.program.now inputs c.args.class c.class_of.result fields c.class_of.ensures c.in-Some.is)
+    room (sym told ∙ same) c.make.ensures

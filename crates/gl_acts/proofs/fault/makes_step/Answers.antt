@@ -7,12 +7,15 @@ use Rattle.gl_acts.proofs.Walking.{makes}
 use Rattle.gl_acts.proofs.fault.makes_step.Goals as goal
 
 pub apply_entry-requires-clause-there : goal.apply_entry-requires-clause-there
-apply_entry-requires-clause-there c = (place_kept c.args.made.now c.keeps.ensures.1 c.args.place.thread c.args.place.index (seen c.in-Some.entry.now) c.in-Some.ensures).0
+apply_entry-requires-clause-there c = (place_kept c.args.made.now c.keeps.ensures.1 c.args.place.thread c.args.place.index
+    (seen c.in-Some.entry.now) c.in-Some.ensures.some).0
 
 pub apply_entry-requires-clause-kept : goal.apply_entry-requires-clause-kept
-apply_entry-requires-clause-kept c = (place_kept c.args.made.now c.keeps.ensures.1 c.args.place.thread c.args.place.index (seen c.in-Some.entry.now) c.in-Some.ensures).1
+apply_entry-requires-clause-kept c = (place_kept c.args.made.now c.keeps.ensures.1 c.args.place.thread c.args.place.index
+    (seen c.in-Some.entry.now) c.in-Some.ensures.some).1
 
 pub returns-else-not-has_forked : goal.returns-else-not-has_forked
 returns-else-not-has_forked c =
-    makes (setting_of c.args.program.now c.args.inputs.now) (lists_of c.args.made.now) (seen_place c.args.place) c.args.state.now c.apply_entry.new.state
-    (seen c.in-Some.entry.now) c.in-Some.ensures c.apply_entry.result c.if-not-has_forked.ensures c.apply_entry.ensures
+    makes (setting_of c.args.program.now c.args.inputs.now) (lists_of c.args.made.now) (seen_place c.args.place) c.args.state.now
+    c.apply_entry.new.state
+    (seen c.in-Some.entry.now) c.in-Some.ensures.some c.apply_entry.result c.if-not-has_forked.ensures c.apply_entry.ensures

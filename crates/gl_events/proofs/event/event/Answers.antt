@@ -7,7 +7,7 @@ use Rattle.gl_rule.specs.View.{saw, saw_tail, Hold}
 use Rattle.gl_table.specs.Doing.{announced}
 use Rattle.gl_table.specs.PassView.{PassView, view_of, shelf_of, after}
 use Rattle.gl_table.specs.Putting.{MayPutBack, MayPublishAct}
-use Rattle.gl_table.proofs.Doing.{may_put_full}
+use Rattle.gl_table.proofs.Doing.{may_put_full, holds_none}
 use Rattle.gl_events.specs.Acting.{IsPlan, Becomes}
 use Rattle.gl_events.proofs.Beginnings.{sound, start_near}
 use Rattle.gl_events.proofs.Publishing.{put_refused, publishable, answered}
@@ -58,3 +58,6 @@ returns-clause-done c =
     let here = subst (λ (q : PassView). c.announce-at.result ≡ q.seen) is c.announce-at.ensures.here in
     answered c.args.call.now z p c.announce-at.new.pass c.in-Ok.state c.apply.new.state c.low-low.result c.tail-tail.result c.announce-at.result a.act a.value c.answer.result c.requires.may c.in-Ok.ensures.told plan to (search rules) later here answer
     (c.announce-at.ensures.is ∙ ap (λ (q : PassView). announced q a.act a.value c.announce-at.result (slot.List c.apply.new.state)) is)
+
+pub take_list-requires-clause-free : goal.take_list-requires-clause-free
+take_list-requires-clause-free c = holds_none c.args.pass.now.own.held 0 c.requires.may.held

@@ -12,7 +12,8 @@ returns-in-Changed c = λ R are.
     let var = c.in-Changed.var in
     let b = c.change_is_right.result in
     rw c.in-Changed.is
-    (subst (λ v. MatchBool b (LooksReadRight R tx.looks × FoundIsRight R tx.numbers var v) (LooksReadRight R tx.looks × FoundIsRight R tx.numbers var v → ⊥))
+    (subst (λ v. MatchBool b (LooksReadRight R tx.looks × FoundIsRight R tx.numbers var v)
+    (LooksReadRight R tx.looks × FoundIsRight R tx.numbers var v → ⊥))
     (to_z-of_z w64 c.in-Changed.found fits) (c.change_is_right.ensures R are))
 
 pub returns-in-Raised : goal.returns-in-Raised

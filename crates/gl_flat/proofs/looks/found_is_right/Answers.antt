@@ -10,7 +10,8 @@ returns-in-Some c = λ R are.
     let fits : FitsSigned w64 c.args.found = c.ranges.found in
     let n = c.in-Some.number in
     number_found R c.args.numbers.now n c.args.var c.args.found c.is_word_below.result c.keeps.ensures.1 (sym c.in-Some.ensures)
-    (subst (λ v. MatchBool c.is_word_below.result (IsWordBelow R c.args.var n.nth v) (IsWordBelow R c.args.var n.nth v → ⊥)) (to_z-of_z w64 c.args.found fits) (c.is_word_below.ensures R are))
+    (subst (λ v. MatchBool c.is_word_below.result (IsWordBelow R c.args.var n.nth v) (IsWordBelow R c.args.var n.nth v → ⊥))
+    (to_z-of_z w64 c.args.found fits) (c.is_word_below.ensures R are))
 
 pub returns-in-None : goal.returns-in-None
 returns-in-None c = λ R are. no_number R c.args.numbers.now c.args.var c.args.found c.keeps.ensures.1 (sym c.in-None.ensures)

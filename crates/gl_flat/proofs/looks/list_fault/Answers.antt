@@ -11,7 +11,8 @@ pub loop-i-preserved : goal.loop-i-preserved
 loop-i-preserved c = λ R are.
     let es = map seen c.args.entries.now in
     let e = seen c.index-entries-i.result in
-    let there : At es c.loop-i.i e = at_map seen c.args.entries.now c.loop-i.i c.index-entries-i.result (omega arith) c.index-entries-i.is in
+    let there : At es c.loop-i.i e = at_map seen c.args.entries.now c.loop-i.i c.index-entries-i.result
+    (omega arith) c.index-entries-i.is in
     one_more (ReadsRight R) es c.loop-i.i (c.loop-i.invariant R are) e there (c.if-not-reads_right.ensures R are)
 
 pub returns : goal.returns

@@ -10,7 +10,8 @@ pub returns-in-Some : goal.returns-in-Some
 returns-in-Some c =
     let R = lists_of c.args.made.now in
     let are : AreWrites R c.deref.result.now = subst (AreWrites R) (sym c.deref.ensures.value) c.in_ok-writes.ensures.all in
-    first_look R c.loop-thread.thread (map seen c.list_of.result.now) c.list_of.ensures c.loop-thread.invariant c.in-Some.i (c.in-Some.ensures R are)
+    first_look R c.loop-thread.thread (map seen c.list_of.result.now) c.list_of.ensures c.loop-thread.invariant c.in-Some.i
+    (c.in-Some.ensures R are)
 
 pub loop-thread-preserved : goal.loop-thread-preserved
 loop-thread-preserved c =

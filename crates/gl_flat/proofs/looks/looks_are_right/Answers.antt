@@ -18,8 +18,10 @@ loop-i-preserved c = λ R are.
     let there : slice_get c.args.looks.now c.loop-i.i ≡ Some c.in-Some.look = sym c.in-Some.ensures in
     let fits : FitsSigned w64 c.in-Some.look.value = search rules in
     let right : IsWordBelow R c.in-Some.look.var c.in-Some.look.nth c.in-Some.look.value =
-    subst (IsWordBelow R c.in-Some.look.var c.in-Some.look.nth) (to_z-of_z w64 c.in-Some.look.value fits) (c.if-not-is_word_below.ensures R are) in
-    one_more (λ (l : Look). IsWordBelow R l.var l.nth l.value) c.args.looks.now c.loop-i.i (c.loop-i.invariant R are) c.in-Some.look there right
+    subst (IsWordBelow R c.in-Some.look.var c.in-Some.look.nth) (to_z-of_z w64 c.in-Some.look.value fits)
+    (c.if-not-is_word_below.ensures R are) in
+    one_more (λ (l : Look). IsWordBelow R l.var l.nth l.value) c.args.looks.now c.loop-i.i
+    (c.loop-i.invariant R are) c.in-Some.look there right
 
 pub returns : goal.returns
 returns c = λ R are.

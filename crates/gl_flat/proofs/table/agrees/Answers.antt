@@ -9,4 +9,5 @@ returns-in-Commit c =
     let words = word_in c.args.words.now in
     let at = c.in-Commit.at in
     let b = c.looks_agree.result in
-    rw c.in-Commit.is (subst (λ tx. MatchBool b (AgreesWith words (Commit at tx)) (DiffersFrom words (Commit at tx))) c.deref.ensures (commit_agrees words at c.deref.result.now b c.looks_agree.ensures))
+    rw c.in-Commit.is (subst (λ tx. MatchBool b (AgreesWith words (Commit at tx)) (DiffersFrom words (Commit at tx))) c.deref.ensures
+    (commit_agrees words at c.deref.result.now b c.looks_agree.ensures))

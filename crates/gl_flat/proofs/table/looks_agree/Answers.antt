@@ -9,8 +9,14 @@ use Rattle.gl_flat.proofs.table.looks_agree.Goals as goal
 pub bounds-words-look : goal.bounds-words-look
 bounds-words-look c =
     let there : slice_get c.args.looks.now c.loop-i.i ≡ Some c.in-Some.look = sym c.in-Some.ensures in
-    let kept : c.in-Some.look.var < VARIABLES = kept_part (λ (l : Look). l.var) VARIABLES c.args.looks.now c.loop-i.i c.in-Some.look c.keeps.ensures.2 there in
+    let kept : c.in-Some.look.var < VARIABLES = kept_part
+    (λ (l : Look). l.var) VARIABLES c.args.looks.now c.loop-i.i c.in-Some.look c.keeps.ensures.2 there in
     omega (arith, kept, c.requires)
 
 pub returns : goal.returns
-returns c = λ k l at. c.loop-i.invariant k l (omega (arith, slice_get_within c.args.looks.now k l at, few_parts (λ (l : Look). l.var) c.args.looks.now c.keeps.ensures, c.loop-i-test.false)) at
+returns c = λ k l at. c.loop-i.invariant k l (omega (
+  arith,
+  slice_get_within c.args.looks.now k l at,
+  few_parts (λ (l : Look). l.var) c.args.looks.now c.keeps.ensures,
+  c.loop-i-test.false,
+)) at

@@ -13,7 +13,10 @@ loop-i-preserved c =
     elim c.match-at.branch [
       | in-Some w ↦
           rw w.vars-is
-          (gathered (λ (a : Look). a.var) c.args.looks.now c.keeps.ensures c.loop-i.i c.loop-i-test.true c.loop-i.vars c.loop-i.invariant w.in-Some.look (sym w.in-Some.ensures)
+          (gathered (λ (a : Look). a.var) c.args.looks.now c.keeps.ensures c.loop-i.i c.loop-i-test.true c.loop-i.vars c.loop-i.invariant
+          w.in-Some.look (sym w.in-Some.ensures)
           w.insert.result w.insert.new.self w.insert.ensures.ok w.insert.ensures.full)
-      | in_default w ↦ rw w.vars-is (gathered_past (λ (a : Look). a.var) c.args.looks.now c.keeps.ensures c.loop-i.i c.loop-i-test.true c.loop-i.vars c.loop-i.invariant (sym w.in_default.ensures))
+      | in_default w ↦
+          rw w.vars-is (gathered_past (λ (a : Look). a.var) c.args.looks.now c.keeps.ensures c.loop-i.i c.loop-i-test.true c.loop-i.vars
+          c.loop-i.invariant (sym w.in_default.ensures))
     ]

@@ -10,7 +10,8 @@ returns-then-not-stands_after c = none_after c.args.tx.now c.loop-i.i c.in-Some.
 pub loop-i-preserved : goal.loop-i-preserved
 loop-i-preserved c =
     elim c.match-at.branch [
-      | in-Some+else-not-stands_after w ↦ after_more c.args.tx.now c.loop-i.i w.in-Some.number c.loop-i.invariant (sym w.in-Some.ensures) w.if-not-stands_after.ensures
+      | in-Some+else-not-stands_after w ↦
+          after_more c.args.tx.now c.loop-i.i w.in-Some.number c.loop-i.invariant (sym w.in-Some.ensures) w.if-not-stands_after.ensures
       | in_default w ↦ after_past c.args.tx.now c.loop-i.i c.loop-i.invariant (sym w.in_default.ensures)
     ]
 

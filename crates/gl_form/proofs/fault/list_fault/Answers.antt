@@ -29,7 +29,8 @@ pub returns-then-is_over : goal.returns-then-is_over
 returns-then-is_over c =
     let es = map seen c.args.list.now in
     let same = length-map c.args.list.now seen in
-    over_keeps c.args.thread es c.loop-i.i c.loop-i.invariant.keep (omega arith) (c.if-is_over.ensures es c.loop-i.i c.loop-i.invariant.come)
+    over_keeps c.args.thread es c.loop-i.i c.loop-i.invariant.keep (omega arith)
+    (c.if-is_over.ensures es c.loop-i.i c.loop-i.invariant.come)
 
 pub returns : goal.returns
 returns c =
@@ -38,6 +39,7 @@ returns c =
     let some = c.requires.some in
     let all : c.loop-i.i ≡ length c.args.list.now = omega arith in
     rw (sym all) (
-      no_over_fails c.args.thread es c.loop-i.i c.loop-i.invariant.keep (omega arith) (omega arith) (c.if-is_over.ensures es c.loop-i.i c.loop-i.invariant.come),
+      no_over_fails c.args.thread es c.loop-i.i c.loop-i.invariant.keep (omega arith) (omega arith)
+          (c.if-is_over.ensures es c.loop-i.i c.loop-i.invariant.come),
       earlier_keep c.args.thread es c.loop-i.i c.loop-i.invariant.keep,
     )

@@ -11,4 +11,5 @@ list_fault-requires-clause-some c =
     omega arith
 
 pub list_fault-requires-clause-kept : goal.list_fault-requires-clause-kept
-list_fault-requires-clause-kept c = (list_kept c.args.made.now c.args.thread (map seen c.in-Some.list.now) c.keeps.ensures.1 c.in-Some.ensures).2
+list_fault-requires-clause-kept c =
+    (list_kept c.args.made.now c.args.thread (map seen c.in-Some.list.now) c.keeps.ensures.1 c.in-Some.ensures).2

@@ -1,4 +1,5 @@
-use Rattle.std.proofs.Common.{◌≡◌, ◌<◌, refl, sym, ap, subst, ◌∙◌, rules, FitsSigned, w64}
+use Rattle.gl_table.proofs.Doing.{holds_none}
+use Rattle.std.proofs.Common.{◌≡◌, ◌<◌, refl, sym, ap, subst, ◌∙◌, rules, FitsSigned, w64, suc}
 use Rattle.std.specs.Prelude.{◌↔◌, None}
 use Rattle.std.proofs.lemmas.Int.{to_z-of_z}
 use Rattle.gl_model.specs.declared.limits.TheConstants.{THREADS}
@@ -87,7 +88,7 @@ returns-clause-judged g c =
     let drew = simp to_z-of_z at c.mark-nth.ensures in
     let made = drew ∙ ap (λ (q : PassView). marked_plain q c.args.var c.mark-nth.result a.write a.value a.raised) (walked_is p c.args.var row c.tail-tail.result w u is walk) in
     let same = c.judged-access.ensures ∙ ap (λ r. access_of r c.args.write c.is_race-race.result) c.row-2.ensures in
-    is_judged z.key.setting p c.args.var row c.tail-tail.result u.known u.loaded c.mark-nth.result c.args.write c.is_race-race.result a c.answer.result c.put_row.new.pass w u is walk refl same c.answer.ensures
+    is_judged z.key.setting p c.args.var row c.tail-tail.result u.known u.loaded c.mark-nth.result c.args.write c.is_race-race.result a c.answer.result c.put_row.new.pass w u is (row_within p c.args.var row c.tail-tail.result _ w c.in-Ok.ensures.ok c.tail-tail.ensures.within is) walk refl same c.answer.ensures
     (is_stored p c.args.var row c.tail-tail.result u.known u.loaded c.mark-nth.result a c.mark-nth.new.pass c.put_row.new.pass c.requires.may.held made c.put_row.ensures)
     (judged_row z.key.setting p c.args.var row c.tail-tail.result w u q c.args.write c.check.result c.is_race-race.result c.requires.may.runs is walk
     (c.id.ensures.is ∙ ap (λ (q : PassView). q.own.id) is) refl c.is_some.ensures (c.monitors.ensures.owned z.key.setting)
@@ -121,3 +122,6 @@ returns-clause-loads g c =
           (subst (λ r. (i : Info) → Keeps r i → Conflicts i (record (question_of p.own c.args.write) { held = c.monitors.result }) → (i.thread < THREADS) × SayYesSurely c.args.cuts.now i (record (question_of p.own c.args.write) { held = c.monitors.result })) (sym c.row.ensures) sure)))
           stored.known_is,
     )
+
+pub take_row-requires-clause-free : goal.take_row-requires-clause-free
+take_row-requires-clause-free g c = holds_none c.args.pass.now.own.held (suc c.args.var) c.requires.may.held

@@ -1,3 +1,4 @@
+use Rattle.gl_table.proofs.Doing.{holds_none}
 use Rattle.std.proofs.Common.{suc, ◌≤◌, sym, ap, subst, arith, false}
 use Rattle.gl_draws.specs.Moved.{IsRowMoved}
 use Rattle.gl_draws.specs.RowFacts.{IsWithin}
@@ -104,3 +105,6 @@ returns-clause-hold c =
     let same = hold_is p x row n c.raise_hold.new.pass c.args.to c.tail-tail.result c.floor_of-hold.result new w.known w.loaded high c.floor_of-hold.ensures.same in
     advanced_last p x row n c.tail-tail.new.pass w c.put_row-2.new.pass c.args.to c.tail-tail.result c.floor_of-hold.result c.if-to-before.false same seen walk
     (end_is p x row n c.floor_of-hold.new.pass c.put_row-2.new.pass c.args.to c.tail-tail.result c.floor_of-hold.result new w.known w.loaded c.requires.held last c.put_row-2.ensures)
+
+pub take_row-requires-clause-free : goal.take_row-requires-clause-free
+take_row-requires-clause-free c = holds_none c.args.pass.now.own.held (suc c.args.var) c.requires.held

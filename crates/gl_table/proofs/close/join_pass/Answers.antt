@@ -1,6 +1,5 @@
 use Rattle.std.proofs.Common.{◌≡◌, ◌++◌, ◌∷◌, [], map, sym, ap, subst, ◌∙◌, arith}
 use Rattle.atomic_table.specs.Table as table
-use Rattle.gl_model.specs.Entries.{seen}
 use Rattle.gl_rule.specs.Closed.{IsDone}
 use Rattle.gl_rule.specs.declared.slot.Slot.{Slot}
 use Rattle.gl_rule.specs.View.{View, shelf, saw_tail, with_tail}

@@ -1,4 +1,4 @@
-use Rattle.std.proofs.Common.{◌≡◌, ◌+◌, ◌<◌, ap, subst, sym, arith, ◌∙◌}
+use Rattle.std.proofs.Common.{◌≡◌, ◌+◌, ◌<◌, subst, sym, arith, ◌∙◌}
 use Rattle.std.specs.Prelude.{slice_index}
 use Rattle.gl_table.proofs.LeastEntered.{AreLeastBelow, least_none, least_skipped, least_taken, least_all}
 use Rattle.gl_table.proofs.levels.least.Goals as goal

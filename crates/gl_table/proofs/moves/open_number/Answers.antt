@@ -1,4 +1,4 @@
-use Rattle.std.proofs.Common.{arith, refl, subst, map}
+use Rattle.std.proofs.Common.{arith, refl, subst}
 use Rattle.gl_rule.specs.Told.{Opened}
 use Rattle.gl_rule.specs.View.{shelf}
 use Rattle.gl_table.specs.CaughtUp.{block_of, caught_up}

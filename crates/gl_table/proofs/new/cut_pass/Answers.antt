@@ -1,7 +1,7 @@
-use Rattle.std.proofs.Common.{◌≡◌, ℕ, List, [], ◌∷◌, map, refl, sym, ap, ◌∙◌, arith, subst, false}
+use Rattle.std.proofs.Common.{◌≡◌, ℕ, List, [], ◌∷◌, refl, sym, ap, ◌∙◌, arith, subst, false}
 use Rattle.std.proofs.lemmas.List.Elements.{All-nil}
 use Rattle.atomic_table.specs.Table as table
-use Rattle.gl_model.specs.Entries.{Entry, seen}
+use Rattle.gl_model.specs.Entries.{Entry}
 use Rattle.gl_rule.specs.Knowledge.{AreBelow}
 use Rattle.gl_model.specs.Kept.{IsEntryKept}
 use Rattle.gl_rule.specs.declared.slot.Slot.{Slot}

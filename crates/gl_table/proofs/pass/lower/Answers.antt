@@ -1,7 +1,5 @@
-use Rattle.std.proofs.Common.{map, arith, true, false, refl, ap, ◌∙◌}
+use Rattle.std.proofs.Common.{arith, true, false, refl}
 use Rattle.std.proofs.lemmas.Bool.{lt-ltb}
-use Rattle.std.proofs.lemmas.List.{map-append}
-use Rattle.gl_model.specs.Entries.{seen}
 use Rattle.gl_table.proofs.Passes.{pass_lowers, not_less}
 use Rattle.gl_table.proofs.pass.lower.Goals as goal
 

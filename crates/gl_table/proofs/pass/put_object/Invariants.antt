@@ -1,6 +1,5 @@
-use Rattle.std.proofs.Common.{None, map}
+use Rattle.std.proofs.Common.{None}
 use Rattle.gl_model.specs.Machine.{trace_setting}
-use Rattle.gl_model.specs.Entries.{seen}
 use Rattle.gl_table.specs.CaughtUp.{caught_up}
 use Rattle.gl_table.specs.Says.{no_tx, no_key, no_event, no_mark, no_held}
 use Rattle.gl_table.proofs.pass.put_object.Given as goal

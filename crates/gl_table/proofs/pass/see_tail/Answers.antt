@@ -1,11 +1,10 @@
-use Rattle.std.proofs.Common.{◌≡◌, subst, arith, map}
+use Rattle.std.proofs.Common.{◌≡◌, subst, arith}
 use Rattle.std.specs.Prelude.{Contains}
 use Rattle.gl_model.specs.declared.row.Row.{Row as ARow}
 use Rattle.gl_draws.specs.RowFacts.{IsWithin}
 use Rattle.gl_rule.specs.declared.slot.Slot.TheVariants as slot
 use Rattle.gl_rule.specs.View.{Held}
 use Rattle.gl_table.specs.PassView.{PassView}
-use Rattle.gl_model.specs.Entries.{seen}
 use Rattle.gl_rule.specs.Knowledge.{AreBelow}
 use Rattle.gl_table.specs.PassView.{shelf_of}
 use Rattle.gl_table.proofs.Passes.{pass_sees, below_later}

@@ -1,5 +1,4 @@
-use Rattle.std.proofs.Common.{None, false, map}
-use Rattle.gl_model.specs.Entries.{seen}
+use Rattle.std.proofs.Common.{None, false}
 use Rattle.gl_table.specs.CaughtUp.{caught_up}
 use Rattle.gl_table.specs.KeyOf.{key_of}
 use Rattle.gl_table.specs.Says.{no_tx, no_key, no_event, no_mark, no_held}

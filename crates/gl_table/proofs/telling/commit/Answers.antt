@@ -1,8 +1,7 @@
-use Rattle.std.proofs.Common.{◌≡◌, ℕ, List, ◌≤◌, ◌-◌, map, refl, sym, ap, subst, arith, ◌∙◌, vec_capacity, vec_len}
+use Rattle.std.proofs.Common.{◌≡◌, ℕ, List, ◌-◌, refl, sym, ap, subst, ◌∙◌}
 use Rattle.std.specs.Prelude.{pos}
-use Rattle.std.proofs.lemmas.List.{map-append}
 use Rattle.gl_model.specs.declared.tx.Tx.{Tx}
-use Rattle.gl_model.specs.Entries.{Commit, seen}
+use Rattle.gl_model.specs.Entries.{Commit}
 use Rattle.gl_model.specs.Kept.{IsTxKept}
 use Rattle.gl_model.specs.Records.{variables_of}
 use Rattle.gl_draws.specs.Draws.{draw, Entered}

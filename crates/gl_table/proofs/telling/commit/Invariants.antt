@@ -1,6 +1,5 @@
-use Rattle.std.proofs.Common.{None, map, false}
+use Rattle.std.proofs.Common.{None, false}
 use Rattle.gl_model.specs.Machine.{trace_setting}
-use Rattle.gl_model.specs.Entries.{seen}
 use Rattle.gl_rule.specs.declared.slot.Slot.TheVariants as slot
 use Rattle.gl_rule.specs.View.{shelf}
 use Rattle.gl_table.specs.CaughtUp.{caught_up}

@@ -1,8 +1,6 @@
-use Rattle.std.proofs.Common.{◌+◌, map, sym, ap, subst, ◌∙◌, rules, FitsSigned, w64}
+use Rattle.std.proofs.Common.{◌+◌, sym, subst, rules, FitsSigned, w64}
 use Rattle.std.specs.Prelude.{Contains}
-use Rattle.std.proofs.lemmas.List.{map-append}
 use Rattle.std.proofs.lemmas.Int.{to_z-of_z}
-use Rattle.gl_model.specs.Entries.{seen}
 use Rattle.gl_table.specs.PassView.{PassView}
 use Rattle.gl_table.specs.Putting.{held_at}
 use Rattle.gl_table.proofs.Passes.{pass_marks}

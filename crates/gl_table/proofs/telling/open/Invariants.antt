@@ -1,7 +1,6 @@
-use Rattle.std.proofs.Common.{map, false, ◌+◌}
+use Rattle.std.proofs.Common.{false, ◌+◌}
 use Rattle.std.specs.Prelude.{pos}
 use Rattle.gl_model.specs.Machine.{trace_setting}
-use Rattle.gl_model.specs.Entries.{seen}
 use Rattle.gl_rule.specs.View.{shelf}
 use Rattle.gl_table.specs.CaughtUp.{caught_up, block_of}
 use Rattle.gl_table.specs.Putting.{held_at}

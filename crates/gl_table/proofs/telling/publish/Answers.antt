@@ -1,9 +1,8 @@
-use Rattle.std.proofs.Common.{◌≡◌, ◌≤◌, ◌-◌, map, sym, ap, subst, arith, rules, ◌∙◌, vec_capacity, vec_len}
-use Rattle.std.proofs.lemmas.List.{map-append}
+use Rattle.std.proofs.Common.{◌≡◌, ◌-◌, sym, ap, subst, rules, ◌∙◌}
 use Rattle.std.proofs.lemmas.Int.{to_z-of_z}
 use Rattle.std.proofs.Common.{FitsSigned, w64}
 use Rattle.gl_model.specs.declared.event.Event.TheVariants.{Act as Does}
-use Rattle.gl_model.specs.Entries.{Sync, seen}
+use Rattle.gl_model.specs.Entries.{Sync}
 use Rattle.gl_rule.specs.declared.slot.Slot.TheVariants as slot
 use Rattle.gl_table.specs.CaughtUp.{caught_up}
 use Rattle.gl_table.specs.KeyOf.{key_of}

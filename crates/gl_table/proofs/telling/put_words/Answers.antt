@@ -1,7 +1,6 @@
-use Rattle.std.proofs.Common.{◌<◌, List, ℕ, length, take, map, sym, refl, subst, arith, ◌∙◌}
+use Rattle.std.proofs.Common.{◌<◌, List, ℕ, length, take, sym, refl, subst, arith, ◌∙◌}
 use Rattle.std.proofs.lemmas.List.{take_more, length-take-le}
 use Rattle.gl_rule.specs.Fitting.{MayStoreWord}
-use Rattle.gl_model.specs.Entries.{seen}
 use Rattle.gl_table.specs.CaughtUp.{caught_up}
 use Rattle.gl_table.specs.KeyOf.{key_of}
 use Rattle.gl_rule.specs.Objects.{Key}

@@ -1,6 +1,5 @@
-use Rattle.std.proofs.Common.{None, map, false}
+use Rattle.std.proofs.Common.{None, false}
 use Rattle.gl_model.specs.Machine.{trace_setting}
-use Rattle.gl_model.specs.Entries.{seen}
 use Rattle.gl_table.specs.CaughtUp.{caught_up}
 use Rattle.gl_table.specs.KeyOf.{key_of}
 use Rattle.gl_table.specs.Says.{no_tx, no_event, no_mark, no_held}

@@ -1,4 +1,4 @@
-use Rattle.std.proofs.Common.{◌≡◌, sym, ap, ◌∙◌, subst, arith}
+use Rattle.std.proofs.Common.{sym, ◌∙◌}
 use Rattle.gl_txn.proofs.Changes.{at_item, first_here, unchanged_next, unchanged_all}
 use Rattle.gl_txn.proofs.changing.first_change.Goals as goal
 

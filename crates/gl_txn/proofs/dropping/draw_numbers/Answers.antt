@@ -1,14 +1,11 @@
-use Rattle.std.proofs.Common.{◌≡◌, ◌<◌, sym, ap, ◌∙◌, subst, arith, ◌++◌, ◌∷◌, [], ◌+◌, take, length}
+use Rattle.std.proofs.Common.{sym, ap, ◌∙◌, subst}
 use Rattle.std.specs.Prelude.{List}
-use Rattle.std.proofs.lemmas.List.{take_all}
-use Rattle.gl_model.specs.declared.limits.TheConstants.{VARIABLES}
 use Rattle.gl_model.specs.declared.tx.Number.{Number}
 use Rattle.gl_table.specs.PassView.{PassView}
 use Rattle.gl_txn.specs.Drawing.{HasDrawn, numbered}
-use Rattle.gl_txn.specs.Holding.{vars_of}
 use Rattle.gl_txn.proofs.Changes.{at_item}
 use Rattle.gl_txn.proofs.Drawings.{may_number, number_more}
-use Rattle.gl_txn.proofs.Numberings.{near_var, rises_on, not_numbered, found_there, numbered_on, length_vars}
+use Rattle.gl_txn.proofs.Numberings.{near_var, rises_on, not_numbered, found_there, numbered_on}
 use Rattle.gl_txn.proofs.dropping.draw_numbers.Goals as goal
 
 pub mark_open-nth-requires-clause-table : goal.mark_open-nth-requires-clause-table

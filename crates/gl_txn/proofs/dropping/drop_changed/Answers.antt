@@ -1,13 +1,11 @@
-use Rattle.std.proofs.Common.{◌≡◌, sym, ap, ◌∙◌, subst, refl, rules, FitsSigned, w64, List, [], ◌∷◌, None}
+use Rattle.std.proofs.Common.{◌≡◌, sym, ap, subst, refl, rules, FitsSigned, w64, [], ◌∷◌}
 use Rattle.std.proofs.lemmas.Int.{to_z-of_z}
-use Rattle.gl_model.specs.declared.tx.Number.{Number}
 use Rattle.gl_model.specs.declared.tx.Tx.{Tx}
 use Rattle.gl_model.specs.declared.tx.Why.TheVariants.{Changed}
 use Rattle.gl_model.specs.Entries.{Abort}
-use Rattle.gl_table.specs.PassView.{PassView, after_adding}
+use Rattle.gl_table.specs.PassView.{after_adding}
 use Rattle.gl_table.specs.Putting.{MayAbort}
-use Rattle.gl_txn.specs.Drawing.{attempt_in, HasDrawn, HasDropped}
-use Rattle.gl_txn.specs.Holding.{AreUnused}
+use Rattle.gl_txn.specs.Drawing.{attempt_in}
 use Rattle.gl_txn.proofs.Drops.{change_near, change_open, change_drawn, may_change, change_unused, change_stored, tx_is}
 use Rattle.gl_txn.proofs.dropping.drop_changed.Goals as goal
 
@@ -27,7 +25,7 @@ abort-requires-clause-may c =
     let fits2 : FitsSigned w64 c.args.change.now.found = search rules in
     let t = tx_is c.args.tx.value c.deref_mut.result.now c.add.new.numbers (record { var = k.var; nth = c.mark_open-nth.result }) c.deref_mut.ensures.value c.requires.none c.add.ensures in
     simp to_z-of_z (subst (λ (t : Tx). MayAbort c.mark_open-nth.new.pass t (Changed k.var k.read k.found)) (sym t)
-    (may_change (attempt_in c.args.tx.value) c.args.tx.value.writes c.args.pass.now c.args.rows.now.items k c.requires.may c.requires.held c.requires.draws c.requires.change c.mark_open-nth.new.pass c.mark_open-nth.result (change_drawn (attempt_in c.args.tx.value) c.args.tx.value.writes c.args.pass.now c.args.rows.now.items k c.requires.may c.requires.held c.requires.draws c.requires.change c.mark_open-nth.new.pass c.mark_open-nth.result c.mark_open-nth.ensures.opened c.mark_open-nth.ensures.above)))
+    (may_change (attempt_in c.args.tx.value) c.args.tx.value.writes c.args.pass.now c.args.rows.now.items k c.requires.may c.requires.held c.requires.draws c.requires.change c.requires.of c.requires.looks c.mark_open-nth.new.pass c.mark_open-nth.result (change_drawn (attempt_in c.args.tx.value) c.args.tx.value.writes c.args.pass.now c.args.rows.now.items k c.requires.may c.requires.held c.requires.draws c.requires.change c.mark_open-nth.new.pass c.mark_open-nth.result c.mark_open-nth.ensures.opened c.mark_open-nth.ensures.above)))
 
 pub put_rows-requires-clause-held : goal.put_rows-requires-clause-held
 put_rows-requires-clause-held c =

@@ -1,8 +1,6 @@
-use Rattle.std.proofs.Common.{◌≡◌, ◌<◌, sym, ap, ◌∙◌, subst, refl, List, [], ◌∷◌, None, map}
-use Rattle.gl_model.specs.declared.tx.Number.{Number}
+use Rattle.std.proofs.Common.{◌≡◌, ◌<◌, sym, ap, ◌∙◌, subst, refl, List, [], ◌∷◌, None}
 use Rattle.gl_model.specs.declared.tx.Tx.{Tx}
 use Rattle.gl_model.specs.declared.tx.Why.TheVariants.{Raised}
-use Rattle.gl_model.specs.Entries.{Abort}
 use Rattle.gl_model.specs.Records.{variables_of}
 use Rattle.gl_table.specs.PassView.{PassView}
 use Rattle.gl_table.specs.Putting.{MayAbort}

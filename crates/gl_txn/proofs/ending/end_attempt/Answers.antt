@@ -1,4 +1,4 @@
-use Rattle.std.proofs.Common.{◌≡◌, sym, ap, ◌∙◌, subst}
+use Rattle.std.proofs.Common.{subst}
 use Rattle.gl_model.specs.declared.tx.Tx.{Tx}
 use Rattle.gl_txn.specs.Holding.{HaveWrites}
 use Rattle.gl_txn.proofs.Ready.{holds_rows}

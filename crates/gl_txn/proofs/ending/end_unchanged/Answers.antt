@@ -1,8 +1,7 @@
-use Rattle.std.proofs.Common.{◌≡◌, sym, ap, ◌∙◌, subst, List, Some, false, map}
+use Rattle.std.proofs.Common.{sym, ap, ◌∙◌, subst, List, Some, false, map}
 use Rattle.gl_model.specs.declared.row.Question.{Question}
 use Rattle.gl_model.specs.declared.tx.Tx.{Tx}
 use Rattle.gl_model.specs.Kept.{AreVariables}
-use Rattle.gl_model.specs.Records.{variables_of}
 use Rattle.gl_table.specs.PassView.{PassView, shelf_of}
 use Rattle.gl_model.specs.declared.tx.Why.TheVariants.{Raised}
 use Rattle.gl_txn.specs.Drawing.{attempt_in}
@@ -54,7 +53,7 @@ drop_raised-requires-clause-raised g c =
     let base : Question = record { thread = c.id.result; write = false; commit = Some c.args.vars.now; held = c.monitors.result } in
     let thread = c.id.ensures.is ∙ ap (λ (u : PassView). u.own.id) c.tail.ensures.pass in
     let commit = ap (λ (ys : List _). Some ys) c.requires.vars in
-    races_on p c.tail.new.pass c.first_race.new.pass rows tx c.requires.holds c.tail.result c.tail.ensures.pass c.tail.ensures.below c.in-Some.ensures.pass base thread commit c.in-Some.var
+    races_on p c.tail.new.pass c.first_race.new.pass rows tx c.requires.holds c.tail.result c.tail.ensures.pass c.tail.ensures.below c.in-Some.ensures.pass base thread commit c.requires.unchanged (subst (λ (t : Tx). AreVariables (map (λ l. l.var) t.looks)) c.deref.ensures c.keeps.ensures) c.in-Some.var
     (subst (λ (rows : List TakenRow). IsFirstRace c.first_race.new.pass base tx.writes rows c.in-Some.var) e (subst (λ (t : Tx). IsFirstRace c.first_race.new.pass base t.writes c.as_slice.result.now c.in-Some.var) c.deref-2.ensures c.in-Some.ensures.judged))
 
 pub end_clear-requires-clause-ready : goal.end_clear-requires-clause-ready
@@ -81,7 +80,7 @@ returns-in-Some-clause-cause g c =
     let commit = ap (λ (ys : List _). Some ys) c.requires.vars in
     let looks = subst (λ (t : Tx). AreVariables (map (λ l. l.var) t.looks)) c.deref.ensures c.keeps.ensures in
     subst (λ (f : TxEnd). IsCauseBy c.args.shared.now (attempt_in tx) f (shelf_of p) p.seen p.reads rows c.drop_raised.new.pass) (sym c.drop_raised.ensures.end)
-    (raised_cause p c.tail.new.pass c.first_race.new.pass rows tx c.requires.holds c.tail.result c.tail.ensures.pass c.tail.ensures.below c.in-Some.ensures.pass base thread commit c.tail.ensures.later looks c.requires.unchanged c.args.shared.now c.in-Some.var
+    (raised_cause p c.tail.new.pass c.first_race.new.pass rows tx c.requires.holds c.tail.result c.tail.ensures.pass c.tail.ensures.below c.in-Some.ensures.pass base thread commit c.tail.ensures.later looks c.requires.unchanged c.tail.ensures.within c.args.shared.now c.in-Some.var
     (subst (λ (rows : List TakenRow). IsFirstRace c.first_race.new.pass base tx.writes rows c.in-Some.var) e (subst (λ (t : Tx). IsFirstRace c.first_race.new.pass base t.writes c.as_slice.result.now c.in-Some.var) c.deref-2.ensures c.in-Some.ensures.judged)) (Raised c.in-Some.var) c.drop_raised.new.pass c.drop_raised.ensures.dropped)
 
 pub returns-in-None-clause-cause : goal.returns-in-None-clause-cause
@@ -95,7 +94,7 @@ returns-in-None-clause-cause g c =
     let commit = ap (λ (ys : List _). Some ys) c.requires.vars in
     let looks = subst (λ (t : Tx). AreVariables (map (λ l. l.var) t.looks)) c.deref.ensures c.keeps.ensures in
     cause_ok c.args.shared.now c.end_clear.result (λ f. ReachedEnd c.args.shared.now f c.first_race.new.pass c.end_clear.new.pass) (λ f. IsCauseBy c.args.shared.now (attempt_in tx) f (shelf_of p) p.seen p.reads rows c.end_clear.new.pass)
-    (λ f d. done_cause p c.tail.new.pass c.first_race.new.pass rows tx c.requires.holds c.tail.result c.tail.ensures.pass c.tail.ensures.below c.in-None.ensures.pass base thread commit c.tail.ensures.later looks c.requires.unchanged c.args.shared.now
+    (λ f d. done_cause p c.tail.new.pass c.first_race.new.pass rows tx c.requires.holds c.tail.result c.tail.ensures.pass c.tail.ensures.below c.in-None.ensures.pass base thread commit c.tail.ensures.later looks c.requires.unchanged c.tail.ensures.within c.args.shared.now
     (subst (λ (rows : List TakenRow). AreClear c.first_race.new.pass base tx.writes rows) e (subst (λ (t : Tx). AreClear c.first_race.new.pass base t.writes c.as_slice.result.now) c.deref-2.ensures c.in-None.ensures.judged)) f c.end_clear.new.pass d) c.end_clear.ensures.cause
 
 pub returns-in-None-clause-wait : goal.returns-in-None-clause-wait
@@ -109,5 +108,5 @@ returns-in-None-clause-wait g c =
     let commit = ap (λ (ys : List _). Some ys) c.requires.vars in
     let looks = subst (λ (t : Tx). AreVariables (map (λ l. l.var) t.looks)) c.deref.ensures c.keeps.ensures in
     cause_err c.args.shared.now c.end_clear.result (λ w. ReachedWait c.args.shared.now w c.first_race.new.pass c.end_clear.new.pass) (λ w. IsWaitBy c.args.shared.now (attempt_in tx) w (shelf_of p) p.seen p.reads rows c.end_clear.new.pass)
-    (λ w d. wait_cause p c.tail.new.pass c.first_race.new.pass rows tx c.requires.holds c.tail.result c.tail.ensures.pass c.tail.ensures.below c.in-None.ensures.pass base thread commit c.tail.ensures.later looks c.requires.unchanged c.args.shared.now
+    (λ w d. wait_cause p c.tail.new.pass c.first_race.new.pass rows tx c.requires.holds c.tail.result c.tail.ensures.pass c.tail.ensures.below c.in-None.ensures.pass base thread commit c.tail.ensures.later looks c.requires.unchanged c.tail.ensures.within c.args.shared.now
     (subst (λ (rows : List TakenRow). AreClear c.first_race.new.pass base tx.writes rows) e (subst (λ (t : Tx). AreClear c.first_race.new.pass base t.writes c.as_slice.result.now) c.deref-2.ensures c.in-None.ensures.judged)) w c.end_clear.new.pass d) c.end_clear.ensures.wait

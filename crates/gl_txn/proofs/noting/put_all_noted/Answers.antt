@@ -1,4 +1,4 @@
-use Rattle.std.proofs.Common.{◌≡◌, sym, ap, ◌∙◌, subst, arith, [], List}
+use Rattle.std.proofs.Common.{subst, arith, List}
 use Rattle.gl_txn.specs.Noting.{AreCommitted}
 use Rattle.gl_txn.specs.declared.taken.TakenRow.{TakenRow}
 use Rattle.gl_txn.proofs.NotedRows.{noted_all}

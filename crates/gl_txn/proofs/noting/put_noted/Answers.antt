@@ -1,4 +1,4 @@
-use Rattle.std.proofs.Common.{◌≡◌, sym, ap, ◌∙◌, subst, List, ◌++◌, ◌∷◌, []}
+use Rattle.std.proofs.Common.{subst, List}
 use Rattle.gl_txn.specs.Noting.{AreCommitted}
 use Rattle.gl_txn.specs.declared.taken.TakenRow.{TakenRow}
 use Rattle.gl_txn.proofs.NotedRows.{may_put_noted, noted_near, noted_fewer}

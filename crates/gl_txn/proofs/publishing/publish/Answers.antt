@@ -1,12 +1,11 @@
 use Rattle.std.proofs.Common.{◌≡◌, ◌<◌, ◌≤◌, ◌+◌, sym, ap, ◌∙◌, subst, refl, List, [], ◌∷◌, Some, None, map, arith}
-use Rattle.std.specs.Prelude.{ℕ, Option}
-use Rattle.gl_model.specs.declared.tx.Number.{Number}
+use Rattle.std.specs.Prelude.{ℕ}
 use Rattle.gl_model.specs.declared.tx.Tx.{Tx}
 use Rattle.gl_model.specs.Records.{variables_of}
 use Rattle.gl_rule.specs.declared.slot.Slot.TheVariants as slot
 use Rattle.gl_rule.specs.View.{Held, new_held, with_tail}
-use Rattle.gl_table.specs.Committing.{MayPublishTx, published_tx}
-use Rattle.gl_table.specs.PassView.{PassView, view_of, after}
+use Rattle.gl_table.specs.Committing.{MayPublishTx}
+use Rattle.gl_table.specs.PassView.{PassView}
 use Rattle.gl_txn.specs.Drawing.{HasDrawn, MayNumber, numbered, drew_on}
 use Rattle.gl_txn.specs.Holding.{AreHeld, undrawn, vars_of}
 use Rattle.gl_txn.specs.Noting.{AreCommitted}
@@ -235,8 +234,8 @@ returns-clause-published c =
       is = published_is z.key.setting q r l lh refl rows tails (drew_on p (numbered numbers)) d.held tx n are c.publish_commit-at.ensures.published c.put_list.new.pass c.put_list.ensures p c.put_all_noted.new.pass numbers d.is c.put_all_noted.ensures;
     }
 
-pub returns-clause-later : goal.returns-clause-later
-returns-clause-later c =
+pub returns-clause-here : goal.returns-clause-here
+returns-clause-here c =
     let z = c.args.shared.now in
     let p = c.args.pass.now in
     let rows = c.args.rows.now.items in
@@ -258,4 +257,4 @@ returns-clause-later c =
     let dp : HasDrawn (with_room m.first l low tail) q (Some lh) rows tails numbers = subst (λ (p : PassView). HasDrawn p q (Some lh) rows tails numbers) m.reached.is d in
     let at = c.publish_commit-at.ensures.here in
     let s = ap (λ (z : PassView). z.seen) d.is in
-    omega arith
+    at ∙ s

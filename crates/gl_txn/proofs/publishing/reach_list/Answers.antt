@@ -1,4 +1,4 @@
-use Rattle.std.proofs.Common.{◌≡◌, sym, ap, ◌∙◌, subst, false}
+use Rattle.std.proofs.Common.{sym, ap, ◌∙◌, subst, false}
 use Rattle.gl_rule.specs.declared.slot.Slot.TheVariants as slot
 use Rattle.gl_rule.specs.View.{Hold, saw, saw_tail}
 use Rattle.gl_table.specs.PassView.{PassView, view_of, shelf_of, after}

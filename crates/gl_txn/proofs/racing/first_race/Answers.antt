@@ -1,4 +1,4 @@
-use Rattle.std.proofs.Common.{◌≡◌, ◌∙◌, ap, sym, subst, true, false}
+use Rattle.std.proofs.Common.{◌≡◌, ◌∙◌, sym, subst, true, false}
 use Rattle.gl_model.specs.declared.row.Row.{Row}
 use Rattle.gl_rows.specs.Walks.{HoldsRow, HasWalked}
 use Rattle.gl_txn.specs.Racing.{asked_on}

@@ -1,6 +1,5 @@
-use Rattle.std.proofs.Common.{◌≡◌, ◌∙◌, ap, rules, Bool}
+use Rattle.std.proofs.Common.{◌∙◌, ap, Bool}
 use Rattle.std.specs.Prelude.{is_some}
-use Rattle.gl_model.specs.declared.row.Question.{Question}
 use Rattle.gl_txn.proofs.Races.{is_written}
 use Rattle.gl_txn.proofs.racing.question.Goals as goal
 

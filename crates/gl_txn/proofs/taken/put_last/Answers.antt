@@ -1,4 +1,4 @@
-use Rattle.std.proofs.Common.{◌≡◌, sym, ap, ◌∙◌, subst, refl, rules, arith, ◌<◌, ◌++◌, [], ◌∷◌}
+use Rattle.std.proofs.Common.{sym, subst}
 use Rattle.std.specs.Prelude.{List}
 use Rattle.gl_rule.specs.View.{Held}
 use Rattle.gl_table.specs.PassView.{view_of, shelf_of}

@@ -1,7 +1,7 @@
-use Rattle.std.proofs.Common.{◌≡◌, sym, ap, ◌∙◌, subst, refl, rules, arith, [], List, length, vec_len}
+use Rattle.std.proofs.Common.{subst, arith, List}
 use Rattle.gl_txn.specs.Holding.{AreUnused}
 use Rattle.gl_txn.specs.declared.taken.TakenRow.{TakenRow}
-use Rattle.gl_txn.proofs.TakeSteps.{puts_more, puts_all, empty_of}
+use Rattle.gl_txn.proofs.TakeSteps.{puts_all, empty_of}
 use Rattle.gl_txn.proofs.taken.put_rows.Goals as goal
 
 pub returns-clause-pass : goal.returns-clause-pass

@@ -1,4 +1,5 @@
-use Rattle.std.proofs.Common.{◌≡◌, sym, ap, ◌∙◌, subst, ◌++◌, ◌+◌, [], ◌∷◌, take, get_or}
+use Rattle.gl_txn.proofs.Holdings.{lacks_next}
+use Rattle.std.proofs.Common.{sym, ◌∙◌, subst, ◌++◌, ◌+◌, [], ◌∷◌, take, get_or}
 use Rattle.std.specs.Prelude.{List, ℕ}
 use Rattle.std.proofs.lemmas.List.{take_more}
 use Rattle.gl_model.specs.Kept.{AreVariables}
@@ -24,3 +25,11 @@ loop-var-preserved c =
       subst (λ (l : List TakenRow). HaveWrites c.args.writes.now l) (sym c.keep.ensures.items) (writes_more c.args.writes.now c.loop-var.rows.items (record { var = get_or ids i 0; write = c.word_of.result; row = c.in-Ok.row }) c.loop-var.invariant.1 c.word_of.ensures),
       c.keep.ensures.room ∙ c.loop-var.invariant.2,
     )
+
+pub take_row-requires-clause-free : goal.take_row-requires-clause-free
+take_row-requires-clause-free c =
+    let ids = c.ids-ids.result.now in
+    let i = c.loop-var.var-index in
+    let t = c.loop-var.invariant.0 in
+    let are = take_are ids i (subst AreVariables (sym c.ids-ids.ensures.same) c.keeps.ensures) c.loop-var-test.true in
+    lacks_next c.loop-var.pass.own.held c.loop-var.rows.items (get_or ids i 0) t.held (subst (λ l. AreVariables (l ++ get_or ids i 0 ∷ [])) (sym t.of) are)

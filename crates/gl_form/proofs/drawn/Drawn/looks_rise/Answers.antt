@@ -9,7 +9,8 @@ draw-requires c = part_in_range (λ (a : Look). a.var) c.args.looks.now c.loop-i
 
 pub returns-then-not-draw : goal.returns-then-not-draw
 returns-then-not-draw c =
-    part_not_above (λ (a : Look). a.var) (λ (a : Look). a.nth) c.args.looks.now c.args.self.now.last.items c.loop-i.i c.loop-i.self.last.items c.loop-i.invariant c.keeps.ensures.1
+    part_not_above (λ (a : Look). a.var) (λ (a : Look). a.nth) c.args.looks.now c.args.self.now.last.items c.loop-i.i
+    c.loop-i.self.last.items c.loop-i.invariant c.keeps.ensures.1
     c.in-Some.look (sym c.in-Some.ensures) c.if-not-draw.ensures
 
 pub loop-i-preserved : goal.loop-i-preserved
@@ -19,8 +20,11 @@ loop-i-preserved c =
           (let at = sym w.in-Some.ensures in
           let within = part_in_range (λ (a : Look). a.var) c.args.looks.now c.loop-i.i w.in-Some.look c.keeps.ensures at in
           let room : w.in-Some.look.var < length c.loop-i.self.last.items = omega (arith, c.loop-i.self.whole) in
-          let drawn = part_drawn (λ (a : Look). a.var) (λ (a : Look). a.nth) c.args.looks.now c.args.self.now.last.items c.loop-i.i c.loop-i.self.last.items c.loop-i.invariant c.keeps.ensures.1
+          let drawn = part_drawn (λ (a : Look). a.var) (λ (a : Look). a.nth) c.args.looks.now c.args.self.now.last.items c.loop-i.i
+          c.loop-i.self.last.items c.loop-i.invariant c.keeps.ensures.1
           w.in-Some.look at w.draw.new.self.last.items room w.if-not-draw.ensures.0 w.if-not-draw.ensures.1 in
           rw w.self-is drawn)
-      | in_default w ↦ (let past = past_parts (λ (a : Look). a.var) (λ (a : Look). a.nth) c.args.looks.now c.args.self.now.last.items c.loop-i.i c.loop-i.self.last.items c.loop-i.invariant (sym w.in_default.ensures) in rw w.self-is past)
+      | in_default w ↦
+          (let past = past_parts (λ (a : Look). a.var) (λ (a : Look). a.nth) c.args.looks.now c.args.self.now.last.items c.loop-i.i
+          c.loop-i.self.last.items c.loop-i.invariant (sym w.in_default.ensures) in rw w.self-is past)
     ]

@@ -20,4 +20,5 @@ returns c =
 pub returns-then-not-rises : goal.returns-then-not-rises
 returns-then-not-rises c =
     λ es come at keeps.
-    c.if-not-rises.ensures es c.args.index (formed_stands c.args.thread (seen c.args.entry.now) c.if-not-is_formed.ensures) come.drawn at keeps.numbers_rise
+    c.if-not-rises.ensures es c.args.index (formed_stands c.args.thread (seen c.args.entry.now) c.if-not-is_formed.ensures) come.drawn at
+    keeps.numbers_rise

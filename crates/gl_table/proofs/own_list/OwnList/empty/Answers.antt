@@ -1,10 +1,10 @@
-use Rattle.std.proofs.Common.{◌≡◌, ◌+◌, ◌≤◌, ℕ, List, [], None, Option, Bool, length, map, replicate, sym, ap, subst, ◌∙◌, arith}
+use Rattle.std.proofs.Common.{◌≡◌, ℕ, List, [], None, Option, Bool, length, map, sym, ap, subst, ◌∙◌, arith}
 use Rattle.std.specs.Prelude.{slice_index_or}
 use Rattle.std.specs.List.{All}
 use Rattle.std.proofs.lemmas.List.{get_or-replicate, length-replicate}
 use Rattle.std.proofs.lemmas.List.Elements.{All-nil}
 use Rattle.gl_model.specs.declared.limits.TheConstants.{VARIABLES}
-use Rattle.gl_model.specs.Entries.{Entry, seen}
+use Rattle.gl_model.specs.Entries.{seen}
 use Rattle.gl_model.specs.Kept.{IsEntryKept}
 use Rattle.gl_rule.specs.Levels.{levels_of}
 use Rattle.gl_rule.proofs.Levels.{levels_none}

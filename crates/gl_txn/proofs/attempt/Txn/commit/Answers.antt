@@ -1,5 +1,4 @@
-use Rattle.std.proofs.Common.{◌≡◌, sym, ap, ◌∙◌, subst}
-use Rattle.gl_model.specs.declared.tx.Pair.{Pair}
+use Rattle.std.proofs.Common.{sym, ap, subst}
 use Rattle.gl_model.specs.declared.tx.Tx.{Tx}
 use Rattle.gl_txn.specs.Attempts.{Attempting}
 use Rattle.gl_txn.specs.Trying.{MayTry}

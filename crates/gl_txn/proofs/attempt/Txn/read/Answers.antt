@@ -1,18 +1,16 @@
 use Rattle.std.proofs.Common.{◌≡◌, sym, ap, ◌∙◌, subst, refl, rules, arith, FitsSigned, w64, None}
-use Rattle.std.specs.Prelude.{IsErr, ◌⊎◌, true, false, ◌<◌, ◌≤◌, length, map, Contains, suc, ◌==◌}
+use Rattle.std.specs.Prelude.{IsErr, true, false, ◌<◌, map, ◌==◌}
 use Rattle.std.specs.List.{find}
 use Rattle.std.proofs.lemmas.Int.{to_z-of_z}
 use Rattle.gl_model.specs.declared.limits.TheConstants.{TX_VARIABLES}
 use Rattle.gl_model.specs.declared.tx.Tx.{Tx}
 use Rattle.gl_model.specs.Rising.{with_one, with_part}
-use Rattle.gl_table.specs.PassView.{PassView}
 use Rattle.gl_txn.specs.Attempts.{Attempting, IsTooLarge, is_in, size, variables_in, written, looked, with_look}
-use Rattle.gl_txn.specs.Reading.{IsRead, HasLooked, IsReadStop}
+use Rattle.gl_txn.specs.Reading.{IsRead, HasLooked}
 use Rattle.gl_txn.specs.Trying.{Draws}
 use Rattle.gl_txn.specs.TxnInside.{txn_view}
-use Rattle.gl_txn.specs.declared.stops.TxStop.TheVariants.{Busy, TooLarge}
-use Rattle.gl_txn.proofs.Sizes.{too_large, has_room, neither, look_fits, looked_all, looked_keys, of_write, of_look}
-use Rattle.gl_txn.proofs.NewLooks.{is_read, has_looked}
+use Rattle.gl_txn.proofs.Sizes.{too_large, neither, look_fits, looked_all, looked_keys, of_look}
+use Rattle.gl_txn.proofs.NewLooks.{is_read, has_looked, none_waits}
 use Rattle.gl_txn.proofs.attempt.Txn.read.Goals as goal
 
 pub returns-then-is_err-clause-large : goal.returns-then-is_err-clause-large
@@ -80,3 +78,9 @@ returns-clause-looked c =
     let w : written a c.args.var ≡ None = ap (λ (t : Tx). find (λ p. p.var == c.args.var) t.writes) (sym c.deref.ensures) ∙ sym c.of.ensures ∙ c.in_default.is in
     let l : looked a c.args.var ≡ None = ap (λ (t : Tx). find (λ p. p.var == c.args.var) t.looks) (sym c.deref-2.ensures) ∙ sym c.of-2.ensures ∙ c.in_default-of.is in
     simp to_z-of_z (subst (λ (a : Attempting). HasLooked a c.args.var c.in-Ok-look_at.look.value c.args.pass.now c.look_at.new.pass) c.self.view_is (has_looked c.args.var c.in-Ok-look_at.look a c.args.pass.now c.look_at.new.pass w l c.in-Ok-look_at.ensures.look))
+
+pub look_at-requires-clause-room : goal.look_at-requires-clause-room
+look_at-requires-clause-room c =
+    let a = txn_view c.self.inside in
+    let l : looked a c.args.var ≡ None = ap (λ (t : Tx). find (λ p. p.var == c.args.var) t.looks) (sym c.deref-2.ensures) ∙ sym c.of-2.ensures ∙ c.in_default-of.is in
+    none_waits a c.args.pass.now.own (subst (λ (a : Attempting). Draws a c.args.pass.now.own) (sym c.self.view_is) c.requires.may.draws) c.args.var l

@@ -4,7 +4,7 @@ use Rattle.std.proofs.lemmas.List.{length-map}
 use Rattle.gl_model.specs.declared.limits.TheConstants.{TX_VARIABLES}
 use Rattle.gl_model.specs.declared.tx.Tx.{Tx}
 use Rattle.gl_model.specs.Kept.{AreVariables}
-use Rattle.gl_model.specs.Rising.{with_one, with_part}
+use Rattle.gl_model.specs.Rising.{with_one}
 use Rattle.gl_txn.specs.Attempts.{Attempting, IsTooLarge, is_in, size, variables_in}
 use Rattle.gl_txn.specs.TxnInside.{txn_view}
 use Rattle.gl_txn.proofs.Sizes.{too_large, has_room, written_all, of_write, of_look}

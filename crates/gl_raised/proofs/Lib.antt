@@ -1,0 +1,12 @@
+mod BlockRows
+mod Blocks
+mod Cells
+mod Faulting
+mod Gathering
+mod Kept
+mod Lasting
+mod Numbered
+mod Orders
+mod Parts
+mod Racing
+mod Walked
