@@ -38,6 +38,15 @@ fn line_len(text: &[u8]) -> usize
     }
 }
 
+// What stands in a text before a place, and from there on.
+pub(crate) fn parts_at(text: &[u8], at: usize) -> (&[u8], &[u8])
+    requires { at ≤ length text.now }
+    ensures before { result.0.now ≡ take at text.now }
+    ensures after { result.1.now ≡ drop at text.now }
+{
+    text.split_at(at)
+}
+
 /// Where a text is cut: how many bytes its first part has, and how many lines.
 #[derive(Clone, Copy)]
 pub(crate) struct Cut {
@@ -55,9 +64,9 @@ pub(crate) fn cut_text(text: &[u8]) -> Cut
     let mut at = 0;
     let mut lines = 0u32;
     while at < text.len() {
-        let rest = &text[at..];
+        let (_, rest) = parts_at(text, at);
         if starts_record(rest) {
-            break;
+            return Cut { at, lines };
         }
         at += line_len(rest);
         lines += 1;

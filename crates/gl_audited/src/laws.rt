@@ -1,5 +1,6 @@
-// That the text of an audit has one meaning.
+// That the text of an audit has one meaning, and how long it may be.
 ghost use Rattle.std.specs.Prelude.{◌≡◌, ℕ, ℤ, List};
+ghost use Rattle.gl_audited.specs.declared.limits.TheConstants.{AUDIT_BYTES};
 ghost use Rattle.gl_audited.specs.Cut.{IsCutAt};
 ghost use Rattle.gl_audited.specs.Meaning.{IsAuditText, IsFirstFault};
 ghost use Rattle.gl_bytecode.specs.Programs.{Bytecode, draft_of};
@@ -15,3 +16,8 @@ pub fn one_meaning()
     gl_asm::one_meaning();
     gl_journal::one_meaning();
 }
+
+/// The limit of a text is the number that is stated for it.
+pub fn limits_are_stated()
+    ensures bytes { AUDIT_BYTES ≡ 67_108_864 }
+{}

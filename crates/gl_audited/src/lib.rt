@@ -6,7 +6,7 @@ mod laws;
 mod limits;
 mod reader;
 
-pub use laws::one_meaning;
+pub use laws::{limits_are_stated, one_meaning};
 pub use limits::AUDIT_BYTES;
 pub use reader::{Audited, read_audit};
 

@@ -2,7 +2,7 @@
 ghost use Rattle.std.specs.Prelude.{◌≡◌, IfErr, IfOk};
 ghost use Rattle.gl_audited.specs.Meaning.{IsAuditText, TellsFirst};
 
-use crate::cut::cut_text;
+use crate::cut::{cut_text, parts_at};
 use crate::limits::AUDIT_BYTES;
 use gl_asm::assemble;
 use gl_bytecode::Program;
@@ -36,12 +36,15 @@ pub fn read_audit(alloc: Global, text: &[u8]) -> Result<Audited, TextError>
         }));
     }
     let cut = cut_text(text);
-    let assembled = assemble(alloc, &text[..cut.at])?;
-    let (steps, record) = read_record(alloc, &text[cut.at..], 1 + cut.lines)?;
-    Ok(Audited {
-        program: assembled.program,
-        inputs: assembled.inputs,
-        steps,
-        record,
-    })
+    let (program_part, record_part) = parts_at(text, cut.at);
+    let assembled = assemble(alloc, program_part)?;
+    match read_record(alloc, record_part, 1 + cut.lines) {
+        Ok((steps, record)) => Ok(Audited {
+            program: assembled.program,
+            inputs: assembled.inputs,
+            steps,
+            record,
+        }),
+        Err(error) => Err(error),
+    }
 }
