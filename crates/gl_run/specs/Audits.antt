@@ -18,14 +18,15 @@ abbrev pub finding_status : Finding → ℕ
 finding_status Lawful = ALL_WELL
 finding_status (Not thread index clause) = NOT_LAWFUL
 
--- what is written of a finding: that the record is lawful; or the place where it is not, by thread and index in the thread's list, and the clause that
--- it fails there
+-- what is written of a finding: that the record is lawful; or the place where it is not, by thread and index in the thread's list, and
+-- the clause that it fails there
 abbrev pub finding_line : Finding → List ℕ
 finding_line Lawful = codes "lawful" ++ line_end
 finding_line (Not thread index clause) =
     codes "not " ++ (decimal thread ++ (codes " " ++ (decimal index ++ (codes " " ++ (decimal clause ++ line_end)))))
 
--- the status and the bytes for a text that says a program with its inputs, and a record with its steps: those of the right finding of this record
+-- the status and the bytes for a text that says a program with its inputs, and a record with its steps: those of the right finding of
+-- this record
 pub record AcceptsAudit (input : List ℕ) (status : ℕ) (bytes : List ℕ) (kept : Option Kept) : Type 0 where
   pub program : Bytecode
   pub inputs : List ℤ

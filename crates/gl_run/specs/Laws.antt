@@ -57,8 +57,9 @@ AuditsAreApart = (input : List ℕ) (s t : ℕ) (a b : List ℕ) (j k : Option K
 -- the status is that of no fault exactly where the record that the text says is lawful for its program, its inputs and its steps
 abbrev pub AuditsAreExact : Type 0
 AuditsAreExact =
-    (input : List ℕ) (P : Bytecode) (inputs : List ℤ) (steps : ℕ) (made : List (ℕ × List Entry)) (status : ℕ) (bytes : List ℕ) (kept : Option Kept)
-    → IsAuditText input P inputs steps made → AuditsText input status bytes kept → (status ≡ ALL_WELL) ↔ Lawful P inputs steps (lists_of made)
+    (input : List ℕ) (P : Bytecode) (inputs : List ℤ) (steps : ℕ) (made : List (ℕ × List Entry)) (status : ℕ) (bytes : List ℕ)
+    (kept : Option Kept) → IsAuditText input P inputs steps made → AuditsText input status bytes kept
+    → (status ≡ ALL_WELL) ↔ Lawful P inputs steps (lists_of made)
 
 abbrev pub RunsAreTold : Type 0
 RunsAreTold = (asked : RunOptions) (input : List ℕ) → IsToldByKept (RunsText asked input)
