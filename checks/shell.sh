@@ -113,6 +113,14 @@ for words in "run --workers 1" "run" "run --workers 16"; do
     same "unguarded, $words: ends" 3 "$(grep -c '^end [012] halt$' "$work/out")"
 done
 
+# The record of a run is lawful, however the threads' steps fell.
+for program in "$work/unguarded" examples/*.program; do
+    ./goldi run --journal <"$program" | sed -n '/^record /,$p' >"$work/record"
+    cat "$program" "$work/record" | ./goldi audit >"$work/out"
+    same "the audit of a run of $(basename "$program"): status" 0 $?
+    same "the audit of a run of $(basename "$program"): output" "lawful" "$(cat "$work/out")"
+done
+
 # A text without an end, one that comes in two parts, and each front of a program.
 yes "0 rd 1" | ./goldi check >"$work/out"
 same "a text without an end: status" 4 "${PIPESTATUS[1]}"

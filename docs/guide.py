@@ -47,6 +47,7 @@ def text_of(cell):
 def check_kinds(guide):
     told = [("check", row) for row in rows(guide, "What `check` refuses:")]
     told += [(command, row) for row in rows(guide, "What `list` and `run` refuse:") for command in ("list", "run")]
+    told += [("audit", row) for row in rows(guide, "at only where the program has no fault:")]
     never = rows(guide, "What no text gives today:")
     named = {(int(row[0]), row[1]) for row in [row for _, row in told] + never}
     known = constants("crates/gl_text/src/kinds.rt", 0) | constants("crates/gl_bytecode/src/fault.rt", 40)

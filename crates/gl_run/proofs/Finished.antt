@@ -2,9 +2,9 @@
 use Rattle.std.proofs.Common.{arith, ◌≡◌, ℕ, List, Option, None, Some, Result, Ok, Err, IfOk, OnOk, refl, sym, subst, ◌∙◌, inl, inr}
 use Rattle.std.specs.Prelude.{◌⊎◌}
 use Rattle.std.specs.Io.KnownBytes.{IsAtEnd}
-use Rattle.gl_run.specs.Command.{HasCauses, HasLeft, HasRead, IsAnswered, IsNoCommand, IsWhole, ReadsNothing, Replies, Serves}
+use Rattle.gl_run.specs.Command.{HasCauses, HasLeft, HasRead, IsAccepted, IsAnswered, IsNoCommand, IsWhole, ReadsNothing, Replies, Serves}
 use Rattle.gl_run.specs.Finishing.{Finishes, IsCut, IsNothing, IsWritten}
-use Rattle.gl_run.specs.Replies.{IsAccepted, IsPageStatus, IsVerdict, RepliesTo, ReplyCause}
+use Rattle.gl_run.specs.Replies.{IsPageStatus, IsVerdict, RepliesTo, ReplyCause}
 use Rattle.gl_run.specs.Words.{most_of}
 use Rattle.gl_run.specs.declared.keep.Keep.{Keep}
 use Rattle.gl_run.specs.declared.page.Page.{Page}
@@ -45,7 +45,8 @@ whole_of asked s (inl none) = inr (inl none.1)
 whole_of asked s (inr (c, inl well)) = inl well
 whole_of asked s (inr (c, inr (inl refused))) = inr (inr (inl refused))
 whole_of asked s (inr (c, inr (inr (inl races)))) = inr (inr (inr (inl races)))
-whole_of asked s (inr (c, inr (inr (inr unhalted)))) = inr (inr (inr (inr unhalted)))
+whole_of asked s (inr (c, inr (inr (inr (inl unhalted))))) = inr (inr (inr (inr (inl unhalted))))
+whole_of asked s (inr (c, inr (inr (inr (inr unlawful))))) = inr (inr (inr (inr (inr unlawful))))
 
 cut_is_not_whole : (s : ℕ) → s ≡ WRITE_FAILED → IsWhole s → ⊥
 cut_is_not_whole s cut whole = grind arith

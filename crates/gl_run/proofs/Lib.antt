@@ -7,4 +7,5 @@ pub mod FewWords
 pub mod SameRecord
 pub mod OneAnswer
 pub mod OneProgram
+pub mod OneAudit
 pub mod OptionWords

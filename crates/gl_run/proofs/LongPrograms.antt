@@ -7,6 +7,7 @@ use Rattle.std.specs.Io.KnownBytes.{Consumes}
 use Rattle.std.proofs.KnownBytes.{Appends-nil}
 use Rattle.gl_asm.specs.declared.limits.TheConstants.{LONGEST}
 use Rattle.gl_asm.specs.Texts.{text_read}
+use Rattle.gl_audited.specs.declared.limits.TheConstants.{AUDIT_BYTES}
 use Rattle.gl_trace.specs.declared.limits.TheConstants.{TRACE_BYTES}
 use Rattle.gl_text.specs.declared.kinds.TheConstants.{TOO_LONG}
 use Rattle.gl_io.specs.Whole.{IsTaken}
@@ -44,6 +45,10 @@ refused_longer keep commands.List input most is long = inr (record { line = 0; k
 refused_longer keep (commands.Run options) input most is long =
     inr (record { line = 0; kind = TOO_LONG; fault = inl (too_long input most is long); status_is = refl; bytes_are = refl; kept_is = refl })
 refused_longer keep (commands.Load load) input most is long = absurd (cc is)
+refused_longer keep commands.Audit input most is long =
+    let over : AUDIT_BYTES < length input = subst (λ m. m < length input) (sym (some_number AUDIT_BYTES most is)) long in
+    let fault = inl (record { long = over; line_is = refl; kind_is = refl }) in
+    inr (record { line = 0; kind = TOO_LONG; fault = fault; status_is = refl; bytes_are = refl; kept_is = refl })
 
 pub longer : {E : Type 0} (command : Command) (r : Result Page E) → IfOk r (λ p. p.status ≡ REFUSED) → IfOk r (λ p. p.text.items ≡ refusal 0 TOO_LONG) → IfOk r (λ p. p.kept ≡ None)
     → IfOk r (λ p. AnswersLonger command p.status p.text.items p.kept)

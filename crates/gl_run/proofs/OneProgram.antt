@@ -6,7 +6,7 @@ use Rattle.gl_asm.specs.Texts.{IsText, IsFirstFault}
 use Rattle.gl_bytecode.specs.Programs.{Bytecode, Draft, draft_of}
 use Rattle.gl_model.specs.Report.{summary_of}
 use Rattle.gl_table.specs.SealedView.{SealedView}
-use Rattle.gl_run.specs.Laws.{ChecksAreOne, ListingsAreApart, ListingsAreOne, LoadsAreLawful, LoadsAreTold, RepliesAreOne, RepliesAreTold, RunsAreApart, RunsAreLawful, RunsAreTold, IsKeptLoad, IsKeptRun, IsOneAnswer, IsToldByKept}
+use Rattle.gl_run.specs.Laws.{AuditsAreOne, ChecksAreOne, ListingsAreApart, ListingsAreOne, LoadsAreLawful, LoadsAreTold, RepliesAreOne, RepliesAreTold, RunsAreApart, RunsAreLawful, RunsAreTold, IsKeptLoad, IsKeptRun, IsOneAnswer, IsToldByKept}
 use Rattle.gl_run.specs.Listed.{AcceptsProgram, Refuses}
 use Rattle.gl_run.specs.Output.{refusal}
 use Rattle.gl_run.specs.Runs.{AcceptsRun, RefusesRun, run_status, run_text}
@@ -24,7 +24,7 @@ use Rattle.gl_run.specs.declared.words.Command.TheVariants as commands
 program_of : Bytecode → Draft → Bytecode
 program_of P D = record { classes = D.classes; functions = D.functions; main = unwrap_or D.main P.main }
 
-same_program : (P Q : Bytecode) → draft_of P ≡ draft_of Q → P ≡ Q
+pub same_program : (P Q : Bytecode) → draft_of P ≡ draft_of Q → P ≡ Q
 unfolding program_of
 same_program P Q same = ap (program_of P) same
 
@@ -32,7 +32,7 @@ same_kept : (made other : SealedView) (kept : Option Kept) → kept ≡ Some (Ru
 same_kept made other kept one two = cc
 
 -- what is refused for one fault has one answer
-refused_once : (IsFault : ℕ → ℕ → Type 0) → ((a b j k : ℕ) → IsFault a j → IsFault b k → (a ≡ b) × (j ≡ k))
+pub refused_once : (IsFault : ℕ → ℕ → Type 0) → ((a b j k : ℕ) → IsFault a j → IsFault b k → (a ≡ b) × (j ≡ k))
     → (s t : ℕ) (a b : List ℕ) (j k : Option Kept) → Refuses IsFault s a j → Refuses IsFault t b k → (s ≡ t) × (a ≡ b) × (j ≡ k)
 refused_once IsFault faults s t a b j k one two =
     let same = faults one.line two.line one.kind two.kind one.fault two.fault in (
@@ -132,18 +132,20 @@ no_run options asked is none = let runs : run_part asked ≡ Some (commands.Run 
 no_load : (load : LoadOptions) (asked : Option Command) → asked ≡ Some (commands.Load load) → run_part asked ≡ None → ⊥
 no_load load asked is none = let runs : run_part asked ≡ Some (commands.Load load) = ap run_part is in cc
 
-module _ (checks : ChecksAreOne) (listings : ListingsAreOne) (runs : RunsAreTold) (loads : LoadsAreTold) where
+module _ (checks : ChecksAreOne) (listings : ListingsAreOne) (audits : AuditsAreOne) (runs : RunsAreTold) (loads : LoadsAreTold) where
   texts_one : (keep : Keep) (asked : Option Command) (command : Command) (input : List ℕ) → asked ≡ Some command → run_part asked ≡ None → IsOneAnswer (AnswersText keep command input)
   texts_one keep asked commands.Check input is none = checks keep input
   texts_one keep asked commands.List input is none = listings input
   texts_one keep asked (commands.Run options) input is none = absurd (no_run options asked is none)
   texts_one keep asked (commands.Load load) input is none = absurd (no_load load asked is none)
+  texts_one keep asked commands.Audit input is none = audits input
 
   texts_told : (keep : Keep) (command : Command) (input : List ℕ) → IsToldByKept (AnswersText keep command input)
   texts_told keep commands.Check input s t a b kept one two = let same = checks keep input s t a b kept kept one two in (same.0, same.1)
   texts_told keep commands.List input s t a b kept one two = let same = listings input s t a b kept kept one two in (same.0, same.1)
   texts_told keep (commands.Run options) input s t a b kept one two = runs options input s t a b kept one two
   texts_told keep (commands.Load load) input s t a b kept one two = loads load s t a b kept one two
+  texts_told keep commands.Audit input s t a b kept one two = let same = audits input s t a b kept kept one two in (same.0, same.1)
 
   pub replies_one : RepliesAreOne
   replies_one keep asked input none s t a b j k one two =

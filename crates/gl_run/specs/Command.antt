@@ -5,7 +5,8 @@ use Rattle.std.specs.Io.KnownBytes.{Appends, Consumes, IsAtEnd}
 use Rattle.gl_io.specs.Faults.{Rose}
 use Rattle.gl_io.specs.Whole.{IsTaken}
 use Rattle.gl_run.specs.declared.words.Command.{Command}
-use Rattle.gl_run.specs.declared.status.TheConstants.{ALL_WELL, NO_COMMAND, READ_FAILED, WRITE_FAILED, REFUSED, NO_MEMORY, RACES, NOT_HALTED}
+use Rattle.gl_run.specs.declared.status.TheConstants.{ALL_WELL, NO_COMMAND, READ_FAILED, WRITE_FAILED, REFUSED}
+use Rattle.gl_run.specs.declared.status.TheConstants.{NO_MEMORY, RACES, NOT_HALTED, NOT_LAWFUL}
 use Rattle.gl_run.specs.declared.keep.Keep.{Keep}
 use Rattle.gl_run.specs.declared.kept.Kept.{Kept}
 use Rattle.gl_run.specs.Texts.{AnswersText}
@@ -50,7 +51,9 @@ pub record HasCauses (asked : Option Command) (source_before source_now sink_bef
 
 -- the statuses in which all that was to be written was written
 abbrev pub IsWhole : ℕ → Type 0
-IsWhole status = (status ≡ ALL_WELL) ⊎ ((status ≡ NO_COMMAND) ⊎ ((status ≡ REFUSED) ⊎ ((status ≡ RACES) ⊎ (status ≡ NOT_HALTED))))
+IsWhole status =
+    (status ≡ ALL_WELL) ⊎ ((status ≡ NO_COMMAND)
+    ⊎ ((status ≡ REFUSED) ⊎ ((status ≡ RACES) ⊎ ((status ≡ NOT_HALTED) ⊎ (status ≡ NOT_LAWFUL)))))
 
 -- what was written and what is kept, for an input
 pub record HasWritten (keep : Keep) (asked : Option Command) (input : List ℕ) (status : ℕ) (kept : Option Kept) (before now : Option (List ℕ)) : Type 0 where
@@ -73,11 +76,17 @@ pub record HasRead (most : ℕ) (before now : Option (List ℕ)) : Type 0 where
 
 -- the statuses of a command that read its input without a fault and had memory for its answer
 abbrev pub IsAnswered : ℕ → Type 0
-IsAnswered status = (status ≡ ALL_WELL) ⊎ ((status ≡ WRITE_FAILED) ⊎ ((status ≡ REFUSED) ⊎ ((status ≡ RACES) ⊎ (status ≡ NOT_HALTED))))
+IsAnswered status =
+    (status ≡ ALL_WELL) ⊎ ((status ≡ WRITE_FAILED)
+    ⊎ ((status ≡ REFUSED) ⊎ ((status ≡ RACES) ⊎ ((status ≡ NOT_HALTED) ⊎ (status ≡ NOT_LAWFUL)))))
+
+-- those of one whose text, if it reads one, is accepted
+abbrev pub IsAccepted : ℕ → Type 0
+IsAccepted status = (status ≡ ALL_WELL) ⊎ ((status ≡ RACES) ⊎ ((status ≡ NOT_HALTED) ⊎ (status ≡ NOT_LAWFUL)))
 
 -- what a source has left: all where nothing is read for the words; nothing where an input was accepted; and else what was not read of a text that is
 -- too long
 pub record HasLeft (asked : Option Command) (before now : Option (List ℕ)) (status : ℕ) : Type 0 where
   pub unread : ReadsNothing asked → now ≡ before
-  pub accepted : (most : ℕ) → most_of asked ≡ Some most → (status ≡ ALL_WELL) ⊎ ((status ≡ RACES) ⊎ (status ≡ NOT_HALTED)) → IsAtEnd now
+  pub accepted : (most : ℕ) → most_of asked ≡ Some most → IsAccepted status → IsAtEnd now
   pub read : (most : ℕ) → most_of asked ≡ Some most → IsAnswered status → HasRead most before now

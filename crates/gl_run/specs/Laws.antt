@@ -1,9 +1,14 @@
 -- That an answer is settled: by the words and the input, or by what is kept of a run.
-use Rattle.std.specs.Prelude.{◌≡◌, ℕ, ℤ, List, [], Option, Some, None}
+use Rattle.std.specs.Prelude.{◌≡◌, ◌↔◌, ℕ, ℤ, List, [], Option, Some, None}
 use Rattle.gl_asm.specs.Texts.{IsText}
+use Rattle.gl_audited.specs.Meaning.{IsAuditText}
+use Rattle.gl_bytecode.specs.Lawful.{Lawful}
 use Rattle.gl_bytecode.specs.Programs.{Bytecode}
 use Rattle.gl_gen.specs.Bank.{bank_program}
+use Rattle.gl_model.specs.Entries.{Entry}
+use Rattle.gl_model.specs.Lists.{lists_of}
 use Rattle.gl_model.specs.Report.{summary_of}
+use Rattle.gl_run.specs.Audits.{AcceptsAudit, AuditsText, RefusesAudit}
 use Rattle.gl_run.specs.Check.{AcceptsTrace, ChecksText, RefusesTrace}
 use Rattle.gl_run.specs.Command.{Replies}
 use Rattle.gl_run.specs.Listed.{AcceptsProgram, ListsText, RefusesProgram}
@@ -16,6 +21,7 @@ use Rattle.gl_run.specs.Words.{run_part}
 use Rattle.gl_run.specs.declared.keep.Keep.{Keep}
 use Rattle.gl_run.specs.declared.kept.Kept.{Kept}
 use Rattle.gl_run.specs.declared.kept.Kept.TheVariants.{Run}
+use Rattle.gl_run.specs.declared.status.TheConstants.{ALL_WELL}
 use Rattle.gl_run.specs.declared.words.Command.{Command}
 
 -- these answers are one: whatever is answered, the status, the bytes and what is kept are the same
@@ -41,6 +47,19 @@ ListingsAreOne = (input : List ℕ) → IsOneAnswer (ListsText input)
 
 abbrev pub ListingsAreApart : Type 0
 ListingsAreApart = (input : List ℕ) (s t : ℕ) (a b : List ℕ) (j k : Option Kept) → AcceptsProgram input s a j → RefusesProgram input t b k → ⊥
+
+abbrev pub AuditsAreOne : Type 0
+AuditsAreOne = (input : List ℕ) → IsOneAnswer (AuditsText input)
+
+abbrev pub AuditsAreApart : Type 0
+AuditsAreApart = (input : List ℕ) (s t : ℕ) (a b : List ℕ) (j k : Option Kept) → AcceptsAudit input s a j → RefusesAudit input t b k → ⊥
+
+-- the status is that of no fault exactly where the record that the text says is lawful for its program, its inputs and its steps
+abbrev pub AuditsAreExact : Type 0
+AuditsAreExact =
+    (input : List ℕ) (P : Bytecode) (inputs : List ℤ) (steps : ℕ) (made : List (ℕ × List Entry)) (status : ℕ) (bytes : List ℕ)
+    (kept : Option Kept) → IsAuditText input P inputs steps made → AuditsText input status bytes kept
+    → (status ≡ ALL_WELL) ↔ Lawful P inputs steps (lists_of made)
 
 abbrev pub RunsAreTold : Type 0
 RunsAreTold = (asked : RunOptions) (input : List ℕ) → IsToldByKept (RunsText asked input)

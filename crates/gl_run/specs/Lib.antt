@@ -5,6 +5,7 @@ pub mod Check
 pub mod Recording
 pub mod Said
 pub mod Listed
+pub mod Audits
 pub mod Texts
 pub mod Command
 pub mod Replies

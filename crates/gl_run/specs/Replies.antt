@@ -4,7 +4,7 @@ use Rattle.gl_io.specs.Faults.{Rose}
 use Rattle.gl_io.specs.Whole.{IsTaken}
 use Rattle.gl_run.specs.Command.{IsNoCommand, ReadsNothing, Replies}
 use Rattle.gl_run.specs.declared.keep.Keep.{Keep}
-use Rattle.gl_run.specs.declared.status.TheConstants.{ALL_WELL, NO_COMMAND, REFUSED, RACES, NOT_HALTED}
+use Rattle.gl_run.specs.declared.status.TheConstants.{ALL_WELL, NO_COMMAND, REFUSED, RACES, NOT_HALTED, NOT_LAWFUL}
 use Rattle.gl_run.specs.declared.words.Command.{Command}
 use Rattle.gl_run.specs.declared.page.Page.{Page}
 use Rattle.gl_run.specs.declared.page.Stop.{Stop}
@@ -12,11 +12,7 @@ use Rattle.gl_run.specs.declared.page.Stop.TheVariants.{Read, Memory}
 
 -- the statuses of a command that is answered
 abbrev pub IsVerdict : ℕ → Type 0
-IsVerdict status = (status ≡ ALL_WELL) ⊎ ((status ≡ REFUSED) ⊎ ((status ≡ RACES) ⊎ (status ≡ NOT_HALTED)))
-
--- those of one whose text, if it reads one, is accepted
-abbrev pub IsAccepted : ℕ → Type 0
-IsAccepted status = (status ≡ ALL_WELL) ⊎ ((status ≡ RACES) ⊎ (status ≡ NOT_HALTED))
+IsVerdict status = (status ≡ ALL_WELL) ⊎ ((status ≡ REFUSED) ⊎ ((status ≡ RACES) ⊎ ((status ≡ NOT_HALTED) ⊎ (status ≡ NOT_LAWFUL))))
 
 abbrev pub IsPageStatus : Option Command → ℕ → Type 0
 IsPageStatus asked status = (IsNoCommand asked × (status ≡ NO_COMMAND)) ⊎ ((IsNoCommand asked → ⊥) × IsVerdict status)

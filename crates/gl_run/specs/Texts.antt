@@ -5,6 +5,7 @@ use Rattle.gl_run.specs.declared.words.Command.TheVariants as commands
 use Rattle.gl_run.specs.declared.keep.Keep.{Keep}
 use Rattle.gl_run.specs.declared.kept.Kept.{Kept}
 use Rattle.gl_run.specs.Words.{most_of}
+use Rattle.gl_run.specs.Audits.{AuditsText}
 use Rattle.gl_run.specs.Check.{ChecksText}
 use Rattle.gl_run.specs.Listed.{ListsText}
 use Rattle.gl_run.specs.Loads.{AnswersLoad}
@@ -15,6 +16,7 @@ AnswersText keep commands.Check input status bytes kept = ChecksText keep input 
 AnswersText keep commands.List input status bytes kept = ListsText input status bytes kept
 AnswersText keep (commands.Run options) input status bytes kept = RunsText options input status bytes kept
 AnswersText keep (commands.Load load) input status bytes kept = AnswersLoad load status bytes kept
+AnswersText keep commands.Audit input status bytes kept = AuditsText input status bytes kept
 
 -- what every text of more bytes than the command reads is answered
 abbrev pub AnswersLonger : Command → ℕ → List ℕ → Option Kept → Type 0

@@ -1,6 +1,7 @@
 -- Which command the words ask for.
 use Rattle.std.specs.Prelude.{ℕ, List, [], ◌∷◌, Option, Some, None, bytes_eq, codes, if◌then◌else◌}
 use Rattle.gl_asm.specs.declared.limits.TheConstants.{LONGEST}
+use Rattle.gl_audited.specs.declared.limits.TheConstants.{AUDIT_BYTES}
 use Rattle.gl_threads.specs.Options.{AreOptions}
 use Rattle.gl_trace.specs.declared.limits.TheConstants.{TRACE_BYTES}
 use Rattle.gl_run.specs.declared.words.Command.{Command}
@@ -23,6 +24,7 @@ HasLimits commands.Check = Unit {0}
 HasLimits commands.List = Unit {0}
 HasLimits (commands.Run options) = AreOptions options.threads
 HasLimits (commands.Load load) = IsLoad load
+HasLimits commands.Audit = Unit {0}
 
 -- a command without options
 abbrev pub alone : List Word → Command → Option Command
@@ -36,6 +38,7 @@ command_named word options =
     else if bytes_eq word (codes "list") then alone options commands.List
     else if bytes_eq word (codes "run") then as_run (run_options options)
     else if bytes_eq word (codes "load") then as_load (load_options options)
+    else if bytes_eq word (codes "audit") then alone options commands.Audit
     else None
 
 -- the words are a program's name, which is not looked at, a command and its options
@@ -51,6 +54,7 @@ text_part (Some commands.Check) = Some commands.Check
 text_part (Some commands.List) = Some commands.List
 text_part (Some (commands.Run options)) = None
 text_part (Some (commands.Load load)) = None
+text_part (Some commands.Audit) = Some commands.Audit
 
 -- the commands that run a program
 abbrev pub run_part : Option Command → Option Command
@@ -59,6 +63,7 @@ run_part (Some commands.Check) = None
 run_part (Some commands.List) = None
 run_part (Some (commands.Run options)) = Some (commands.Run options)
 run_part (Some (commands.Load load)) = Some (commands.Load load)
+run_part (Some commands.Audit) = None
 
 abbrev pub text_command_of : List Word → Option Command
 text_command_of words = text_part (command_of words)
@@ -73,3 +78,4 @@ most_of (Some commands.Check) = Some TRACE_BYTES
 most_of (Some commands.List) = Some LONGEST
 most_of (Some (commands.Run options)) = Some LONGEST
 most_of (Some (commands.Load load)) = None
+most_of (Some commands.Audit) = Some AUDIT_BYTES

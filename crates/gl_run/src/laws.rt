@@ -1,5 +1,5 @@
 // Laws of the answers: each is settled.
-ghost use Rattle.gl_run.specs.Laws.{ChecksAreApart, ChecksAreOne, ListingsAreApart, ListingsAreOne, LoadsAreLawful, LoadsAreTold, RepliesAreOne, RepliesAreTold, RunsAreApart, RunsAreLawful, RunsAreTold};
+ghost use Rattle.gl_run.specs.Laws.{AuditsAreApart, AuditsAreExact, AuditsAreOne, ChecksAreApart, ChecksAreOne, ListingsAreApart, ListingsAreOne, LoadsAreLawful, LoadsAreTold, RepliesAreOne, RepliesAreTold, RunsAreApart, RunsAreLawful, RunsAreTold};
 
 /// A text has one answer of `check`, and is not both accepted and refused.
 pub fn checks_are_settled()
@@ -29,6 +29,17 @@ pub fn loads_are_settled()
     ensures lawful { LoadsAreLawful }
 {}
 
+/// A text has one answer of `audit`, and is not both accepted and refused. Its status is that of no fault exactly where the record that it
+/// says is lawful.
+pub fn audits_are_settled()
+    ensures one { AuditsAreOne }
+    ensures apart { AuditsAreApart }
+    ensures exact { AuditsAreExact }
+{
+    gl_audited::one_meaning();
+    gl_audit::one_finding();
+}
+
 /// Words that run no program have one answer for each input: one status, one text, and one record that is kept. Whatever the words
 /// are, the status and the text are told by what is kept.
 pub fn answers_are_settled()
@@ -38,4 +49,5 @@ pub fn answers_are_settled()
     checks_are_settled();
     programs_are_settled();
     loads_are_settled();
+    audits_are_settled();
 }

@@ -3,14 +3,15 @@ ghost use Rattle.std.specs.Prelude.{◌≡◌, ℕ, List, Option, IfOk, IfSome, 
 ghost use Rattle.std.specs.Io.KnownBytes.{IsAtEnd};
 ghost use Rattle.gl_asm.specs.declared.limits.TheConstants.{LONGEST};
 ghost use Rattle.gl_threads.specs.Options.{AreOptions};
-ghost use Rattle.gl_run.specs.Command.{HasRead, ReadsNothing};
+ghost use Rattle.gl_run.specs.Command.{HasRead, IsAccepted, ReadsNothing};
 ghost use Rattle.gl_run.specs.Options.{IsLoad};
 ghost use Rattle.gl_run.specs.Output.{usage};
-ghost use Rattle.gl_run.specs.Replies.{IsAccepted, IsVerdict, ReplyCause, RepliesTo};
+ghost use Rattle.gl_run.specs.Replies.{IsVerdict, ReplyCause, RepliesTo};
 ghost use Rattle.gl_run.specs.Texts.{AnswersText, AnswersLonger};
 ghost use Rattle.gl_run.specs.Words.{HasLimits, most_of, run_part};
 ghost use Rattle.gl_run.specs.declared.words.Command.TheVariants as commands;
 
+use crate::audits::audit;
 use crate::check::check;
 use crate::keep::Keep;
 use crate::listed::list;
@@ -57,6 +58,7 @@ fn answer_text(
     match command {
         Command::Check => check(alloc, input, cuts, keep),
         Command::List => list(alloc, input),
+        Command::Audit => audit(alloc, input),
         Command::Run(_) | Command::Load(_) => unreachable!(),
     }
 }

@@ -1,13 +1,13 @@
 // The limits and statuses of the command line, with their numbers written out.
-ghost use Rattle.std.specs.Prelude.{◌≡◌, ℕ, None, Some};
+ghost use Rattle.std.specs.Prelude.{◌≡◌, None, Some};
 ghost use Rattle.gl_run.specs.Options.{limits_of, nothing_given, options_of};
 ghost use Rattle.gl_run.specs.Words.{most_of};
 ghost use Rattle.gl_run.specs.declared.options.NumberOption.TheVariants.{Cells, Segments, Size, Steps, Workers};
 ghost use Rattle.gl_run.specs.declared.options.TheConstants.{DEFAULT_WORKERS, MOST_DIGITS};
 ghost use Rattle.gl_run.specs.declared.load.TheConstants.{LOAD_STEPS};
-ghost use Rattle.gl_run.specs.declared.status.TheConstants.{ALL_WELL, NOT_HALTED, NO_COMMAND, NO_MEMORY, RACES, READ_FAILED, REFUSED, WRITE_FAILED};
+ghost use Rattle.gl_run.specs.declared.status.TheConstants.{ALL_WELL, NOT_HALTED, NOT_LAWFUL, NO_COMMAND, NO_MEMORY, RACES, READ_FAILED, REFUSED, WRITE_FAILED};
 ghost use Rattle.gl_run.specs.declared.options.LoadOptions.{LoadOptions};
-ghost use Rattle.gl_run.specs.declared.words.Command.{Command};
+ghost use Rattle.gl_run.specs.declared.options.RunOptions.{RunOptions};
 ghost use Rattle.gl_run.specs.declared.words.Command.TheVariants as commands;
 
 /// Each limit, and each number that stands where none is given, is the one that is stated for it.
@@ -21,7 +21,11 @@ pub fn limits_are_stated()
     ensures default_workers { DEFAULT_WORKERS ≡ 4 }
     ensures load_steps { LOAD_STEPS ≡ 1000000 }
     ensures most_digits { MOST_DIGITS ≡ 7 }
-    ensures most_bytes { (command : Command) (most : ℕ) → most_of (Some command) ≡ Some most → most ≡ 1048576 }
+    ensures check_bytes { most_of (Some commands.Check) ≡ Some 1048576 }
+    ensures list_bytes { most_of (Some commands.List) ≡ Some 1048576 }
+    ensures run_bytes { (options : RunOptions) → most_of (Some (commands.Run options)) ≡ Some 1048576 }
+    ensures load_bytes { (load : LoadOptions) → most_of (Some (commands.Load load)) ≡ None }
+    ensures audit_bytes { most_of (Some commands.Audit) ≡ Some 67108864 }
 {}
 
 /// Each status is the number that is stated for it.
@@ -34,4 +38,5 @@ pub fn statuses_are_stated()
     ensures no_memory { NO_MEMORY ≡ 5 }
     ensures races { RACES ≡ 6 }
     ensures not_halted { NOT_HALTED ≡ 7 }
+    ensures not_lawful { NOT_LAWFUL ≡ 8 }
 {}

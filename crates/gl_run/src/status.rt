@@ -16,3 +16,5 @@ pub const NO_MEMORY: u8 = 5;
 pub const RACES: u8 = 6;
 /// None was, and some thread ended otherwise than by halting.
 pub const NOT_HALTED: u8 = 7;
+/// The record that is audited is not lawful.
+pub const NOT_LAWFUL: u8 = 8;

@@ -21,6 +21,8 @@ const CHECK: &[&str] = &["goldi", "check"];
 
 const LIST: &[&str] = &["goldi", "list"];
 
+const AUDIT: &[&str] = &["goldi", "audit"];
+
 // A command over a source of 8 bytes a call and a sink of 4 bytes a call, which fail at these calls: the status, and
 // whether these bytes were written.
 fn checked<R: Threads + Wait + Sync>(
@@ -132,6 +134,72 @@ fn programs(rt: HostRuntime) -> Result<(), Fail> {
             "at {input}"
         );
     }
+    Ok(())
+}
+
+// Each row: the program, the record, the status, and what `audit` writes.
+#[test]
+fn audits(rt: HostRuntime) -> Result<(), Fail> {
+    let one = "func main 0 0\n  push 5\n  print\n  halt\n";
+    let rows: [(&str, &str, u8, &str); 9] = [
+        (
+            one,
+            "record 1 200000\nthread 0\nsync 0 begin 0 0\nsync 1 print 0 5\nsync 2 end 0 0\nover halt\ndone\n",
+            0,
+            "lawful\n",
+        ),
+        (
+            one,
+            "record 1 200000\nthread 0\nsync 0 begin 0 0\nsync 1 print 0 6\nsync 2 end 0 0\nover halt\ndone\n",
+            8,
+            "not 0 1 7\n",
+        ),
+        (
+            one,
+            "record 1 200000\nthread 0\nsync 0 begin 0 0\nsync 1 print 0 5\nsync 3 end 0 0\nover halt\ndone\n",
+            8,
+            "not 0 2 2\n",
+        ),
+        (one, "record 1 200000\ndone\n", 8, "not 0 0 1\n"),
+        (one, "record 1 200000\nthread 16\ndone\n", 4, "refused 6 6\n"),
+        (one, "record 1 200000\nthread 0\n", 4, "refused 0 32\n"),
+        (
+            "func main 0 0\n  stop\n",
+            "record 1 200000\nthread 16\ndone\n",
+            4,
+            "refused 2 4\n",
+        ),
+        ("", "record 1 200000\ndone\n", 4, "refused 0 48\n"),
+        ("", "", 4, "refused 0 48\n"),
+    ];
+    for (program, record, status, written) in rows {
+        let mut input = String::from_str(rt.alloc(), program)?;
+        input.push_str(record)?;
+        assert_eq!(rt;
+            checked(&rt, rt.alloc(), AUDIT, &input, &[], &[], written.as_bytes())?,
+            (status, true),
+            "at {input}"
+        );
+    }
+    Ok(())
+}
+
+// A write that fails takes the place of the status, and a beginning of the line was written.
+#[test]
+fn a_finding_is_cut(rt: HostRuntime) -> Result<(), Fail> {
+    let input = "func main 0 0\nhalt\nrecord 1 5\ndone\n";
+    assert_eq!(rt;
+        checked(&rt, rt.alloc(), AUDIT, input, &[], &[2], b"not ")?,
+        (3, true)
+    );
+    assert_eq!(rt;
+        checked(&rt, rt.alloc(), AUDIT, input, &[1], &[], b"")?,
+        (2, true)
+    );
+    assert_eq!(rt;
+        checked(&rt, rt.alloc(), &["goldi", "audit", "x"], input, &[1], &[], b"usage: goldi check|list|run|load|audit\n")?,
+        (1, true)
+    );
     Ok(())
 }
 

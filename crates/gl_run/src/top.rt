@@ -51,8 +51,8 @@ fn finish<K: Sink>(sink: &mut K, reply: Result<Page, Stop>) -> Answer
 
 /// Does what the words say where they name a command that reads a text and runs nothing; other words are none that it
 /// knows. It waits for nobody, and so returns. All input is read before the first byte is written. The statuses are 1 where the
-/// words are no such command, 2 where a read failed, 4 where the text is refused, 6 where an access is raised, else 0; 3 where a
-/// write failed, and 5 where memory ran out. The short cuts change no answer.
+/// words are no such command, 2 where a read failed, 4 where the text is refused, 6 where an access is raised, 8 where the
+/// record that is audited is not lawful, else 0; 3 where a write failed, and 5 where memory ran out. The short cuts change no answer.
 #[tactic(auto, using(crate::proofs::Finished::causes_of, crate::proofs::Finished::written_of))]
 pub fn goldi_text<S: Source, K: Sink>(
     alloc: Global,

@@ -3,6 +3,7 @@ ghost use Rattle.std.specs.Prelude.{◌≡◌, IfSome, None, Some, string_bytes,
 ghost use Rattle.gl_run.specs.Words.{HasLimits, alone, command_named, command_of, most_of, run_command_of, run_part, text_command_of, text_part};
 
 use crate::options::{LoadOptions, RunOptions, load_options, run_options};
+use gl_audited::AUDIT_BYTES;
 use gl_trace::TRACE_BYTES;
 
 /// A command.
@@ -16,6 +17,8 @@ pub enum Command {
     Run(RunOptions),
     /// Makes a bank and runs it.
     Load(LoadOptions),
+    /// Audits a record against its program.
+    Audit,
 }
 
 /// The most bytes of a program text.
@@ -30,6 +33,7 @@ impl Command {
         match self {
             Command::Check => TRACE_BYTES,
             Command::List => PROGRAM_BYTES,
+            Command::Audit => AUDIT_BYTES,
             Command::Run(_) | Command::Load(_) => unreachable!(),
         }
     }
@@ -62,6 +66,7 @@ fn command_named(word: &[u8], options: &[String]) -> Option<Command>
             Some(options) => Some(Command::Load(options)),
             None => None,
         },
+        b"audit" => alone(options, Command::Audit),
         _ => None,
     }
 }
