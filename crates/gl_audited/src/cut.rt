@@ -54,7 +54,7 @@ pub(crate) struct Cut {
     pub(crate) lines: u32,
 }
 
-// Cuts the text before the first line whose first word is `record`, or else behind its last line.
+// Cuts the text before the first line whose first word is `record`, or else after its last line.
 pub(crate) fn cut_text(text: &[u8]) -> Cut
     requires { length text.now < u32.MAX }
     ensures at { IsCutAt text.now result.at }
