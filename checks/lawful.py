@@ -16,12 +16,16 @@ BARRED = {"halt", "new", "vget", "vput", "enter", "exit", "fork", "join", "txbeg
 
 
 class Unlawful(Exception):
-    pass
+    """what is wrong, and where first: a thread and a place in its list, where it is of one entry"""
+
+    def __init__(self, text, place=None):
+        super().__init__(text)
+        self.place = place
 
 
-def want(fact, text):
+def want(fact, text, place=None):
     if not fact:
-        raise Unlawful(text)
+        raise Unlawful(text, place)
 
 
 def wrap(n):
@@ -47,14 +51,14 @@ class Program:
                 places[len(labels) - 1] = 0
                 if words[1] == "main":
                     self.main = len(labels) - 1
-            elif words and words[0] == "input":
+            elif words and words[0] == "input" and len(words) > 1:
                 self.inputs += [int(w) for w in words[1:]]
             elif len(words) == 1 and words[0].endswith(":"):
                 labels[-1][words[0][:-1]] = places[len(labels) - 1]
             elif words and words[0] != "catch":
                 places[len(labels) - 1] += 1
         for words in lines:
-            if not words or words[0] in ("class", "input") or words[0].endswith(":"):
+            if not words or words[0] == "class" or (words[0] == "input" and len(words) > 1) or words[0].endswith(":"):
                 continue
             if words[0] == "func":
                 self.functions.append((int(words[2]), int(words[3]), [], []))
@@ -71,6 +75,10 @@ class Program:
                 code.append((words[0], names["class " + words[1]]))
             else:
                 code.append((words[0], *(int(w) for w in words[1:])))
+
+    def fields(self, c):
+        """the data fields and the volatile fields of class c; none where there is no such class"""
+        return self.classes[c] if 0 <= c < len(self.classes) else (0, 0)
 
 
 def parts(text):
@@ -126,6 +134,12 @@ def position(e):
     return e[1] if e[0] in ("sync", "commit") else None
 
 
+def by_position(lists):
+    """the places of the events, and the events with their threads, by position"""
+    found = sorted((e[1], t, i) for t, es in lists.items() for i, e in enumerate(es) if position(e) is not None)
+    return [(t, i) for _, t, i in found], [(t, lists[t][i]) for _, t, i in found]
+
+
 # ---- well formed, listed, numbered ----
 
 def check_form(t, es):
@@ -175,7 +189,7 @@ def check_once(uses, what):
 
 # ---- the machine without data words ----
 
-def check_machine(program, lists, events):
+def check_machine(program, lists, events, places):
     threads = {0: ("forked", program.main, 0)}
     owners, words, taken = {}, {}, 0
     objects = variables = volatiles = 0
@@ -183,14 +197,14 @@ def check_machine(program, lists, events):
         where = f"event {p} of thread {t}: {e}"
         state = threads.get(t, ("never",))
         if e[0] == "commit":
-            want(state == ("runs",), "does not run: " + where)
+            want(state == ("runs",), "does not run: " + where, places[p])
             continue
         _, _, kind, arg, value = e
         if kind == "begin":
-            want(state == ("forked", arg, value), "not forked so: " + where)
+            want(state == ("forked", arg, value), "not forked so: " + where, places[p])
             threads[t] = ("runs",)
             continue
-        want(state == ("runs",), "does not run: " + where)
+        want(state == ("runs",), "does not run: " + where, places[p])
         ok = True
         if kind == "end":
             threads[t] = ("ended",)
@@ -210,31 +224,33 @@ def check_machine(program, lists, events):
             words[arg] = value
         elif kind == "fork":
             child, func = arg % 16, arg // 16
-            ok = child == min((u for u in range(1, THREADS) if u not in threads), default=None) and program.functions[func][0] == 1 and child in lists
+            ok = child == min((u for u in range(1, THREADS) if u not in threads), default=None) and child in lists
+            ok = ok and func < len(program.functions) and program.functions[func][0] == 1
             threads[child] = ("forked", func, value)
         elif kind == "join":
             ok = threads.get(arg) == ("ended",)
         elif kind == "alloc":
-            d, v = program.classes[arg]
+            d, v = program.fields(arg)
             ok = value == 1 + objects + 2**8 * arg + 2**16 * variables + 2**32 * volatiles
             objects, variables, volatiles = objects + 1, variables + d, volatiles + v
-            ok = ok and objects <= MONITORS and variables <= VARIABLES and volatiles <= VOLATILES
+            ok = ok and arg < len(program.classes) and objects <= MONITORS and variables <= VARIABLES and volatiles <= VOLATILES
         elif kind == "input":
             ok = taken < len(program.inputs) and value == program.inputs[taken]
             taken += 1
         elif kind == "fail":
             if arg == NOT_OWNER:
-                ok = owners.get(value, (None, 0))[0] != t
+                ok = 0 <= value < MONITORS and owners.get(value, (None, 0))[0] != t
             elif arg == HEAP_FULL:
-                d, v = program.classes[value]
-                ok = objects + 1 > MONITORS or variables + d > VARIABLES or volatiles + v > VOLATILES
+                d, v = program.fields(value)
+                ok = 0 <= value < len(program.classes)
+                ok = ok and (objects + 1 > MONITORS or variables + d > VARIABLES or volatiles + v > VOLATILES)
             elif arg == THREADS_FULL:
                 ok = all(u in threads for u in range(1, THREADS))
             elif arg == INPUT_END:
                 ok = taken == len(program.inputs)
             else:
-                ok = arg == BAD_THREAD and value not in threads
-        want(ok, "no step of the machine: " + where)
+                ok = arg == BAD_THREAD and 0 <= value < THREADS and value not in threads
+        want(ok, "no step of the machine: " + where, places[p])
     want(all(s == ("ended",) for s in threads.values()), "some thread is live at the end")
     want(set(lists) == set(threads), "a list of a thread that was not forked")
 
@@ -317,36 +333,36 @@ def check_races(lists, events, clocks):
             xs = [e[1]] if e[0] == "plain" else touched(e) if e[0] in ("commit", "raised") else []
             bad = [x for x in xs if (t, i, x) in racy]
             if e[0] == "plain":
-                want(e[6] == bool(bad), "race law: " + where)
+                want(e[6] == bool(bad), "race law: " + where, (t, i))
             elif e[0] == "commit":
-                want(not bad, "race law: " + where)
+                want(not bad, "race law: " + where, (t, i))
             elif e[0] == "raised":
-                want(bad and e[1] == bad[0], "race law: " + where)
+                want(bad and e[1] == bad[0], "race law: " + where, (t, i))
 
 
 # ---- one memory ----
 
-def check_words(lists, events):
+def check_words(lists, events, places):
     memory = {}
     following = {}
     for t, es in lists.items():
         block = None
-        for e in es:
+        for i, e in enumerate(es):
             if position(e) is not None:
                 block = e[1]
             elif e[0] == "plain" and not e[6]:
-                following.setdefault(block, []).append(e)
+                following.setdefault(block, []).append((i, e))
     for p, (t, e) in enumerate(events):
         if e[0] == "commit":
             for x, value, _ in e[2]:
-                want(memory.get(x, 0) == value, f"a look of the commit at {p} is not the memory's word")
+                want(memory.get(x, 0) == value, f"a look of the commit at {p} is not the memory's word", places[p])
             for x, value in e[3]:
                 memory[x] = value
-        for f in following.get(p, []):
+        for i, f in following.get(p, []):
             if f[4]:
                 memory[f[1]] = f[5]
             else:
-                want(memory.get(f[1], 0) == f[5], f"a read behind event {p} of thread {t} is not the memory's word: {f}")
+                want(memory.get(f[1], 0) == f[5], f"a read behind event {p} of thread {t} is not the memory's word: {f}", (t, i))
     writes = {}
     for t, es in lists.items():
         for i, e in enumerate(es):
@@ -357,7 +373,7 @@ def check_words(lists, events):
                 for x, value in e[3]:
                     writes.setdefault(x, []).append((numbers[x], i, value))
     for t, es in lists.items():
-        for e in es:
+        for i, e in enumerate(es):
             if e[0] in ("commit", "changed", "raised"):
                 looks = [(x, value, k) for x, value, k in e[2]]
                 if e[0] == "changed":
@@ -366,7 +382,7 @@ def check_words(lists, events):
                     below = [w for w in writes.get(x, []) if w[0] < k]
                     greatest = max((w[0] for w in below), default=None)
                     may = {w[2] for w in below if w[0] == greatest} or {0}
-                    want(value in may, f"thread {t}: a look of {x} has a word that no write before it left: {e}")
+                    want(value in may, f"thread {t}: a look of {x} has a word that no write before it left: {e}", (t, i))
 
 
 # ---- the instructions ----
@@ -384,11 +400,12 @@ class Thread:
     def __init__(self, program, steps, t, es):
         self.program, self.steps, self.t = program, steps, t
         self.list = [e for e in es if e[0] != "trim"]
+        self.places = [i for i, e in enumerate(es) if e[0] != "trim"] + [len(es)]
         self.at, self.count, self.levels = 0, 0, {}
         self.frames, self.attempt = [], None
 
     def bad(self, text):
-        raise Unlawful(f"thread {self.t}, entry {self.at}: {text}")
+        raise Unlawful(f"thread {self.t}, entry {self.at}: {text}", (self.t, self.places[self.at]))
 
     def peek(self):
         if self.at >= len(self.list):
@@ -632,10 +649,10 @@ class Thread:
         elif word == "new":
             stack.append(self.sync("alloc", n, None, (HEAP_FULL, n))[4])
         elif word == "fork":
-            e = self.sync("fork", None, stack[-1], (THREADS_FULL, 0))
-            if e[3] // 16 != n:
-                self.bad(f"{e} forks another function")
-            stack[-1:] = [e[3] % 16]
+            e = self.peek()
+            child = e[3] % 16 if e[0] == "sync" else 0
+            self.sync("fork", child + 16 * n, stack[-1], (THREADS_FULL, 0))
+            stack[-1:] = [child]
         elif word == "join":
             u = stack[-1]
             if u == self.t or not 0 <= u < THREADS:
@@ -682,9 +699,8 @@ def check(program_text, output, ring=(64, 64)):
     want(0 in lists, "thread 0 has no list")
     for t, es in lists.items():
         check_form(t, es)
-    events = sorted(((e[1], t, e) for t, es in lists.items() for e in es if position(e) is not None))
-    check_once([p for p, _, _ in events], "positions")
-    events = [(t, e) for _, t, e in events]
+    check_once([e[1] for es in lists.values() for e in es if position(e) is not None], "positions")
+    places, events = by_position(lists)
     numbers = {}
     for es in lists.values():
         for e in es:
@@ -692,9 +708,9 @@ def check(program_text, output, ring=(64, 64)):
                 numbers.setdefault(x, []).append(k)
     for x, uses in numbers.items():
         check_once(uses, f"the numbers of variable {x}")
-    check_machine(program, lists, events)
+    check_machine(program, lists, events, places)
     check_races(lists, events, clocks_of(events))
-    check_words(lists, events)
+    check_words(lists, events, places)
     for t, es in lists.items():
         Thread(program, steps, t, es).run()
     check_ring(lists, events, *ring)

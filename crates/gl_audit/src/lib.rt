@@ -10,3 +10,6 @@ pub use clauses::{FORM, LIST, MACHINE, NUMBERS, PROGRAM, RACES, WORDS};
 pub use finding::Finding;
 pub use laws::{lawful_is_seven_clauses, one_finding};
 pub use whole::audit;
+
+#[cfg(test)]
+mod tests;
