@@ -161,7 +161,12 @@ fn audits(rt: HostRuntime) -> Result<(), Fail> {
             "not 0 2 2\n",
         ),
         (one, "record 1 200000\ndone\n", 8, "not 0 0 1\n"),
-        (one, "record 1 200000\nthread 16\ndone\n", 4, "refused 6 6\n"),
+        (
+            one,
+            "record 1 200000\nthread 16\ndone\n",
+            4,
+            "refused 6 6\n",
+        ),
         (one, "record 1 200000\nthread 0\n", 4, "refused 0 32\n"),
         (
             "func main 0 0\n  stop\n",
@@ -197,7 +202,15 @@ fn a_finding_is_cut(rt: HostRuntime) -> Result<(), Fail> {
         (2, true)
     );
     assert_eq!(rt;
-        checked(&rt, rt.alloc(), &["goldi", "audit", "x"], input, &[1], &[], b"usage: goldi check|list|run|load|audit\n")?,
+        checked(
+            &rt,
+            rt.alloc(),
+            &["goldi", "audit", "x"],
+            input,
+            &[1],
+            &[],
+            b"usage: goldi check|list|run|load|audit\n"
+        )?,
         (1, true)
     );
     Ok(())
