@@ -107,10 +107,15 @@ pub told_of_record :
     TellsFirstOfRecord part (1 + count) error → TellsFirst text error
 told_of_record text front part at count P inputs (Fault f) before after few cut counted is told =
     inr (inr (record {
-      within = few; at = at; cut = cut; program = P; inputs = inputs; program_is = subst (λ p. IsText p P inputs) before is;
+      within = few;
+      at = at;
+      cut = cut;
+      program = P;
+      inputs = inputs;
+      program_is = subst (λ p. IsText p P inputs) before is;
       fault =
-        subst (λ n. IsFirstOfRecord (drop at text) (1 + n) f.line f.kind) counted
-        (subst (λ p. IsFirstOfRecord p (1 + count) f.line f.kind) after told);
+          subst (λ n. IsFirstOfRecord (drop at text) (1 + n) f.line f.kind) counted
+          (subst (λ p. IsFirstOfRecord p (1 + count) f.line f.kind) after told);
     }))
 told_of_record text front part at count P inputs (Memory e) before after few cut counted is told = told
 
@@ -119,7 +124,9 @@ pub meant :
     part ≡ drop at text → length text ≤ AUDIT_BYTES → IsCutAt text at → IsText front P inputs → IsRecordText part steps R →
     IsAuditText text P inputs steps R
 meant text front part at P inputs steps R before after few cut is says = record {
-  within = few; at = at; cut = cut;
+  within = few;
+  at = at;
+  cut = cut;
   program_is = subst (λ p. IsText p P inputs) before is;
   record_is = subst (λ p. IsRecordText p steps R) after says;
 }

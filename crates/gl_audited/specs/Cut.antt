@@ -1,6 +1,5 @@
 -- Where the text of an audit is cut in two: before the first line whose first word is `record`.
 use Rattle.std.specs.Prelude.{◌≡◌, ℕ, ◌+◌, ◌≤◌, ◌<◌, ◌⊎◌, List, [], ◌∷◌, Bool, true, false, length, take, drop, slice_get, Some, bytes_eq, codes}
-
 use Rattle.std.specs.List.{list_any}
 use Rattle.std.specs.Str.Lines.{lines}
 use Rattle.gl_text.specs.Text.{words}

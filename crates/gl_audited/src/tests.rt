@@ -3,7 +3,8 @@ use gl_text::{TextError, TextFault};
 use std::alloc::Global;
 use std::test::Fail;
 
-const TEXT: &[u8] = b"func main 0 0\n  halt\nrecord 1 200000\nthread 0\nsync 0 begin 0 0\nsync 1 end 0 0\nover halt\ndone\n";
+const TEXT: &[u8] =
+    b"func main 0 0\n  halt\nrecord 1 200000\nthread 0\nsync 0 begin 0 0\nsync 1 end 0 0\nover halt\ndone\n";
 
 fn fault_of(text: &[u8]) -> Option<(u32, u8)> {
     match read_audit(Global, text) {
@@ -30,7 +31,13 @@ fn the_first_fault_is_told() -> Result<(), Fail> {
     // the program part is empty, and has no main
     assert_eq!(fault_of(b"record 1 5\ndone\n"), Some((0, 48)));
     // a fault of the record in line 4, and one of the program in line 2
-    assert_eq!(fault_of(b"func main 0 0\nhalt\nrecord 1 5\nthread 16\ndone\n"), Some((4, 6)));
-    assert_eq!(fault_of(b"func main 0 0\nstop\nrecord 1 5\nthread 16\ndone\n"), Some((2, 4)));
+    assert_eq!(
+        fault_of(b"func main 0 0\nhalt\nrecord 1 5\nthread 16\ndone\n"),
+        Some((4, 6))
+    );
+    assert_eq!(
+        fault_of(b"func main 0 0\nstop\nrecord 1 5\nthread 16\ndone\n"),
+        Some((2, 4))
+    );
     Ok(())
 }

@@ -6,8 +6,8 @@ ghost use Rattle.gl_model.specs.TraceSteps.{IsStep, AreClean};
 
 use gl_core::Detector;
 use gl_model::{Item, Judged};
-use gl_shortcut::Cuts;
 use gl_reference::SlowJudge;
+use gl_shortcut::Cuts;
 use std::alloc::{AllocError, Global};
 
 /// A line of a trace: its thread, and what it says.
