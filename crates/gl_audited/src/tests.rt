@@ -14,28 +14,28 @@ fn fault_of(text: &[u8]) -> Option<(u32, u8)> {
 }
 
 #[test]
-fn a_program_and_its_record_are_read() -> Result<(), Fail> {
+fn a_program_and_its_record_are_read(rt: HostRuntime) -> Result<(), Fail> {
     let audited = read_audit(Global, TEXT).map_err(|_| Fail)?;
-    assert_eq!(audited.steps, 200_000);
-    assert_eq!(audited.inputs.len(), 0);
+    assert_eq!(rt; audited.steps, 200_000);
+    assert_eq!(rt; audited.inputs.len(), 0);
     let entries = audited.record.thread(0).ok_or(Fail)?;
-    assert_eq!(entries.len(), 3);
+    assert_eq!(rt; entries.len(), 3);
     Ok(())
 }
 
 #[test]
-fn the_first_fault_is_told() -> Result<(), Fail> {
+fn the_first_fault_is_told(rt: HostRuntime) -> Result<(), Fail> {
     // there is no last line
     let cut = TEXT.strip_suffix(b"done\n").ok_or(Fail)?;
-    assert_eq!(fault_of(cut), Some((0, 32)));
+    assert_eq!(rt; fault_of(cut), Some((0, 32)));
     // the program part is empty, and has no main
-    assert_eq!(fault_of(b"record 1 5\ndone\n"), Some((0, 48)));
+    assert_eq!(rt; fault_of(b"record 1 5\ndone\n"), Some((0, 48)));
     // a fault of the record in line 4, and one of the program in line 2
-    assert_eq!(
+    assert_eq!(rt;
         fault_of(b"func main 0 0\nhalt\nrecord 1 5\nthread 16\ndone\n"),
         Some((4, 6))
     );
-    assert_eq!(
+    assert_eq!(rt;
         fault_of(b"func main 0 0\nstop\nrecord 1 5\nthread 16\ndone\n"),
         Some((2, 4))
     );
