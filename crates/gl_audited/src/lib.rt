@@ -9,6 +9,3 @@ mod reader;
 pub use laws::{limits_are_stated, one_meaning};
 pub use limits::AUDIT_BYTES;
 pub use reader::{Audited, read_audit};
-
-#[cfg(test)]
-mod tests;

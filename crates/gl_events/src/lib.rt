@@ -8,8 +8,6 @@ mod event;
 mod events;
 mod look;
 mod settling;
-#[cfg(test)]
-mod tests;
 
 pub use call::Call;
 pub use done::{Done, Stop};

@@ -8,8 +8,6 @@ mod checking;
 mod moving;
 mod storing;
 mod sweeping;
-#[cfg(test)]
-mod tests;
 mod walking;
 mod window;
 

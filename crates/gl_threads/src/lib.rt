@@ -9,8 +9,6 @@ mod layout;
 mod options;
 mod rider;
 mod run;
-#[cfg(test)]
-mod tests;
 mod working;
 
 pub use gate::{Gate, Open};
