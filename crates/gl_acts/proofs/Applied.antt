@@ -1,6 +1,6 @@
 -- What a thread does to the coded state is a step of the machine, and what it is refused is refused there.
 use Rattle.std.proofs.Common.{◌≡◌, ℕ, zero, suc, ◌+◌, ◌-◌, ◌<◌, ◌≤◌, ◌==◌, Bool, true, false, List, ◌∷◌, length, refl, sym, ap, subst, arith, ◌∙◌, inl, inr, Some, None, Option, cond}
-use Rattle.std.specs.Prelude.{ℤ, pos, Contains, MatchBool, nat_eq, slice_get, map, option_map, filter}
+use Rattle.std.specs.Prelude.{ℤ, pos, Contains, MatchBool, nat_eq, slice_get, option_map, filter}
 use Rattle.std.specs.List.{range_with_len}
 use Rattle.std.proofs.lemmas.Bool.Decides.{nat_tests}
 use Rattle.std.proofs.lemmas.List.Elements.{All-contains, filter_passes}

@@ -1,6 +1,6 @@
 -- After the last event of a well-formed record no thread is live, since each list ends with its thread's End.
 use Rattle.std.proofs.Common.{◌≡◌, ◌≢◌, ℕ, zero, suc, ◌+◌, ◌-◌, ◌<◌, ◌≤◌, List, [], ◌∷◌, refl, sym, ap, subst, arith, ◌∙◌, Some, inl, inr}
-use Rattle.std.specs.Prelude.{ℤ, ◌⊎◌, slice_get}
+use Rattle.std.specs.Prelude.{ℤ, ◌⊎◌}
 use Rattle.gl_model.specs.declared.event.Act.{Act}
 use Rattle.gl_model.specs.declared.event.Act.TheVariants.{Begin, End, Acq, Rel, VRead, VWrite, Fork, Join, Alloc, Print, Input, Fail}
 use Rattle.gl_model.specs.declared.event.Event.TheVariants.{Act as Does}

@@ -1,5 +1,5 @@
 -- That the text of an audit has one meaning, where its two parts have.
-use Rattle.std.proofs.Common.{◌≡◌, ℕ, ℤ, ◌+◌, ◌<◌, ◌≤◌, List, length, take, drop, refl, sym, ◌∙◌, ap, subst, inl, inr, arith}
+use Rattle.std.proofs.Common.{◌≡◌, ℕ, ℤ, ◌+◌, ◌<◌, ◌≤◌, List, length, take, drop, sym, ◌∙◌, subst, inl, inr, arith}
 use Rattle.std.specs.Str.Lines.{lines}
 use Rattle.gl_asm.specs.Texts.{IsFirstFault as IsFirstOfProgram, IsText, TellsFirst as TellsFirstOfProgram}
 use Rattle.gl_audited.specs.declared.limits.TheConstants.{AUDIT_BYTES}

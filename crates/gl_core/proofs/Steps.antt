@@ -1,7 +1,6 @@
 -- A line more: what the detector keeps follows it, and what it said of it is right.
 use Rattle.std.proofs.Common.{◌≡◌, ℕ, ◌+◌, ◌<◌, ◌≤◌, List, [], ◌∷◌, ◌++◌, length, refl, sym, ◌∙◌, ap, subst, arith, Some, None, true, false, Bool, not}
-use Rattle.std.specs.Prelude.{◌||◌, ◌&&◌, ◌↔◌, Option, Contains, slice_index_or, if◌then◌else◌}
-use Rattle.std.specs.List.{find}
+use Rattle.std.specs.Prelude.{◌||◌, ◌&&◌, ◌↔◌, Contains, slice_index_or, if◌then◌else◌}
 use Rattle.std.proofs.lemmas.Bool.{ltb-false}
 use native.Mathlib.Decide.{ℕ_discrete}
 use Rattle.gl_model.specs.declared.event.Act.{Act}

@@ -6,7 +6,7 @@ use Rattle.gl_model.specs.declared.event.Stamp.{Stamp}
 use Rattle.gl_model.specs.declared.event.Element.TheVariants.{Thread}
 use Rattle.gl_model.specs.Entries.{Entry}
 use Rattle.gl_model.specs.HappensBefore.{HappensBefore, IsRacy}
-use Rattle.gl_model.specs.Locksets.{Access, IsAccessOf, LocksetAt, AfterAcquiring}
+use Rattle.gl_model.specs.Locksets.{IsAccessOf, LocksetAt, AfterAcquiring}
 use Rattle.gl_model.specs.Machine.{Setting, State, Allows, Running}
 use Rattle.gl_model.specs.Next.{HappensBeforeNext}
 use Rattle.gl_model.specs.Records.{Lists, Place, EntryAt, IsBlockOf, NumberOn, IsPerformed, Conflict}
@@ -15,7 +15,7 @@ use Rattle.gl_laws.proofs.Bridge.{same_entry}
 use Rattle.gl_laws.proofs.ClosureLaws.{commit_law}
 use Rattle.gl_laws.proofs.NextLaw.{plain_next, refused_next}
 use Rattle.gl_laws.proofs.NextMembership.{membership}
-use Rattle.gl_draws.specs.Added.{IsAdded, IsAddedCommit, IsAddedAs, AddedIsRacy}
+use Rattle.gl_draws.specs.Added.{IsAdded, IsAddedCommit, AddedIsRacy}
 use Rattle.gl_draws.specs.Draws.{Entered, Draw, access_of, Among, DrawAt}
 use Rattle.gl_draws.specs.NextRaces.{IsRacyNext}
 use Rattle.gl_draws.specs.Verdicts.{IsPlaced}

@@ -1,6 +1,6 @@
 -- At the end a refused attempt is racy on the variable that it names, and on none below it.
 use Rattle.std.proofs.Common.{◌≡◌, ◌≢◌, ℕ, ◌<◌, ◌≤◌, List, [], length, take, drop, refl, ap, subst, sym, ◌∙◌, inl, inr, arith, Some, None, true}
-use Rattle.std.specs.Prelude.{◌↔◌, ◌⊎◌, ℤ, Contains, Option}
+use Rattle.std.specs.Prelude.{◌↔◌, ◌⊎◌, Contains}
 use Rattle.std.proofs.lemmas.Bool.{cases_lt}
 use Rattle.std.proofs.lemmas.List.{take-append-drop, length-take-le}
 use Rattle.std.proofs.lemmas.Option.{slice_get_within}
@@ -11,7 +11,7 @@ use Rattle.gl_model.specs.declared.tx.Tx.{Tx}
 use Rattle.gl_model.specs.declared.tx.Why.TheVariants.{Raised}
 use Rattle.gl_model.specs.Entries.{Entry, Sync, Commit, Plain, Abort, Trim, Over}
 use Rattle.gl_model.specs.Edges.{EventAt, TransitiveClosure, then_step}
-use Rattle.gl_model.specs.HappensBefore.{HappensBefore, OrdersDirectly, by_steps, from_commit, through_commit, RefusedCommitEdge, IsCommit, IsRefusedCommit, IsRacy}
+use Rattle.gl_model.specs.HappensBefore.{HappensBefore, OrdersDirectly, by_steps, from_commit, through_commit, RefusedCommitEdge, IsCommit, IsRacy}
 use Rattle.gl_model.specs.Locksets.{Access}
 use Rattle.gl_model.specs.Next.{Reaches, own_later, thread_on, HappensBeforeNext}
 use Rattle.gl_model.specs.Records.{Lists, Place, EntryAt, IsEventAt, IsBlockOf, NumberOn, InVariableOrder, IsPlain, Conflict, variables_of, event_of, position_of}

@@ -11,7 +11,6 @@ use Rattle.gl_draws.specs.Draws.{What, Entered, Looked, Open, Draw, DrawAt, Amon
 use Rattle.gl_draws.specs.NextRaces.{IsRacyNext}
 use Rattle.gl_draws.specs.Refusals.{IsRefusedRightly, IsRefusal, RefusalRight, RefusalsHold, AreJudgedOnce}
 use Rattle.gl_draws.specs.Verdicts.{DrawHolds, DrawsHold}
-use Rattle.gl_draws.proofs.DrawPlaces.{draw_among}
 use Rattle.gl_draws.proofs.LastOnes.{each_at}
 use Rattle.gl_draws.proofs.Pushes.{at_cases}
 

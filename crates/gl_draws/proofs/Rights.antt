@@ -7,7 +7,7 @@ use Rattle.gl_model.specs.Edges.{EventAt}
 use Rattle.gl_model.specs.Entries.{Entry, Sync, Commit, Plain, Abort, Trim, Over}
 use Rattle.gl_model.specs.Form.{At, Draws, GivesRight, HasRight}
 use Rattle.gl_model.specs.Records.{position_of}
-use Rattle.gl_draws.specs.Draws.{What, Entered, Looked, Open, Draw, DrawAt, Among, last_write, is_write, writes_var}
+use Rattle.gl_draws.specs.Draws.{What, Entered, Looked, Open, Draw, DrawAt, last_write, is_write, writes_var}
 use Rattle.gl_draws.specs.Events.{AreEvents}
 use Rattle.gl_model.specs.Records.{IsPerformed}
 use Rattle.gl_draws.specs.Repeated.{IsCalm, IsOwnLast}

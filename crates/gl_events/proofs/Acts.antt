@@ -9,7 +9,6 @@ use Rattle.gl_model.specs.Form.{EntryForm, HasNoValue}
 use Rattle.gl_model.specs.Machine.{Setting, State, Running}
 use Rattle.gl_state.proofs.Entering.{enters_step}
 use Rattle.gl_state.proofs.Steps.{IsStep, begins_step, ends_step, leaves_step, reads_step, writes_step, forks_step, joins_step, makes_step, prints_step, takes_input_step, not_owner_step, heap_full_step, threads_full_step, input_end_step, bad_thread_step}
-use Rattle.gl_state.specs.Acts.{word_in, reference_in, stage_of}
 use Rattle.gl_state.specs.Entering.{monitor_of}
 use Rattle.gl_state.specs.ListView.{ListView}
 use Rattle.gl_state.specs.States.{IsStateOf}

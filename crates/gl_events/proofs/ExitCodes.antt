@@ -1,10 +1,9 @@
 -- The code of an exit, by the thread's own list.
-use Rattle.std.proofs.Common.{◌≡◌, ℕ, zero, suc, ◌+◌, ◌<◌, ◌==◌, List, [], ◌∷◌, refl, sym, ap, subst, arith, ◌∙◌, inl, inr, true, false, Bool, Some, None, eq-eqb, ne_eqb, Ok, Err, Result}
-use Rattle.std.specs.Prelude.{◌⊎◌, ◌↔◌, ℤ, pos, Option, IfOk, if◌then◌else◌, slice_index_or}
-use Rattle.gl_model.specs.declared.event.Act.{Act}
+use Rattle.std.proofs.Common.{◌≡◌, ℕ, zero, suc, ◌+◌, ◌<◌, ◌==◌, [], ◌∷◌, refl, sym, ap, subst, arith, ◌∙◌, inl, inr, Bool, Some, None, eq-eqb, ne_eqb, Ok, Err, Result}
+use Rattle.std.specs.Prelude.{◌⊎◌, ◌↔◌, pos, Option, IfOk, if◌then◌else◌, slice_index_or}
 use Rattle.gl_model.specs.declared.event.Act.TheVariants.{Rel, Fail}
 use Rattle.gl_model.specs.declared.limits.TheConstants.{MONITORS}
-use Rattle.gl_model.specs.Machine.{Setting, MonitorState, Free, Owned}
+use Rattle.gl_model.specs.Machine.{Setting, Free, Owned}
 use Rattle.gl_draws.specs.Events.{AreEvents}
 use Rattle.gl_rule.specs.Levels.{levels_of}
 use Rattle.gl_rule.specs.Taken.{StateTold}
@@ -17,10 +16,9 @@ use Rattle.gl_table.specs.PassView.{PassView, view_of, shelf_of}
 use Rattle.gl_table.specs.TableView.{TableView}
 use Rattle.gl_events.specs.Acting.{MayAct, MayFail, IsOutside}
 use Rattle.gl_events.specs.Answers.{IsDone}
-use Rattle.gl_events.specs.Calls.{HasCode, act_of, value_of, not_owner, heap_full, threads_full, input_end, bad_thread}
+use Rattle.gl_events.specs.Calls.{HasCode, act_of, value_of, not_owner}
 use Rattle.gl_events.specs.declared.call.Call.TheVariants as call
 use Rattle.gl_events.specs.declared.done.Done.{Done}
-use Rattle.gl_events.proofs.Beginnings.{ok_map}
 
 first_shelf : (s t : Shelf) → s ∷ [] ≡ t ∷ [] → s ≡ t
 first_shelf s t e = cc

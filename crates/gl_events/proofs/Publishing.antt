@@ -10,7 +10,7 @@ use Rattle.gl_draws.specs.Forming.{MayStore}
 use Rattle.gl_rule.specs.declared.slot.Slot.TheVariants as slot
 use Rattle.gl_rule.specs.Lives.{Running, life_of}
 use Rattle.gl_rule.specs.Taken.{StateTold}
-use Rattle.gl_rule.specs.View.{View, Shelf, new_held, with_tail, Hold, Taken, left}
+use Rattle.gl_rule.specs.View.{View, new_held, with_tail, Hold, Taken}
 use Rattle.gl_state.specs.ListView.{ListView}
 use Rattle.gl_state.specs.States.{IsStateOf, IsQuiet}
 use Rattle.gl_state.specs.declared.state.Stage.{Stage}

@@ -1,5 +1,5 @@
 -- The text of the explanations, with one line more.
-use Rattle.std.proofs.Common.{◌≡◌, ◌∙◌, ℕ, zero, suc, ◌+◌, ◌<◌, ◌≤◌, List, [], ◌∷◌, ◌++◌, length, map, refl, sym, ap, subst, arith, inl, inr, Some, Bool, true, false, append-nil, append_assoc}
+use Rattle.std.proofs.Common.{◌≡◌, ◌∙◌, ℕ, zero, suc, ◌+◌, ◌<◌, ◌≤◌, List, [], ◌∷◌, ◌++◌, map, refl, sym, ap, subst, inl, inr, Some, Bool, true, false, append-nil, append_assoc}
 use Rattle.std.specs.Prelude.{◌⊎◌, slice_get, Result, Ok, Err, OnOk, cond}
 use Rattle.std.specs.List.{count_by, filter, flat_map}
 use Rattle.std.proofs.lemmas.Grind.{flat_map-append}
@@ -12,7 +12,7 @@ use Rattle.gl_explain.specs.declared.told.Explanation.{Explanation}
 use Rattle.gl_explain.specs.declared.told.Kept.{Kept}
 use Rattle.gl_explain.specs.Answers.{races_in}
 use Rattle.gl_explain.specs.Told.{told_of}
-use Rattle.gl_explain.specs.Explained.{IsExplained, AreExplained, races_of}
+use Rattle.gl_explain.specs.Explained.{IsExplained, races_of}
 use Rattle.gl_explain.specs.Written.{IsWritten}
 use Rattle.gl_explain.specs.Texts.{explanation_text}
 

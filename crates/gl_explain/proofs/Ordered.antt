@@ -1,10 +1,10 @@
 -- What a clock says of the lines that were taken, as happens-before.
-use Rattle.std.proofs.Common.{◌≡◌, ◌≢◌, ◌∙◌, ℕ, ◌+◌, ◌<◌, ◌≤◌, List, [], ◌∷◌, ◌++◌, length, map, take, refl, sym, ap, subst, arith, inl, inr, Some, None}
-use Rattle.std.specs.Prelude.{◌⊎◌, ◌↔◌, Option, slice_get}
+use Rattle.std.proofs.Common.{◌≡◌, ◌≢◌, ◌∙◌, ℕ, ◌+◌, ◌<◌, ◌≤◌, List, [], ◌∷◌, ◌++◌, take, sym, ap, subst, arith, inl, inr, Some, None}
+use Rattle.std.specs.Prelude.{◌⊎◌, ◌↔◌, Option}
 use Rattle.std.proofs.lemmas.Bool.{cases_lt}
 use Rattle.std.proofs.lemmas.List.{take-map}
 use Rattle.gl_model.specs.Locksets.{Access, IsAccessOf}
-use Rattle.gl_model.specs.Machine.{State, Running, trace_setting}
+use Rattle.gl_model.specs.Machine.{trace_setting}
 use Rattle.gl_model.specs.Next.{HappensBeforeNext}
 use Rattle.gl_model.specs.Trace.{Line}
 use Rattle.gl_clocks.specs.Clocks.{tick}

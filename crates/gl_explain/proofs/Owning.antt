@@ -1,5 +1,5 @@
 -- The monitors that a thread owns, one after another.
-use Rattle.std.proofs.Common.{◌≡◌, ◌∙◌, ℕ, zero, suc, ◌+◌, ◌<◌, ◌≤◌, ◌==◌, List, [], ◌∷◌, ◌++◌, length, map, refl, sym, ap, subst, arith, inl, inr, Some, None, Bool, true, false, ne_eqb, replicate, Option}
+use Rattle.std.proofs.Common.{◌≡◌, ◌∙◌, ℕ, zero, suc, ◌+◌, ◌<◌, ◌≤◌, ◌==◌, List, [], ◌∷◌, ◌++◌, map, refl, sym, ap, subst, arith, inl, inr, Some, None, true, false, ne_eqb, replicate}
 use Rattle.std.specs.Prelude.{◌⊎◌, ◌↔◌, Contains, slice_get, slice_index_or, if◌then◌else◌}
 use Rattle.std.specs.List.{AllByRecursion, fold}
 use Rattle.std.proofs.lemmas.Bool.{cases_lt}
@@ -11,11 +11,10 @@ use Rattle.gl_model.specs.declared.limits.TheConstants.{MONITORS}
 use Rattle.gl_model.specs.declared.row.Item.{Item}
 use Rattle.gl_model.specs.declared.row.Item.TheVariants.{Act as Acts, Access, Commit}
 use Rattle.gl_model.specs.Rising.{Rises}
-use Rattle.gl_model.specs.TraceSteps.{Step, Hold, IsLineItem, item_leaves, act_leaves, entered, left, holder, is_held_by}
+use Rattle.gl_model.specs.TraceSteps.{Step, Hold, IsLineItem, item_leaves, act_leaves, holder, is_held_by}
 use Rattle.gl_explain.specs.declared.told.Told.{Told}
-use Rattle.gl_explain.specs.declared.told.Kept.{Kept}
 use Rattle.gl_explain.specs.Owned.{AreOwned, AreHolders}
-use Rattle.gl_explain.specs.Told.{step_of, told_of}
+use Rattle.gl_explain.specs.Told.{step_of}
 
 -- these are the monitors below n that thread t owns, by the table
 pub record AreOwnedBelow (holders : List Hold) (t n : ℕ) (monitors : List ℕ) : Type 0 where

@@ -1,8 +1,7 @@
 -- A line that is raised races with one of those before it.
-use Rattle.std.proofs.Common.{◌≡◌, ◌≢◌, ◌∙◌, ℕ, ◌+◌, ◌<◌, ◌≤◌, List, [], ◌∷◌, ◌++◌, length, length-append, map, take, refl, sym, ap, subst, arith, inl, inr, Some, None, Bool, true, false}
-use Rattle.std.specs.Prelude.{◌⊎◌, ◌↔◌, Option, Contains, slice_get}
+use Rattle.std.proofs.Common.{◌≡◌, ◌≢◌, ◌∙◌, ℕ, ◌+◌, ◌<◌, ◌≤◌, List, [], ◌∷◌, ◌++◌, length, length-append, take, refl, sym, ap, subst, arith, inl, inr, None, true}
+use Rattle.std.specs.Prelude.{◌⊎◌, ◌↔◌, Contains}
 use Rattle.std.proofs.lemmas.List.{take_all, take-map}
-use Rattle.gl_model.specs.declared.event.Act.{Act}
 use Rattle.gl_model.specs.declared.row.Item.{Item}
 use Rattle.gl_model.specs.declared.row.Item.TheVariants.{Act as Acts, Access as AccessTo, Commit as CommitsOn}
 use Rattle.gl_model.specs.declared.row.Judged.{Judged}
@@ -12,10 +11,9 @@ use Rattle.gl_model.specs.HappensBefore.{IsRacy}
 use Rattle.gl_model.specs.Locksets.{Access}
 use Rattle.gl_model.specs.Machine.{State, Running}
 use Rattle.gl_model.specs.Next.{HappensBeforeNext}
-use Rattle.gl_model.specs.Records.{Lists, EntryAt, IsPlain, Writes}
+use Rattle.gl_model.specs.Records.{Lists, EntryAt, IsPlain}
 use Rattle.gl_model.specs.Rising.{with_all}
 use Rattle.gl_model.specs.Trace.{Line, AreVerdicts, IsJudgedRightly, last_place, with_entry}
-use Rattle.gl_draws.specs.Draws.{access_of, Draw}
 use Rattle.gl_draws.specs.NextRaces.{IsRacyNext}
 use Rattle.gl_draws.proofs.EntryKinds.{is_in-contains}
 use Rattle.gl_lines.specs.Traced.{Traced, traced, history, draws_of, after_line, after_item, entered, plain_entry, refused_entry, touches}
@@ -29,8 +27,8 @@ use Rattle.gl_lines.proofs.TraceNext.{end_place, last_is, there, racy_plain_on, 
 use Rattle.gl_lines.proofs.TraceSound.{traced_push}
 use Rattle.gl_lines.proofs.VerdictLaw.{item_alike, entry_writes}
 use Rattle.gl_explain.specs.declared.told.Told.{Told}
-use Rattle.gl_explain.specs.Marks.{IsOfLine, AreOfLines}
-use Rattle.gl_explain.specs.Races.{Conflicts, IsCulprit}
+use Rattle.gl_explain.specs.Marks.{AreOfLines}
+use Rattle.gl_explain.specs.Races.{IsCulprit}
 use Rattle.gl_explain.specs.Told.{line_of, lines_of}
 use Rattle.gl_explain.proofs.Behind.{map_at}
 use Rattle.gl_explain.proofs.Taken.{IsSaidOf, thread_runs}

@@ -1,8 +1,8 @@
 -- What is known when a line is taken.
-use Rattle.std.proofs.Common.{◌≡◌, ◌∙◌, ℕ, suc, ◌+◌, ◌-◌, ◌^◌, ◌<◌, ◌≤◌, List, [], ◌∷◌, ◌++◌, length, length-append, map, refl, sym, ap, subst, arith, Some, All, false, Bool}
-use Rattle.std.specs.Prelude.{◌↔◌, slice_get, option_map, string_bytes}
+use Rattle.std.proofs.Common.{◌≡◌, ◌∙◌, ℕ, ◌+◌, ◌-◌, ◌^◌, ◌<◌, ◌≤◌, List, [], ◌∷◌, ◌++◌, length, length-append, map, refl, sym, ap, subst, arith, Some, All, false}
+use Rattle.std.specs.Prelude.{◌↔◌, slice_get, string_bytes}
 use Rattle.std.proofs.lemmas.List.{map-append, length-map}
-use Rattle.std.proofs.lemmas.Option.{slice_get_within, slice_get-map, get_or_from_slice_get}
+use Rattle.std.proofs.lemmas.Option.{slice_get_within, get_or_from_slice_get}
 use Rattle.gl_core.specs.Cells.{at}
 use Rattle.gl_core.specs.EpochLaws.{known_next}
 use Rattle.gl_core.specs.Follows.{Follows, IsReady, IsStepped}

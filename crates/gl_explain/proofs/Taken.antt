@@ -1,33 +1,31 @@
 -- What is kept of the lines so far, and how it goes on at a line.
 use Rattle.std.proofs.Common.{◌≡◌, ◌≢◌, ◌∙◌, ℕ, zero, suc, ◌+◌, ◌<◌, ◌≤◌, List, [], ◌∷◌, ◌++◌, length, length-append, map, take, refl, sym, ap, subst, arith, inl, inr, Some, None, Bool, true, false}
-use Rattle.std.specs.Prelude.{pos, ◌⊎◌, ◌↔◌, Option, Contains, slice_get, unwrap_or}
+use Rattle.std.specs.Prelude.{pos, ◌⊎◌, ◌↔◌, Contains, slice_get}
 use native.Mathlib.Decide.{ℕ_discrete}
 use Rattle.std.proofs.lemmas.Bool.{cases_lt}
 use Rattle.std.proofs.lemmas.List.{map-append, take_all, take-append-le, length-map}
 use Rattle.std.proofs.lemmas.Option.{slice_get_within}
 use Rattle.gl_model.specs.declared.event.Act.{Act}
-use Rattle.gl_model.specs.declared.event.Act.TheVariants.{End}
-use Rattle.gl_model.specs.declared.event.Event.TheVariants.{Act as Does, Commit as Commits}
+use Rattle.gl_model.specs.declared.event.Event.TheVariants.{Commit as Commits}
 use Rattle.gl_model.specs.declared.event.Element.TheVariants.{Thread}
 use Rattle.gl_model.specs.declared.event.Stamp.{Stamp}
 use Rattle.gl_model.specs.declared.row.Item.{Item}
 use Rattle.gl_model.specs.declared.row.Item.TheVariants.{Act as Acts, Access as AccessTo, Commit as CommitsOn}
 use Rattle.gl_model.specs.declared.row.Judged.{Judged}
 use Rattle.gl_model.specs.declared.row.Judged.TheVariants.{NoAccess, Performed, Raised}
-use Rattle.gl_model.specs.Edges.{EventAt}
 use Rattle.gl_model.specs.Entries.{Entry}
 use Rattle.gl_model.specs.Locksets.{Access, IsAccessOf}
 use Rattle.gl_model.specs.Machine.{State, Running, with_at}
 use Rattle.gl_model.specs.Records.{IsPerformed, IsPlain, Writes}
 use Rattle.gl_model.specs.Rising.{with_all}
 use Rattle.gl_model.specs.Trace.{Line, is_in}
-use Rattle.gl_clocks.specs.Clocks.{clocks, tick}
+use Rattle.gl_clocks.specs.Clocks.{clocks}
 use Rattle.gl_clocks.proofs.Own.{own_law}
 use Rattle.gl_draws.specs.Draws.{Entered, Looked, Draw, draw, access_of, Among}
 use Rattle.gl_draws.proofs.EntryKinds.{is_in-contains}
-use Rattle.gl_lines.specs.Traced.{Traced, block_of, traced, history, draws_of, after_line, after_item, plain_entry, commit_entry, refused_entry, touches, with_attempt, with_look, with_own}
+use Rattle.gl_lines.specs.Traced.{Traced, block_of, traced, history, draws_of, after_item, plain_entry, commit_entry, refused_entry, touches, with_look, with_own}
 use Rattle.gl_lines.specs.TraceLaws.{Accesses, WritesTo, commit_of}
-use Rattle.gl_lines.specs.TraceRows.{block_at, access_at}
+use Rattle.gl_lines.specs.TraceRows.{access_at}
 use Rattle.gl_lines.specs.TraceStates.{steps_of, AreSound}
 use Rattle.gl_lines.proofs.LineSets.{its_variables, its_writes, is_in-touches}
 use Rattle.gl_lines.proofs.RowNotes.{act_more}
@@ -36,11 +34,9 @@ use Rattle.gl_lines.proofs.TraceLawProofs.{sound_front, last_runs, get_last}
 use Rattle.gl_lines.proofs.TraceMachine.{runs, with_at-here, with_at-else}
 use Rattle.gl_lines.proofs.TracePlain.{block_here, block_goes_on}
 use Rattle.gl_lines.proofs.TraceSound.{traced_push, sound_traced}
-use Rattle.gl_explain.specs.declared.told.Told.{Told}
 use Rattle.gl_explain.specs.declared.told.Kept.{Kept}
 use Rattle.gl_explain.specs.Marks.{plain_behind, IsMarked, IsPlacedIn, IsOfLine, AreOfLines, AreKept}
 use Rattle.gl_explain.specs.Told.{line_of, lines_of, told_of}
-use Rattle.gl_explain.proofs.Behind.{map_at, map_there}
 
 -- the list of events only grows
 get_grown : {A : Type 0} (xs more : List A) (i : ℕ) (x : A) → slice_get xs i ≡ Some x → slice_get (xs ++ more) i ≡ Some x

@@ -1,5 +1,5 @@
 -- Tests that are facts.
-use Rattle.std.proofs.Common.{◌≡◌, eq-eqb, Some, None, ◌<◌, ℕ, Option, Bool, true, false, refl, sym, inl, inr}
+use Rattle.std.proofs.Common.{◌≡◌, eq-eqb, ◌<◌, ℕ, Bool, true, false, refl, sym, inl, inr}
 use Rattle.std.specs.Prelude.{◌⊎◌, ◌↔◌, IsTrue, ◌||◌, ◌&&◌, ◌==◌, nat_lt, not}
 use Rattle.std.proofs.lemmas.Bool.{eqb-true, ltb-true, lt-ltb}
 

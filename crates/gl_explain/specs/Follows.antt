@@ -1,5 +1,5 @@
 -- What the explainer keeps, against the lines so far.
-use Rattle.std.specs.Prelude.{◌≡◌, ℕ, List, [], ◌∷◌, ◌++◌, string_bytes}
+use Rattle.std.specs.Prelude.{◌≡◌, List, [], ◌∷◌, ◌++◌, string_bytes}
 use Rattle.gl_core.specs.Follows.{Follows, IsReady}
 use Rattle.gl_model.specs.declared.row.Judged.{Judged}
 use Rattle.gl_model.specs.Trace.{AreVerdicts}

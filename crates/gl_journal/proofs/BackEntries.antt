@@ -1,17 +1,16 @@
 -- The lines of entries that are written and read back.
-use Rattle.std.proofs.Common.{◌≡◌, ◌+◌, ◌-◌, ◌*◌, ◌/◌, ◌%◌, ◌<◌, ◌≤◌, ◌^◌, ◌==◌, ◌&&◌, ℕ, List, [], ◌∷◌, ◌++◌, Bool, true, false, Option, Some, None, Result, Ok, Err, nat_lt, nat_le, codes, length, refl, ap, sym, ◌∙◌, arith, cond}
+use Rattle.std.proofs.Common.{◌≡◌, ◌+◌, ◌-◌, ◌*◌, ◌/◌, ◌%◌, ◌<◌, ◌≤◌, ◌^◌, ◌==◌, ◌&&◌, ℕ, [], ◌∷◌, ◌++◌, Bool, true, false, Ok, nat_lt, nat_le, codes, length, refl, ap, ◌∙◌, arith}
 use Rattle.std.specs.Prelude.{if◌then◌else◌}
 use Rattle.std.specs.Fmt.{decimal, signed_decimal}
 use Rattle.std.specs.List.{AllByRecursion, list_all}
-use Rattle.std.proofs.lemmas.Bool.{and_parts, eq-eqb, leb-true, ltb-true}
+use Rattle.std.proofs.lemmas.Bool.{and_parts, leb-true, ltb-true}
 use Rattle.std.proofs.lemmas.Nat.{div-add-mod', mod_below}
 use Rattle.gl_model.specs.declared.event.Act.{Act}
 use Rattle.gl_model.specs.declared.event.Act.TheVariants as acts
-use Rattle.gl_model.specs.declared.record.Ending.{Ending}
 use Rattle.gl_model.specs.declared.record.Ending.TheVariants.{Halt, Uncaught, Spent}
 use Rattle.gl_model.specs.declared.tx.Tx.{Tx}
 use Rattle.gl_model.specs.declared.tx.Why.TheVariants.{Changed, Raised}
-use Rattle.gl_model.specs.declared.limits.TheConstants.{CLASSES, FUNCTIONS, MONITORS, THREADS, VARIABLES, VOLATILES}
+use Rattle.gl_model.specs.declared.limits.TheConstants.{THREADS, VARIABLES}
 use Rattle.gl_model.specs.Elements.{IsActInRange}
 use Rattle.gl_model.specs.Entries.{Entry, Sync, Commit, Plain, Abort, Trim, Over}
 use Rattle.gl_model.specs.Kept.{IsEntryKept, IsTxKept}
@@ -24,7 +23,7 @@ use Rattle.gl_journal.specs.declared.sync_kinds.SyncKind.TheVariants as kinds
 use Rattle.gl_journal.specs.EntryLines.{changed_in, commit_in, entry_in, plain_in, raised_in, sync_in, trim_in, uncaught_in}
 use Rattle.gl_journal.specs.Fields.{Word, choice_in}
 use Rattle.gl_journal.specs.Forms.{count_of, form_of, operands_of}
-use Rattle.gl_journal.specs.Rows.{Row, abort_row, entry_row, over_row, tx_words}
+use Rattle.gl_journal.specs.Rows.{entry_row, tx_words}
 use Rattle.gl_journal.specs.SyncKinds.{act_of, arg_of, kind_in, kind_of, most_of, word_of}
 use Rattle.gl_journal.specs.Written.{IsActTyped, IsEntryStamped, IsEntryTyped, IsTxStamped, IsTxTyped, IsValue}
 use Rattle.gl_journal.proofs.BackLists.{tx_are_words, tx_back}

@@ -1,5 +1,5 @@
 -- The lists of a transaction that are written and read back.
-use Rattle.std.proofs.Common.{◌≡◌, ◌≢◌, ◌+◌, ◌-◌, ◌<◌, ◌≤◌, ◌^◌, ◌==◌, ◌&&◌, ℕ, pos, List, [], ◌∷◌, ◌++◌, Bool, true, false, Result, Ok, Err, nat_lt, nat_le, bytes_eq, codes, length, map, refl, ap, sym, ◌∙◌, arith, append-nil, append_assoc, inl, inr, All}
+use Rattle.std.proofs.Common.{◌≡◌, ◌≢◌, ◌+◌, ◌-◌, ◌<◌, ◌≤◌, ◌^◌, ◌==◌, ◌&&◌, ℕ, pos, List, [], ◌∷◌, ◌++◌, true, false, Ok, nat_lt, bytes_eq, codes, length, map, refl, ap, sym, ◌∙◌, arith, append-nil, inl, inr, All}
 use Rattle.std.specs.Fmt.{decimal, signed_decimal}
 use Rattle.std.specs.List.{AllByRecursion, flat_map, list_all, slice_split}
 use Rattle.std.proofs.lemmas.Bool.{and_from, cases_Bool, le-leb, lt-ltb, ne_eqb}

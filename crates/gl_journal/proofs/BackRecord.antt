@@ -1,29 +1,27 @@
 -- The text of a record is read back: row by row, from the header to the end.
-use Rattle.std.proofs.Common.{◌≡◌, ◌+◌, ◌-◌, ◌<◌, ◌≤◌, ◌^◌, ◌==◌, ℕ, zero, suc, List, [], ◌∷◌, ◌++◌, Bool, true, false, Option, Some, None, Result, Ok, Err, nat_lt, codes, fold, length, map, take, slice_index_or, refl, ap, sym, subst, ◌∙◌, arith, append_assoc, append-nil}
+use Rattle.std.proofs.Common.{◌≡◌, ◌+◌, ◌-◌, ◌<◌, ◌≤◌, ◌^◌, ◌==◌, ℕ, zero, suc, List, [], ◌∷◌, ◌++◌, true, false, Option, Some, None, Result, Ok, Err, nat_lt, codes, fold, length, map, take, slice_index_or, refl, ap, sym, subst, ◌∙◌, arith, append_assoc, append-nil}
 use Rattle.std.specs.Prelude.{if◌then◌else◌}
 use Rattle.std.specs.Fmt.{decimal}
 use Rattle.std.specs.List.{AllByRecursion}
 use Rattle.std.specs.Str.Lines.{lines}
 use Rattle.std.proofs.lemmas.Bool.{eq-eqb, le-ltb, lt-ltb, ne_eqb}
-use Rattle.std.proofs.lemmas.List.{map-append}
 use Rattle.gl_model.specs.Entries.{Entry}
-use Rattle.gl_model.specs.Kept.{IsEntryKept, IsListKept, IsRecord}
+use Rattle.gl_model.specs.Kept.{IsEntryKept, IsListKept}
 use Rattle.gl_model.specs.Lists.{with_last}
 use Rattle.gl_model.specs.Rising.{Rises}
 use Rattle.gl_model.specs.declared.limits.TheConstants.{THREADS}
-use Rattle.gl_text.specs.Text.{is_bad, words}
 use Rattle.gl_text.specs.declared.kinds.TheConstants.{WORD_COUNT}
 use Rattle.gl_journal.specs.declared.forms.Form.TheVariants as forms
 use Rattle.gl_journal.specs.declared.limits.TheConstants.{LEAST_STEPS, MOST_STEPS}
 use Rattle.gl_journal.specs.declared.reader.Standing.{Standing}
 use Rattle.gl_journal.specs.EntryLines.{entry_in}
 use Rattle.gl_journal.specs.Fields.{◌>>=◌, natural_in}
-use Rattle.gl_journal.specs.Forms.{form_of, operands_of}
+use Rattle.gl_journal.specs.Forms.{operands_of}
 use Rattle.gl_journal.specs.Meaning.{AreClean, IsRecordText, body_read, fault_of, header_in, is_next, line_read, nothing, or_same, outcome, placed_read, said, with_entry, words_read}
 use Rattle.gl_journal.specs.Rows.{Row, entry_row, entry_rows, header_row, list_rows, record_rows, record_text, thread_row}
 use Rattle.gl_journal.specs.Written.{AllEntries, CanBeSaid, IsEntryStamped, IsEntryTyped}
 use Rattle.gl_journal.proofs.BackEntries.{count_is, decimal_word, entry_are_words, entry_back, form_for, form_is, keyword, some_words}
-use Rattle.gl_journal.proofs.WrittenLines.{AreWords, IsWord, all_map, lines_of_rows, not_bad, plain_spaced, spaced, words_spaced}
+use Rattle.gl_journal.proofs.WrittenLines.{AreWords, IsWord, lines_of_rows, not_bad, plain_spaced, spaced, words_spaced}
 use Rattle.gl_journal.proofs.WrittenNumbers.{natural_back}
 
 -- ## Rows, one after another

@@ -1,5 +1,5 @@
 -- One more line of a record text.
-use Rattle.std.proofs.Common.{◌≡◌, ◌+◌, ◌-◌, ◌<◌, ◌≤◌, ℕ, List, [], ◌∷◌, ◌++◌, Option, Some, None, Result, Ok, Err, zero, suc, fold, length, take, drop, get_or, ap, sym, subst, ◌∙◌, refl, arith, length-drop, add-zero, inl, inr}
+use Rattle.std.proofs.Common.{◌≡◌, ◌+◌, ◌-◌, ◌<◌, ◌≤◌, ℕ, List, [], ◌∷◌, ◌++◌, None, Result, Ok, Err, zero, suc, fold, length, take, drop, get_or, ap, sym, subst, ◌∙◌, refl, arith, length-drop, add-zero, inl, inr}
 use Rattle.std.proofs.lemmas.Bool.{cases_lt}
 use Rattle.std.proofs.lemmas.List.{get_or-drop, drop-drop, take_more, take_all}
 use Rattle.std.proofs.lemmas.List.Sums.{fold-append}

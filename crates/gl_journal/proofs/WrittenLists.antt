@@ -1,5 +1,5 @@
 -- The text of a record, list by list and part by part.
-use Rattle.std.proofs.Common.{◌≡◌, ◌⊎◌, ℕ, ◌+◌, ◌-◌, ◌<◌, ◌≤◌, ◌==◌, true, false, zero, suc, List, [], ◌∷◌, ◌++◌, Option, Some, None, codes, length, map, take, slice_get, get_or, refl, ap, sym, ◌∙◌, arith, inl, inr, append_assoc, append-nil, eq-eqb, subst}
+use Rattle.std.proofs.Common.{◌≡◌, ◌⊎◌, ℕ, ◌+◌, ◌-◌, ◌<◌, ◌≤◌, ◌==◌, true, false, zero, suc, List, [], ◌∷◌, ◌++◌, Option, Some, None, codes, length, map, take, slice_get, refl, ap, sym, ◌∙◌, arith, inl, inr, append_assoc, append-nil, eq-eqb, subst}
 use Rattle.std.specs.Prelude.{nat_lt}
 use Rattle.std.specs.List.{AllByRecursion, filter, flat_map}
 use Rattle.std.proofs.lemmas.Bool.Decides.{nat_tests}
@@ -14,7 +14,7 @@ use Rattle.gl_model.specs.Rising.{Rises}
 use Rattle.gl_model.specs.declared.limits.TheConstants.{THREADS}
 use Rattle.gl_journal.specs.Fields.{Word}
 use Rattle.gl_journal.specs.Written.{AllEntries, IsEntryTyped}
-use Rattle.gl_journal.specs.Rows.{Row, entry_row, entry_rows, header_row, list_rows, list_word, record_rows, record_text, row_text, thread_row}
+use Rattle.gl_journal.specs.Rows.{Row, entry_row, entry_rows, header_row, list_rows, list_word, record_text, row_text, thread_row}
 
 -- ## Lists of parts
 

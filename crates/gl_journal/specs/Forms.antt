@@ -1,7 +1,6 @@
 -- The forms of lines, by the words that tell each: the first word of a line, and after `abort` and `over` its second.
 use Rattle.std.specs.Prelude.{ℕ, List, [], ◌∷◌, Result, Ok, Err, bytes_eq, codes, if◌then◌else◌}
 use Rattle.gl_text.specs.declared.kinds.TheConstants.{UNKNOWN_WORD, WORD_COUNT}
-use Rattle.gl_journal.specs.declared.forms.EntryForm.{EntryForm}
 use Rattle.gl_journal.specs.declared.forms.EntryForm.TheVariants.{Sync, Commit, Plain, Changed, Raised, Trim, Halt, Spent, Uncaught}
 use Rattle.gl_journal.specs.declared.forms.Form.{Form}
 use Rattle.gl_journal.specs.declared.forms.Form.TheVariants.{Header, Thread, Entry, Done}

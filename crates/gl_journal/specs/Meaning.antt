@@ -4,7 +4,6 @@ use Rattle.std.specs.Str.Lines.{lines}
 use Rattle.gl_model.specs.Entries.{Entry}
 use Rattle.gl_model.specs.Lists.{with_last}
 use Rattle.gl_model.specs.declared.limits.TheConstants.{THREADS}
-use Rattle.gl_text.specs.Number.{number_of}
 use Rattle.gl_text.specs.Text.{is_bad, words}
 use Rattle.gl_text.specs.declared.fault.TextError.{TextError}
 use Rattle.gl_text.specs.declared.fault.TextError.TheVariants.{Fault, Memory}

@@ -1,5 +1,5 @@
 -- The lists of a transaction: their parts, and whether they are sets.
-use Rattle.std.specs.Prelude.{ℕ, pos, ◌-◌, List, [], ◌∷◌, length, Bool, true, ◌==◌, ◌&&◌, nat_lt, nat_le, Option, Some, None, Result, Ok, Err, bytes_eq, codes, if◌then◌else◌}
+use Rattle.std.specs.Prelude.{ℕ, pos, ◌-◌, List, [], ◌∷◌, length, Bool, true, ◌==◌, ◌&&◌, nat_lt, nat_le, Option, Some, None, Result, Ok, bytes_eq, codes, if◌then◌else◌}
 use Rattle.std.specs.Borrow.{Bor}
 use Rattle.std.specs.List.{slice_split, list_all}
 use Rattle.gl_model.specs.declared.limits.TheConstants.{TX_VARIABLES, VARIABLES}

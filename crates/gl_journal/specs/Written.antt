@@ -7,9 +7,6 @@ use Rattle.gl_model.specs.declared.record.Ending.{Ending}
 use Rattle.gl_model.specs.declared.record.Ending.TheVariants.{Halt, Uncaught, Spent}
 use Rattle.gl_model.specs.declared.event.Act.{Act}
 use Rattle.gl_model.specs.declared.event.Act.TheVariants.{Begin, End, Acq, Rel, VRead, VWrite, Fork, Join, Alloc, Print, Input, Fail}
-use Rattle.gl_model.specs.declared.tx.Look.{Look}
-use Rattle.gl_model.specs.declared.tx.Pair.{Pair}
-use Rattle.gl_model.specs.declared.tx.Number.{Number}
 use Rattle.gl_model.specs.declared.tx.Tx.{Tx}
 use Rattle.gl_model.specs.declared.tx.Why.{Why}
 use Rattle.gl_model.specs.declared.tx.Why.TheVariants.{Changed, Raised}

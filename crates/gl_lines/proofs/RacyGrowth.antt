@@ -4,7 +4,7 @@ use Rattle.std.specs.Prelude.{◌⊎◌, ◌↔◌}
 use Rattle.gl_model.specs.declared.tx.Why.TheVariants.{Changed, Raised}
 use Rattle.gl_model.specs.Entries.{Entry, Sync, Commit, Plain, Abort, Trim, Over}
 use Rattle.gl_model.specs.HappensBefore.{HappensBefore, by_steps, from_commit, through_commit, RefusedCommitEdge, IsRacy, IsRaisedRightly, Races}
-use Rattle.gl_model.specs.Records.{Lists, Place, EntryAt, IsEventAt, position_of, InVariableOrder, NumberOn}
+use Rattle.gl_model.specs.Records.{Lists, Place, EntryAt, position_of, InVariableOrder, NumberOn}
 use Rattle.gl_model.specs.Trace.{with_entry}
 use Rattle.gl_laws.proofs.Bridge.{same_entry, same_place}
 use Rattle.gl_laws.proofs.Growth.{Grows, InOld, chain_back, happens_before_kept}

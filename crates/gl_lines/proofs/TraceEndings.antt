@@ -15,7 +15,7 @@ use Rattle.gl_model.specs.Trace.{Line, Tracing, with_entry, with_end, with_over,
 use Rattle.gl_model.specs.TraceSteps.{is_started}
 use Rattle.gl_draws.specs.Events.{AreEvents}
 use Rattle.gl_draws.specs.Ties.{AreDrawn}
-use Rattle.gl_lines.specs.Traced.{Traced, with_event, with_last, traced}
+use Rattle.gl_lines.specs.Traced.{Traced, with_last, traced}
 use Rattle.gl_lines.specs.TraceStates.{steps_of, AreSound, thread_of}
 use Rattle.gl_draws.proofs.DrawTies.{drawn_push}
 use Rattle.gl_draws.proofs.EventTies.{events_push}

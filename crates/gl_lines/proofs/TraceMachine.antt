@@ -12,7 +12,7 @@ use Rattle.gl_model.specs.declared.event.Event.TheVariants.{Act as Does}
 use Rattle.gl_model.specs.declared.row.Item.TheVariants.{Act as Acts}
 use Rattle.gl_model.specs.declared.row.StepFault.{StepFault}
 use Rattle.gl_model.specs.declared.row.StepFault.TheVariants.{BadSet, NotRunning}
-use Rattle.gl_model.specs.Machine.{ThreadState, NeverForked, Forked, Running, Ended, MonitorState, Free, Owned, State, Step, with_at, left_once, trace_setting}
+use Rattle.gl_model.specs.Machine.{Running, MonitorState, Free, Owned, State, Step, with_at, left_once, trace_setting}
 use Rattle.gl_model.specs.TraceSteps.{Step as Said, Hold, act_forks, item_forks, act_joins, item_joins, is_started, is_ended, is_running, entered, left, act_leaves, item_leaves, holder, is_held_by, act_fault}
 use Rattle.gl_lines.specs.TraceStates.{thread_of, monitor_of, IsStateOf}
 

@@ -1,27 +1,21 @@
 -- The entry of a trace's last line is racy in the record behind it exactly where it is so as the next access behind the lines before.
-use Rattle.std.proofs.Common.{◌≡◌, ◌≢◌, ℕ, ◌<◌, List, [], refl, ap, subst, sym, ◌∙◌, inl, inr, arith}
+use Rattle.std.proofs.Common.{◌≡◌, ◌≢◌, ℕ, ◌<◌, List, [], ◌∙◌}
 use Rattle.std.specs.Prelude.{◌↔◌, Option}
-use Rattle.gl_model.specs.declared.event.Stamp.{Stamp}
 use Rattle.gl_model.specs.Entries.{Entry}
 use Rattle.gl_model.specs.HappensBefore.{HappensBefore, IsRacy}
-use Rattle.gl_model.specs.Locksets.{IsAccessOf}
 use Rattle.gl_model.specs.Machine.{State}
 use Rattle.gl_model.specs.Next.{HappensBeforeNext}
-use Rattle.gl_model.specs.Records.{Lists, Place, EntryAt, IsBlockOf, NumberOn, IsPerformed, Conflict}
+use Rattle.gl_model.specs.Records.{Place, EntryAt, NumberOn}
 use Rattle.gl_laws.specs.Closure.{StandsFor}
-use Rattle.gl_laws.proofs.Bridge.{same_entry}
 use Rattle.gl_draws.specs.Added.{IsAdded}
-use Rattle.gl_draws.proofs.Added.{access_is, racy_alike as racy_added}
+use Rattle.gl_draws.proofs.Added.{racy_alike as racy_added}
 use Rattle.gl_draws.specs.Draws.{Entered, Draw, access_of, Among, DrawAt}
 use Rattle.gl_draws.specs.NextRaces.{IsRacyNext}
 use Rattle.gl_draws.specs.Ties.{AreTied}
 use Rattle.gl_lines.specs.Traced.{Traced}
 use Rattle.gl_draws.specs.Verdicts.{IsPlaced}
 use Rattle.gl_draws.proofs.Closing.{is_list, positions_rise}
-use Rattle.gl_draws.proofs.DrawEntries.{own_for, performed_draws, block_of_entry, place_of_draw, stands}
-use Rattle.gl_draws.proofs.DrawPlaces.{block_of_place, draw_among}
 use Rattle.gl_draws.proofs.LastOnes.{each_at}
-use Rattle.gl_draws.proofs.RaceLaw.{commits_there}
 use Rattle.gl_lines.proofs.TraceEvents.{DrawFits, IsRecorded}
 
 -- the record and the draws of what was traced are tied

@@ -16,7 +16,7 @@ use Rattle.gl_model.specs.declared.tx.Why.TheVariants.{Raised as WasRaised}
 use Rattle.gl_model.specs.Entries.{Entry, Sync, Commit, Plain, Abort, Over}
 use Rattle.gl_model.specs.HappensBefore.{IsRacy, IsRaisedRightly, Races}
 use Rattle.gl_model.specs.Records.{Lists, Place, NumberOn}
-use Rattle.gl_model.specs.Trace.{Line, Tracing, with_entry, with_act, with_end, with_line, with_plain, with_commit, with_item, line_tx, look_count, own_count, with_numbers, before_lines, after_lines, last_place, IsJudgedRightly, AreVerdicts, is_empty, with_over, with_ending, with_endings, trace_record}
+use Rattle.gl_model.specs.Trace.{Line, Tracing, with_entry, with_act, with_end, with_line, with_plain, with_commit, with_item, line_tx, own_count, with_numbers, before_lines, after_lines, last_place, IsJudgedRightly, AreVerdicts, is_empty, with_over, with_ending, with_endings}
 use Rattle.gl_laws.proofs.Bridge.{same_entry}
 use Rattle.gl_lines.specs.TraceRecords.{RecordRaces}
 use Rattle.gl_lines.proofs.LineSets.{number_is}

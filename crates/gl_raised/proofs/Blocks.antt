@@ -1,17 +1,14 @@
 -- Each access of a well-formed record has a block, whose event is not the end of its thread.
-use Rattle.std.proofs.Common.{◌≡◌, ◌≢◌, ℕ, zero, suc, ◌+◌, ◌<◌, ◌≤◌, List, [], ◌∷◌, ◌++◌, length, take, refl, ap, sym, ◌∙◌, subst, inl, inr, arith, Some, None}
-use Rattle.std.specs.Prelude.{◌⊎◌, Option, slice_get}
+use Rattle.std.proofs.Common.{◌≡◌, ◌≢◌, ℕ, zero, suc, ◌+◌, ◌<◌, ◌≤◌, List, [], ◌∷◌, ◌++◌, take, refl, ap, ◌∙◌, subst, inl, inr, arith, Some, None}
+use Rattle.std.specs.Prelude.{◌⊎◌, Option}
 use Rattle.std.proofs.lemmas.Option.{slice_get_within, slice_get_cases}
 use Rattle.std.proofs.Math.Nat.{eq-or-lt_of_le}
 use Rattle.gl_model.specs.declared.event.Act.TheVariants.{Begin, End}
-use Rattle.gl_model.specs.declared.event.Event.TheVariants.{Act as Does, Commit as Commits}
-use Rattle.gl_model.specs.declared.event.Stamp.{Stamp}
-use Rattle.gl_model.specs.declared.tx.Why.TheVariants.{Changed, Raised}
+use Rattle.gl_model.specs.declared.event.Event.TheVariants.{Act as Does}
 use Rattle.gl_model.specs.Entries.{Entry, Sync, Commit, Plain, Abort, Trim, Over}
 use Rattle.gl_model.specs.Form.{At, Form, ListForm, IsTrim, IsBegin, IsEnd, IsOver}
 use Rattle.gl_model.specs.Records.{Lists, Place, EntryAt, IsBlockOf, position_of, event_of}
 use Rattle.gl_draws.specs.Ties.{or_else, last_position, BlockAt}
-use Rattle.gl_draws.proofs.DrawPlaces.{block_of_place}
 use Rattle.gl_raised.specs.Accesses.{IsAccess}
 
 no_event : (es : List Entry) (n : ℕ) → last_position (take n es) ≡ None → (j q : ℕ) (f : Entry) → At es j f → j < n → position_of f ≡ Some q → ⊥

@@ -1,5 +1,5 @@
 -- From what was found of each claim to the race law of the record.
-use Rattle.std.proofs.Common.{◌≡◌, ◌≢◌, ℕ, ℤ, zero, suc, ◌+◌, ◌^◌, ◌<◌, ◌≤◌, List, [], ◌∷◌, length, map, get_or, Bool, true, false, refl, ap, sym, ◌∙◌, subst, inl, inr, arith, Some, None}
+use Rattle.std.proofs.Common.{◌≡◌, ◌≢◌, ℕ, ℤ, suc, ◌+◌, ◌^◌, ◌<◌, ◌≤◌, List, [], ◌∷◌, length, map, get_or, Bool, true, false, refl, ap, sym, ◌∙◌, subst, inl, inr, arith, Some, None}
 use Rattle.std.specs.Prelude.{◌⊎◌, ◌↔◌, All, Contains, Option, MatchOption, slice_get, if◌then◌else◌}
 use Rattle.std.proofs.lemmas.Bool.{cases_lt}
 use Rattle.std.proofs.lemmas.Option.{slice_get_within, slice_get-get_or, slice_get_cases, get_or_from_slice_get}
@@ -9,12 +9,11 @@ use Rattle.gl_laws.proofs.Bridge.{same_entry}
 use Rattle.gl_model.specs.declared.event.Stamp.{Stamp}
 use Rattle.gl_model.specs.declared.tx.Why.TheVariants.{Changed, Raised}
 use Rattle.gl_model.specs.declared.limits.TheConstants.{THREADS, VARIABLES}
-use Rattle.gl_model.specs.Edges.{EventAt}
 use Rattle.gl_model.specs.Entries.{Entry, Sync, Commit, Plain, Abort, Trim, Over}
 use Rattle.gl_model.specs.Form.{Form, Numbered, IsMachineRun, value_of}
 use Rattle.gl_model.specs.HappensBefore.{IsRacy, IsRaisedRightly, Races}
-use Rattle.gl_model.specs.Machine.{Setting, State, Step, Run, Allows, start}
-use Rattle.gl_model.specs.Records.{Lists, Place, EntryAt, IsEventAt, IsEventList, NumberOn}
+use Rattle.gl_model.specs.Machine.{Setting, State, Step, Run, Allows}
+use Rattle.gl_model.specs.Records.{Lists, Place, EntryAt, IsEventList, NumberOn}
 use Rattle.gl_places.specs.Places.{Before, IsFirstBy, seen}
 use Rattle.gl_places.specs.declared.place.Place.{Place as StoredPlace}
 use Rattle.std.specs.List.{AllByRecursion}
@@ -27,11 +26,11 @@ use Rattle.gl_raised.proofs.Numbered.{all_at}
 use Rattle.gl_raised.proofs.Parts.{part_means}
 use Rattle.gl_raised.specs.Accesses.{IsAccess, IsWithin, raised_on}
 use Rattle.gl_raised.specs.Earlier.{ClaimsKnow}
-use Rattle.gl_raised.specs.Gathers.{AreGathered, IsClaimOf}
+use Rattle.gl_raised.specs.Gathers.{AreGathered}
 use Rattle.gl_raised.specs.Judged.{AreLeast, IsLeast, IsRacyClaim}
 use Rattle.gl_raised.specs.RaceFaults.{AreSteps, RaceFailsAt}
 use Rattle.gl_raised.specs.Rows.{AreBlockClocks}
-use Rattle.gl_raised.specs.Sorted.{AreFound, AreSorted, IsFirstOther}
+use Rattle.gl_raised.specs.Sorted.{AreSorted, IsFirstOther}
 use Rattle.gl_raised.specs.declared.access.Access.{Access}
 use Rattle.gl_raised.specs.declared.access.Claim.{Claim}
 use Rattle.gl_raised.proofs.Racing.{Judging, racy_told}

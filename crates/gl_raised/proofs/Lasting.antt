@@ -1,6 +1,6 @@
 -- What is kept of a variable, with one access more, and what it tells of the next.
-use Rattle.std.proofs.Common.{rules, ◌≡◌, ◌≢◌, ℕ, zero, suc, ◌+◌, ◌-◌, ◌<◌, ◌≤◌, ◌==◌, List, [], ◌∷◌, length, Bool, true, false, not, refl, ap, sym, ◌∙◌, subst, inl, inr, arith, Some, None, eq-eqb, ne_eqb}
-use Rattle.std.specs.Prelude.{◌⊎◌, ◌↔◌, ◌&&◌, ◌||◌, if◌then◌else◌, max, min, nat_le, slice_get, slice_index_or, slice_set, Option, All}
+use Rattle.std.proofs.Common.{rules, ◌≡◌, ◌≢◌, ℕ, ◌+◌, ◌-◌, ◌<◌, ◌≤◌, ◌==◌, List, [], ◌∷◌, Bool, true, false, not, refl, ap, sym, ◌∙◌, subst, inl, inr, arith, Some, None, eq-eqb}
+use Rattle.std.specs.Prelude.{◌⊎◌, ◌↔◌, ◌&&◌, ◌||◌, if◌then◌else◌, max, min, nat_le, slice_get, slice_set, Option, All}
 use Rattle.std.proofs.lemmas.List.Elements.{All-get_or}
 use Rattle.std.proofs.lemmas.Option.{slice_get_within, get_or_from_slice_get}
 use Rattle.gl_raised.specs.Accesses.{IsWithin}
@@ -10,9 +10,8 @@ use Rattle.gl_core.proofs.Marking.{or_cases, or_left, or_right, and_both, and_tr
 use Rattle.gl_model.specs.declared.limits.TheConstants.{THREADS}
 use Rattle.gl_raised.specs.declared.access.Access.{Access}
 use Rattle.gl_raised.specs.declared.lasts.Lasts.{Lasts}
-use Rattle.gl_raised.specs.Earlier.{Earlier}
 use Rattle.gl_raised.specs.Lasts.{mark_of, at_least, later, noted_where, noted, thread_fails}
-use Rattle.gl_raised.specs.Judged.{IsPerformedSince, AreLasts, Conflicts, IsRacyBy, IsRacyClaim, IsLeast, AreLeast, least_of, AreOfThreads}
+use Rattle.gl_raised.specs.Judged.{IsPerformedSince, AreLasts, IsRacyBy, IsRacyClaim, IsLeast, AreLeast, least_of, AreOfThreads}
 use Rattle.gl_raised.proofs.Cells.{set_cells}
 use Rattle.gl_raised.proofs.Walked.{earlier_cases, earlier_old, earlier_new, not_true, not_false}
 

@@ -1,21 +1,20 @@
 -- What happens before an access of a record, told by what precedes its block.
-use Rattle.std.proofs.Common.{◌≡◌, ◌≢◌, ℕ, ◌+◌, ◌<◌, ◌≤◌, List, length, take, refl, ap, sym, ◌∙◌, subst, inl, inr, arith, Some, None}
-use Rattle.std.specs.Prelude.{◌⊎◌, ◌↔◌, Contains}
-use Rattle.std.proofs.lemmas.Bool.{cases_lt}
+use Rattle.std.proofs.Common.{◌≡◌, ◌≢◌, ℕ, ◌+◌, ◌<◌, ◌≤◌, List, take, ap, sym, ◌∙◌, subst, inl, inr, arith, None}
+use Rattle.std.specs.Prelude.{◌⊎◌, ◌↔◌}
 use Rattle.std.proofs.Math.Nat.{eq-or-lt_of_le}
 use Rattle.gl_model.specs.declared.event.Act.TheVariants.{End}
-use Rattle.gl_model.specs.declared.event.Event.TheVariants.{Act as Does, Commit as Commits}
+use Rattle.gl_model.specs.declared.event.Event.TheVariants.{Act as Does}
 use Rattle.gl_model.specs.declared.event.Stamp.{Stamp}
 use Rattle.gl_model.specs.declared.event.Element.TheVariants.{Thread}
-use Rattle.gl_model.specs.Edges.{EventAt, then_step}
+use Rattle.gl_model.specs.Edges.{EventAt}
 use Rattle.gl_model.specs.Entries.{Entry, Commit}
-use Rattle.gl_model.specs.HappensBefore.{HappensBefore, by_steps, from_commit, through_commit, program_order, IsCommit, IsRefusedCommit, RefusedCommitEdge}
-use Rattle.gl_model.specs.Locksets.{Access, IsAccessOf}
+use Rattle.gl_model.specs.HappensBefore.{HappensBefore, by_steps, from_commit, through_commit, IsCommit, IsRefusedCommit, RefusedCommitEdge}
+use Rattle.gl_model.specs.Locksets.{Access}
 use Rattle.gl_model.specs.Machine.{Setting, State, Allows}
 use Rattle.gl_model.specs.Next.{Reaches, own_later, thread_on}
 use Rattle.gl_model.specs.Records.{Lists, Place, EntryAt, IsEventAt, IsEventList, PositionsRise, IsBlockOf, IsPlain}
 use Rattle.gl_laws.specs.Closure.{StandsFor}
-use Rattle.gl_laws.proofs.Bridge.{same_entry, event_thread, same_place, moved, plain_no_event, reaches_chain}
+use Rattle.gl_laws.proofs.Bridge.{same_entry, event_thread, plain_no_event, reaches_chain}
 use Rattle.gl_laws.proofs.NextLaw.{commit_not_plain, refused_not_event, reached}
 use Rattle.gl_draws.specs.Verdicts.{Precedes}
 use Rattle.gl_draws.proofs.BlockOrder.{by_steps_precedes, precedes, happens_before}

@@ -1,21 +1,20 @@
 -- The accesses, in the order of their numbers, tell the races of a record.
-use Rattle.std.proofs.Common.{◌≡◌, ◌≢◌, ℕ, zero, suc, ◌+◌, ◌-◌, ◌^◌, ◌<◌, ◌≤◌, ◌==◌, List, [], ◌∷◌, length, take, drop, Bool, true, false, refl, ap, sym, ◌∙◌, subst, inl, inr, arith, Some, None, eq-eqb, ne_eqb}
-use Rattle.std.specs.Prelude.{◌⊎◌, ◌↔◌, Contains, Option, if◌then◌else◌, min, slice_get, unwrap_or}
+use Rattle.std.proofs.Common.{◌≡◌, ◌≢◌, ℕ, zero, suc, ◌+◌, ◌-◌, ◌^◌, ◌<◌, ◌≤◌, ◌==◌, List, [], ◌∷◌, length, take, drop, Bool, true, false, refl, ap, sym, ◌∙◌, subst, inl, inr, arith, Some, None, eq-eqb}
+use Rattle.std.specs.Prelude.{◌⊎◌, ◌↔◌, Contains, if◌then◌else◌, slice_get, unwrap_or}
 use Rattle.std.proofs.lemmas.Bool.{cases_lt, eqb-true}
 use Rattle.std.proofs.lemmas.List.{length-take-le, take-append-drop}
 use Rattle.gl_draws.proofs.Reaching.{event_back}
 use Rattle.gl_model.specs.Next.{Reaches}
 use Rattle.std.proofs.Math.Nat.{eq-or-lt_of_le}
 use Rattle.std.proofs.lemmas.Option.{slice_get_within, slice_get-get_or, get_or_from_slice_get}
-use native.Mathlib.Decide.{ℕ_discrete}
-use Rattle.gl_clocks.specs.Clocks.{clocks, tick, tick_of}
+use Rattle.gl_clocks.specs.Clocks.{clocks, tick}
 use Rattle.gl_clocks.proofs.Own.{own_law}
 use Rattle.gl_core.specs.Cells.{cell}
 use Rattle.gl_draws.specs.Ties.{last_position, BlockAt}
 use Rattle.gl_draws.specs.Verdicts.{Precedes}
 use Rattle.gl_draws.proofs.DrawPlaces.{block_of_place}
 use Rattle.gl_laws.specs.Closure.{StandsFor}
-use Rattle.gl_laws.proofs.Bridge.{same_entry, same_place, moved, one_position}
+use Rattle.gl_laws.proofs.Bridge.{same_entry, one_position}
 use Rattle.gl_model.specs.declared.event.Act.TheVariants.{End}
 use Rattle.gl_model.specs.declared.event.Element.TheVariants.{Thread}
 use Rattle.gl_model.specs.declared.event.Event.TheVariants.{Act as Does, Commit as Commits}
@@ -24,16 +23,16 @@ use Rattle.gl_model.specs.declared.tx.Tx.{Tx}
 use Rattle.gl_model.specs.declared.tx.Why.TheVariants.{Changed, Raised}
 use Rattle.gl_model.specs.Edges.{EventAt}
 use Rattle.gl_model.specs.Entries.{Entry, Sync, Commit, Plain, Abort, Trim, Over}
-use Rattle.gl_model.specs.Form.{Form, HasRight, GivesRight, Numbered, NumberDraws, Draws}
-use Rattle.gl_model.specs.HappensBefore.{HappensBefore, IsCommit, IsRefusedCommit, IsRacy, RefusedCommitEdge}
+use Rattle.gl_model.specs.Form.{Form, GivesRight, Numbered, NumberDraws}
+use Rattle.gl_model.specs.HappensBefore.{HappensBefore, IsCommit, IsRefusedCommit, IsRacy}
 use Rattle.gl_model.specs.Locksets.{Access as AnAccess}
 use Rattle.gl_model.specs.Machine.{Setting, State, Allows}
-use Rattle.gl_model.specs.Records.{Lists, Place, EntryAt, InProgramOrder, IsEventAt, IsEventList, IsBlockOf, IsPlain, IsPerformed, NumberOn, Conflict, Writes, PositionsRise, variables_of, position_of}
-use Rattle.gl_places.specs.Places.{seen, Before}
-use Rattle.gl_raised.specs.Accesses.{IsAccess, accesses_of, raised_on, tick_after}
-use Rattle.gl_raised.specs.Earlier.{Earlier, handed_on, IsHandedOn, IsLearned, ClaimsKnow}
-use Rattle.gl_raised.specs.Gathers.{AreGathered, IsClaimOf, block_before}
-use Rattle.gl_raised.specs.Judged.{Conflicts, IsRacyBy, IsRacyClaim}
+use Rattle.gl_model.specs.Records.{Lists, Place, EntryAt, IsEventAt, IsEventList, IsBlockOf, IsPlain, IsPerformed, NumberOn, Writes, PositionsRise, variables_of}
+use Rattle.gl_places.specs.Places.{seen}
+use Rattle.gl_raised.specs.Accesses.{IsAccess, accesses_of}
+use Rattle.gl_raised.specs.Earlier.{handed_on, IsLearned, ClaimsKnow}
+use Rattle.gl_raised.specs.Gathers.{IsClaimOf}
+use Rattle.gl_raised.specs.Judged.{IsRacyClaim}
 use Rattle.gl_raised.specs.Rows.{AreBlockClocks}
 use Rattle.gl_raised.specs.declared.access.Access.{Access}
 use Rattle.gl_raised.specs.declared.access.Claim.{Claim}

@@ -1,10 +1,8 @@
 -- One access more, in the walks over the accesses.
-use Rattle.std.proofs.Common.{◌≡◌, ◌≢◌, ℕ, zero, suc, ◌+◌, ◌-◌, ◌<◌, ◌≤◌, ◌==◌, List, [], ◌∷◌, Bool, true, false, not, refl, ap, sym, ◌∙◌, subst, inl, inr, arith, Some, None, eq-eqb, ne_eqb}
-use Rattle.std.specs.Prelude.{◌⊎◌, ◌↔◌, ◌&&◌, ◌||◌, if◌then◌else◌, max, min, nat_le, slice_get, Option}
+use Rattle.std.proofs.Common.{◌≡◌, ◌≢◌, ℕ, ◌+◌, ◌-◌, ◌<◌, ◌≤◌, ◌==◌, List, [], ◌∷◌, Bool, true, false, not, refl, ap, sym, ◌∙◌, subst, inl, inr, arith, Some, eq-eqb}
+use Rattle.std.specs.Prelude.{◌⊎◌, ◌↔◌, ◌&&◌, ◌||◌, if◌then◌else◌, max, slice_get}
 use Rattle.std.proofs.lemmas.Bool.{cases_lt, eqb-true}
 use Rattle.gl_core.specs.Cells.{at, cell}
-use Rattle.gl_core.proofs.Marking.{or_cases, or_left, or_right, and_both, and_true}
-use Rattle.gl_model.specs.declared.limits.TheConstants.{THREADS}
 use Rattle.gl_raised.specs.declared.access.Access.{Access}
 use Rattle.gl_raised.specs.Earlier.{Earlier, handed_on, IsHandedOn, IsLearned, VariablesKnow, ClaimsKnow}
 

@@ -1,7 +1,6 @@
 -- What the walks over the accesses, in the order of their numbers, know after the first i of them.
-use Rattle.std.specs.Prelude.{◌≡◌, ◌≢◌, ℕ, ◌+◌, ◌-◌, ◌<◌, ◌≤◌, ◌==◌, ◌⊎◌, Bool, true, false, if◌then◌else◌, List, [], slice_get, slice_index_or, Option, Some, None, ◌↔◌}
-use Rattle.gl_core.specs.Cells.{at, cell}
-use Rattle.gl_model.specs.declared.limits.TheConstants.{THREADS, VARIABLES}
+use Rattle.std.specs.Prelude.{◌≡◌, ◌≢◌, ℕ, ◌+◌, ◌-◌, ◌<◌, ◌≤◌, ◌==◌, ◌⊎◌, true, false, if◌then◌else◌, List, [], slice_get, Some, ◌↔◌}
+use Rattle.gl_core.specs.Cells.{cell}
 use Rattle.gl_raised.specs.declared.access.Access.{Access}
 
 -- one of the first i accesses

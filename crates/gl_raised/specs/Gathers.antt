@@ -1,5 +1,5 @@
 -- The claims and the accesses of a record, up to a place.
-use Rattle.std.specs.Prelude.{◌≡◌, ℕ, ◌<◌, ◌+◌, List, slice_get, Some, None, Contains, take, unwrap_or, ◌↔◌}
+use Rattle.std.specs.Prelude.{◌≡◌, ℕ, ◌<◌, ◌+◌, List, slice_get, Some, Contains, take, unwrap_or, ◌↔◌}
 use Rattle.gl_draws.specs.Ties.{last_position}
 use Rattle.gl_model.specs.Entries.{Entry}
 use Rattle.gl_model.specs.Records.{Lists, Place, EntryAt}

@@ -1,5 +1,5 @@
 -- Where the race law fails.
-use Rattle.std.specs.Prelude.{ℕ, List}
+use Rattle.std.specs.Prelude.{List}
 use Rattle.gl_model.specs.declared.event.Stamp.{Stamp}
 use Rattle.gl_model.specs.Entries.{Entry}
 use Rattle.gl_model.specs.Form.{IsMachineRun}

@@ -1,5 +1,5 @@
 -- What a thread may ask where it stands.
-use Rattle.std.proofs.Common.{◌≡◌, ℕ, ◌<◌, ◌^◌, false, [], refl, ◌∙◌, ap, Option, Some, None, is_some}
+use Rattle.std.proofs.Common.{◌≡◌, ◌<◌, ◌^◌, false, [], refl, ◌∙◌, ap, Option, Some, None, is_some}
 use Rattle.atomic_table.specs.Seated.{TableId}
 use Rattle.gl_bytecode.specs.Attending.{Attends, IsAskedInside}
 use Rattle.gl_bytecode.specs.declared.ask.Ask.{Ask}

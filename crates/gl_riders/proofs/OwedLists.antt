@@ -1,12 +1,11 @@
 -- Lists of words that are owed, and the last performed access of a variable.
-use Rattle.std.proofs.Common.{◌≡◌, ◌≢◌, ℕ, ℤ, zero, suc, ◌+◌, ◌<◌, ◌≤◌, ◌==◌, Bool, true, false, not, cond, List, [], ◌∷◌, ◌++◌, length, refl, sym, ◌∙◌, ap, subst, arith, inl, inr, eq-eqb, Option, Some}
+use Rattle.std.proofs.Common.{◌≡◌, ◌≢◌, ℕ, ℤ, zero, suc, ◌+◌, ◌<◌, ◌≤◌, ◌==◌, Bool, true, false, not, cond, List, [], ◌∷◌, ◌++◌, length, refl, sym, ◌∙◌, ap, subst, arith, inl, inr, eq-eqb}
 use Rattle.std.specs.Prelude.{◌⊎◌, Contains, filter}
 use Rattle.std.proofs.lemmas.List.{length-append}
 use Rattle.std.proofs.lemmas.List.Elements.{All-contains, All-contains_itself, All-filter, filter_passes}
 use Rattle.std.proofs.lemmas.Bool.Decides.{nat_tests}
 use Rattle.gl_model.specs.Entries.{Entry, Sync, Commit, Plain, Abort, Trim, Over}
-use Rattle.gl_model.specs.Form.{At}
-use Rattle.gl_draws.specs.Cached.{HasValue, IsLastValue}
+use Rattle.gl_draws.specs.Cached.{HasValue}
 use Rattle.gl_draws.proofs.Pushes.{at_kept, at_new, at_cases, at_within}
 use Rattle.gl_riders.specs.Owing.{IsLast}
 use Rattle.gl_riders.specs.Sweeping.{AreTrims}

@@ -1,5 +1,5 @@
 -- Private words stay what the pass may repeat and what it owes.
-use Rattle.std.proofs.Common.{◌≡◌, ◌≢◌, ℕ, suc, ℤ, ◌<◌, ◌≤◌, ◌==◌, Bool, true, false, List, [], ◌∷◌, ◌++◌, length, refl, sym, ◌∙◌, ap, subst, arith, Option, Some, None, inl, inr, get_or, set, eq-eqb}
+use Rattle.std.proofs.Common.{◌≡◌, ◌≢◌, ℕ, suc, ℤ, ◌<◌, ◌≤◌, ◌==◌, Bool, true, false, List, [], ◌∷◌, ◌++◌, length, refl, sym, ◌∙◌, ap, subst, arith, Option, Some, None, inl, inr, get_or, set}
 use Rattle.std.specs.Prelude.{◌⊎◌, ◌↔◌, if◌then◌else◌, Contains, filter, is_some, unwrap_or}
 use Rattle.std.specs.Option.{option_map}
 use Rattle.std.proofs.lemmas.Bool.Decides.{nat_tests}
@@ -14,14 +14,13 @@ use Rattle.gl_table.specs.Repeating.{MayRepeat}
 use Rattle.gl_rule.specs.Lives.{Running, life_of}
 use Rattle.gl_table.specs.PassView.{Own, PassView}
 use Rattle.gl_table.specs.RightOf.{right_of}
-use Rattle.gl_rows.specs.Accessing.{HasEntry, is_raised, value_told}
-use Rattle.gl_rows.specs.declared.accessing.Seen.{Seen}
+use Rattle.gl_rows.specs.Accessing.{HasEntry, value_told}
 use Rattle.gl_rows.specs.declared.accessing.Seen.TheVariants.{Value, Raised}
 use Rattle.gl_riders.specs.Owing.{HasWord, IsLast, MayWrite, Owns, repeat_number, repeated}
 use Rattle.gl_riders.specs.Sweeping.{IsSwept}
 use Rattle.gl_riders.proofs.Lists.{right_push, right_swept}
 use Rattle.gl_riders.proofs.Sparings.{unnumbered_right}
-use Rattle.gl_riders.proofs.OwedLists.{cons_cases, fewer, filter_has, filter_keeps, filter_says, is_other, its_own, last_kept, last_new, last_other, last_raised, last_trims, not_other, others}
+use Rattle.gl_riders.proofs.OwedLists.{cons_cases, fewer, filter_has, filter_keeps, filter_says, is_other, its_own, last_new, last_other, last_raised, last_trims, not_other, others}
 
 word_same : (ws : Words) (x : ℕ) (w : Option Word) → x < VARIABLES → length ws ≡ VARIABLES → word_at (set ws x w) x ≡ w
 word_same ws x w near long = (let within : x < length ws = rw long near in get_or-set_same ws x w None within)

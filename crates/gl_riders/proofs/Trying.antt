@@ -1,5 +1,5 @@
 -- A try of what the machine asks: what its call needs, and what it answers.
-use Rattle.std.proofs.Common.{◌≡◌, ℕ, ℤ, ◌<◌, Bool, true, false, List, [], ◌∷◌, ◌++◌, refl, sym, ◌∙◌, ap, Option, Some, None, is_some, subst}
+use Rattle.std.proofs.Common.{◌≡◌, ℕ, ℤ, ◌<◌, Bool, true, false, [], ◌∷◌, ◌++◌, refl, sym, ◌∙◌, ap, Option, Some, None, is_some, subst}
 use Rattle.std.specs.Prelude.{◌⊎◌}
 use Rattle.atomic_table.specs.Seated.{TableId}
 use Rattle.gl_model.specs.Entries.{Entry}

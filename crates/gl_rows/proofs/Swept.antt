@@ -2,7 +2,7 @@
 use Rattle.std.proofs.Common.{◌≡◌, ℕ, suc, ◌+◌, ◌-◌, ◌*◌, ◌/◌, ◌<◌, ◌≤◌, max, List, [], ◌∷◌, ◌++◌, Ok, Err, refl, sym, ap, subst, arith, ◌∙◌, inl, inr, true, false, Bool, append_assoc, append-nil, lit<}
 use borrow.Author.Tests.{ltb-true}
 use Rattle.std.specs.Prelude.{◌⊎◌, Contains, Result, IfOk, IfErr, nat_lt, if◌then◌else◌}
-use Rattle.std.proofs.lemmas.List.Elements.{Contains-append_left, Contains-append_right, Contains-push}
+use Rattle.std.proofs.lemmas.List.Elements.{Contains-append_left, Contains-append_right}
 use Rattle.std.proofs.Math.Nat.{le-div_iff_mul-le, le-max_right}
 use native.Mathlib.Decide.{ℕ_discrete}
 use Rattle.gl_events.specs.Settling.{MaySettle, IsSettled, IsOpen}

@@ -1,6 +1,6 @@
 -- What was added without a step is recorded by the next step, whatever it is.
 use Rattle.std.proofs.Common.{◌≡◌, ◌≢◌, ℕ, suc, ◌+◌, ◌-◌, ◌<◌, ◌≤◌, ◌==◌, List, [], ◌∷◌, ◌++◌, length, take, drop, set, sym, refl, ap, subst, arith, ◌∙◌, inl, inr, Some, true, false, Bool}
-use Rattle.std.specs.Prelude.{ℤ, Contains, ◌⊎◌, Option, slice_get, if◌then◌else◌}
+use Rattle.std.specs.Prelude.{ℤ, Contains, ◌⊎◌, slice_get, if◌then◌else◌}
 use Rattle.std.specs.List.{All}
 use Rattle.std.proofs.lemmas.Bool.{eqb-true}
 use Rattle.std.proofs.lemmas.List.{take-append-drop, length-take-le}

@@ -5,7 +5,7 @@ use native.Mathlib.Decide.{ℕ_discrete}
 use Rattle.gl_model.specs.declared.event.Stamp.{Stamp}
 use Rattle.gl_model.specs.declared.limits.TheConstants.{THREADS}
 use Rattle.gl_model.specs.Entries.{Entry, Plain}
-use Rattle.gl_model.specs.Form.{At, Draws}
+use Rattle.gl_model.specs.Form.{At}
 use Rattle.gl_model.specs.Machine.{with_at}
 use Rattle.gl_draws.specs.Draws.{Entered, What, Draw, draw, DrawAt, Among}
 use Rattle.gl_draws.specs.Ties.{Drawn, AreDrawn, IsKept, in_list, in_flight, IsStill, count_by, last_position}

@@ -1,6 +1,6 @@
 -- What a step leaves as it is.
 use Rattle.std.proofs.Common.{◌≡◌, ◌≢◌, ℕ, zero, suc, ◌<◌, ◌≤◌, List, [], ◌∷◌, ◌++◌, length, set, sym, refl, ap, subst, arith, ◌∙◌, inl, inr, None}
-use Rattle.std.specs.Prelude.{Contains, ◌⊎◌, slice_get, Option}
+use Rattle.std.specs.Prelude.{◌⊎◌, Option}
 use Rattle.std.specs.List.{All}
 use Rattle.std.proofs.lemmas.List.Elements.{All-push}
 use native.Mathlib.Decide.{ℕ_discrete}

@@ -22,7 +22,7 @@ use Rattle.gl_rule.specs.View.{View, Held, Shelf, Hold, Stop, SetStop, CellWord,
 use Rattle.gl_rule.specs.World.{World}
 use Rattle.gl_model.specs.Elements.{IsStampInRange}
 use Rattle.gl_rule.specs.Turns.{HeldOne}
-use Rattle.gl_rule.specs.Values.{StandsHeld, HeldStands, RowHeld}
+use Rattle.gl_rule.specs.Values.{StandsHeld, HeldStands}
 use Rattle.gl_rule.specs.Knowledge.{AreBelow, TailFits, TailsFit, ReadFits, WordFits}
 use Rattle.gl_rule.specs.Ring.{FloorFits}
 use Rattle.gl_draws.specs.Verdicts.{DrawsHold}

@@ -14,7 +14,7 @@ use Rattle.gl_model.specs.Entries.{Entry, Plain}
 use Rattle.gl_model.specs.Form.{EntryForm}
 use Rattle.gl_model.specs.Machine.{Setting, with_at}
 use Rattle.gl_model.specs.Records.{position_of}
-use Rattle.gl_draws.specs.Draws.{Entered, Looked, Open, What, Draw, draw, Among}
+use Rattle.gl_draws.specs.Draws.{Entered, What, Draw, draw}
 use Rattle.gl_draws.specs.Ties.{Drawn, IsStill, count_by, last_position}
 use Rattle.gl_draws.specs.RowFacts.{RowStands, IsWithin}
 use Rattle.gl_draws.specs.Verdicts.{DrawHolds, DrawsHold, IsRight, IsPlaced, IsBehind, IsCommitWhat, IsNamed, BlockIs}

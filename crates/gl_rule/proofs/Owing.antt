@@ -5,7 +5,7 @@ use Rattle.std.proofs.lemmas.Bool.{eqb-true}
 use Rattle.gl_model.specs.declared.event.Stamp.{Stamp}
 use Rattle.gl_model.specs.Entries.{Entry, Sync, Commit, Plain, Abort, Trim, Over}
 use Rattle.gl_model.specs.Form.{At, Draws, GivesRight}
-use Rattle.gl_draws.specs.Draws.{What, Entered, Draw, DrawAt, Among, last_write, is_write}
+use Rattle.gl_draws.specs.Draws.{Entered, Draw, DrawAt, last_write, is_write}
 use Rattle.gl_draws.specs.Events.{AreEvents}
 use Rattle.gl_draws.specs.Repeated.{IsCalm}
 use Rattle.gl_draws.specs.Ties.{Drawn, AreDrawn, last_position}

@@ -42,7 +42,7 @@ use Rattle.gl_rule.proofs.Caching.{rest_in, in_rest, number_is}
 use Rattle.gl_rule.proofs.Owing.{owed_others}
 use Rattle.gl_rule.proofs.Raising.{row_in, in_row, row_tail, tail_row}
 use Rattle.gl_rule.proofs.Refusing.{commits_else}
-use Rattle.gl_draws.proofs.Repeats.{IsAfter, draw_back, again, again_here, again_else, again_back, again_count, again_long, again_all, again_among, again_drawn, refusals_repeated}
+use Rattle.gl_draws.proofs.Repeats.{draw_back, again_here, again_else, again_count, again_long, again_all, again_among, again_drawn, refusals_repeated}
 
 module _ (key : Key) (w : World) (st : table.State Slot View) (id : ℕ) (v : View) (s : Shelf) (h : Held) (x : ℕ) (taken : Row) (value : ℤ) (one : v.shelves ≡ s ∷ []) (may : MayPay v h x taken value) (H : Holds key w st) (here : get_elem? st.views id ≡ some v) where
   abbrev b : Board

@@ -42,7 +42,7 @@ use Rattle.gl_rule.specs.Positions.{ShelfFits}
 use Rattle.gl_rule.specs.Values.{IsAbove, Stands, StandsHeld, HeldStands, RowHeld, with_draw}
 use Rattle.gl_rule.specs.Numbers.{NumbersHold, ShelfDraws}
 use Rattle.gl_rule.specs.Knowledge.{AreBelow, TailFits, TailsFit, ReadFits, WordFits}
-use Rattle.gl_rule.specs.Ring.{RingHolds, FloorFits, RingFits, ShelfTrims}
+use Rattle.gl_rule.specs.Ring.{RingHolds, FloorFits, ShelfTrims}
 use Rattle.gl_draws.specs.Refusals.{RefusalsHold}
 use Rattle.gl_rule.specs.Refusals.{DrawsBelow, ShelfRefusals}
 use Rattle.gl_draws.proofs.Refusing.{refusals_push}

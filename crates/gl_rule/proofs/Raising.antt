@@ -1,6 +1,6 @@
 -- The rule when a hold is raised, when the hold of a held row is loaded, and when the first segment is raised.
-use Rattle.std.proofs.Common.{◌≡◌, ◌≢◌, ℕ, zero, suc, ◌+◌, ◌*◌, ◌<◌, ◌≤◌, ◌==◌, List, [], ◌∷◌, ◌++◌, length, max, set, sym, refl, ap, subst, arith, ◌∙◌, inl, inr, Some, None, true, false, Bool, mul-le-mul_right}
-use Rattle.std.specs.Prelude.{slice_index, slice_get, Contains, ◌⊎◌, Option, nat_lt, if◌then◌else◌}
+use Rattle.std.proofs.Common.{◌≡◌, ◌≢◌, ℕ, zero, suc, ◌+◌, ◌*◌, ◌<◌, ◌≤◌, ◌==◌, List, [], ◌∷◌, ◌++◌, length, set, sym, refl, ap, subst, arith, ◌∙◌, inl, inr, Some, None}
+use Rattle.std.specs.Prelude.{Contains, ◌⊎◌, Option, if◌then◌else◌}
 use Rattle.std.specs.List.{All}
 use Rattle.std.proofs.lemmas.List.Elements.{All-cons, All-contains, All-push}
 use native.Mathlib.Decide.{ℕ_discrete}
@@ -25,7 +25,7 @@ use Rattle.gl_rule.specs.Knowledge.{TailFits, TailsFit, ReadFits}
 use Rattle.gl_rule.specs.Ring.{RingHolds, LowHolds, ShelfTrims, FloorFits}
 use Rattle.gl_rule.specs.Refusals.{DrawsBelow}
 use Rattle.gl_rule.proofs.Refusing.{commits_raised, commits_same}
-use Rattle.gl_rule.specs.Fitting.{MayRaise, MayTrim}
+use Rattle.gl_rule.specs.Fitting.{MayRaise}
 use Rattle.gl_rule.specs.Rule.{Fits, Rule}
 use Rattle.gl_rule.specs.Told.{Raised, SawFloor}
 use Rattle.gl_rule.proofs.Each.{each_set}

@@ -2,7 +2,6 @@
 use Rattle.std.proofs.Common.{◌≡◌, ◌≢◌, ℕ, zero, suc, ◌+◌, ◌^◌, ◌<◌, ◌≤◌, List, [], ◌∷◌, ◌++◌, length, map, set, sym, refl, ap, subst, arith, ◌∙◌, inl, inr, Some, None, true, false, Bool}
 use Rattle.std.specs.Prelude.{ℤ, Contains, ◌⊎◌, Option}
 use Rattle.std.specs.List.{All}
-use Rattle.std.proofs.lemmas.List.{take-append-drop, length-take-le}
 use Rattle.std.proofs.lemmas.List.Elements.{All-contains}
 use mathlib.Core.Option.{some}
 use lib.ListN.{get_elem?}
@@ -51,7 +50,7 @@ use Rattle.gl_rule.proofs.Owing.{last_written, owed_moves, owed_others, repeats_
 use Rattle.gl_rule.specs.Machine.{ShelfCarries}
 use Rattle.gl_rule.specs.Rule.{Fits, Holds}
 use Rattle.gl_rule.proofs.Each.{each_set}
-use Rattle.gl_rule.proofs.HeldLists.{all_map, both_map, all_mapped, in_mapped, only_shelf, one_shelf}
+use Rattle.gl_rule.proofs.HeldLists.{both_map, in_mapped, only_shelf, one_shelf}
 use Rattle.gl_rule.proofs.Committing.{held_open, still_none, still_some, cons_tail, the_then, the_else}
 use Rattle.gl_draws.proofs.EndedAttempts.{AreEnded, drawn_ended}
 use Rattle.gl_draws.proofs.Forming.{formed_push, counted_push, store_running}

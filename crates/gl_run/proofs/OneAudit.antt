@@ -1,5 +1,5 @@
 -- The answer of `audit` is settled, and its status is that of no fault exactly where the record is lawful.
-use Rattle.std.proofs.Common.{arith, ◌≡◌, ℕ, ℤ, List, Option, ap, sym, subst, ◌∙◌, inl, inr, refl}
+use Rattle.std.proofs.Common.{arith, ◌≡◌, ℕ, ℤ, List, Option, ap, sym, subst, ◌∙◌, inl, inr}
 use Rattle.std.specs.Prelude.{◌↔◌}
 use Rattle.gl_audit.specs.Findings.{IsFinding, OneFinding}
 use Rattle.gl_audit.specs.declared.finding.Finding.{Finding}
@@ -10,7 +10,7 @@ use Rattle.gl_bytecode.specs.Programs.{Bytecode, draft_of}
 use Rattle.gl_model.specs.Entries.{Entry}
 use Rattle.gl_model.specs.Kept.{IsRecord}
 use Rattle.gl_model.specs.Lists.{lists_of}
-use Rattle.gl_run.specs.Audits.{AcceptsAudit, AuditsText, finding_line, finding_status}
+use Rattle.gl_run.specs.Audits.{AcceptsAudit, finding_line, finding_status}
 use Rattle.gl_run.specs.Laws.{AuditsAreApart, AuditsAreExact, AuditsAreOne}
 use Rattle.gl_run.specs.declared.kept.Kept.{Kept}
 use Rattle.gl_run.specs.declared.status.TheConstants.{ALL_WELL, NOT_LAWFUL}

@@ -1,5 +1,5 @@
 -- No more threads are live than there are.
-use Rattle.std.proofs.Common.{ℕ, ◌≤◌, List, Bool, length}
+use Rattle.std.proofs.Common.{◌≤◌, List, Bool, length}
 use Rattle.std.specs.Prelude.{count_by}
 use Rattle.std.proofs.lemmas.List.Sums.{count_by-le-length}
 use Rattle.gl_state.specs.declared.state.Stage.{Stage}

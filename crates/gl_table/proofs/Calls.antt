@@ -15,7 +15,7 @@ use Rattle.gl_table.specs.CaughtUp.{caught_up}
 use Rattle.gl_table.specs.PassInside.{IsReady}
 use Rattle.gl_state.specs.ListView.{ListView}
 use Rattle.gl_rule.specs.Objects.{Key, objects, capacity, cell_at}
-use Rattle.gl_rule.specs.View.{View, Held, Shelf, shelf, Hold, SetStop}
+use Rattle.gl_rule.specs.View.{View, Held, Shelf, shelf, SetStop}
 use Rattle.gl_rule.specs.Fitting.{MayPublish, MayMark, MayOpen, MayWalk, MayStoreWord, MayRaise, MayTrim}
 use Rattle.gl_table.specs.Putting.{MayPutBack, DoesNotHold}
 use Rattle.gl_rule.specs.Rule.{Rule}

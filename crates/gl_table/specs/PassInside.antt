@@ -1,5 +1,5 @@
 -- A pass's fields, and what is true of them.
-use Rattle.std.specs.Prelude.{◌≡◌, ℕ, Bool, ◌==◌, ◌<◌, ◌≤◌, ◌-◌, vec_capacity, vec_len, List, [], ◌∷◌, ◌++◌, map, Contains}
+use Rattle.std.specs.Prelude.{◌≡◌, ℕ, Bool, ◌==◌, ◌<◌, ◌≤◌, ◌-◌, vec_capacity, List, [], ◌∷◌, ◌++◌, map, Contains}
 use Rattle.std.specs.List.{All, IsDistinct}
 use Rattle.atomic_table.specs.Table as table
 use Rattle.gl_model.specs.declared.limits.TheConstants.{THREADS}

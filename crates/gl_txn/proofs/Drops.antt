@@ -31,7 +31,7 @@ use Rattle.gl_txn.specs.Trying.{Draws}
 use Rattle.gl_txn.specs.declared.changing.Change.{Change}
 use Rattle.gl_txn.specs.declared.taken.TakenRow.{TakenRow}
 use Rattle.gl_txn.proofs.Drawings.{number_more, may_number}
-use Rattle.gl_txn.proofs.EndFacts.{after_numbers, end_tx, may_drop, unused_dropped}
+use Rattle.gl_txn.proofs.EndFacts.{may_drop, unused_dropped}
 use Rattle.gl_txn.proofs.Numberings.{row_found, row_near, drawn_none}
 use Rattle.gl_txn.proofs.Sizes.{of_look}
 use Rattle.gl_txn.proofs.Unions.{found_part, all_right}

@@ -40,7 +40,7 @@ use Rattle.gl_table.proofs.Passes.{published_object}
 use Rattle.gl_txn.specs.Changing.{look_in}
 use Rattle.gl_txn.specs.Drawing.{attempt_in, end_of, numbered, drew_on, MayNumber, with_entry}
 use Rattle.gl_txn.specs.Ending.{HasRoomAt}
-use Rattle.gl_txn.specs.Holding.{vars_of, found, row_at, row_held, AreHeld, undrawn}
+use Rattle.gl_txn.specs.Holding.{vars_of, row_at, AreHeld, undrawn}
 use Rattle.gl_txn.specs.Noting.{AreCommitted, drew_commit_at}
 use Rattle.gl_txn.specs.Publishing.{IsReady, with_room}
 use Rattle.gl_txn.specs.Racing.{asked_of}

@@ -1,9 +1,8 @@
-use Rattle.std.proofs.Common.{◌≡◌, ◌≤◌, ◌+◌, ◌∙◌, ◌<◌, ℕ, List, length, take, get_or, arith, subst, sym, ap, Some}
+use Rattle.std.proofs.Common.{◌≡◌, ◌≤◌, ◌+◌, ◌∙◌, ◌<◌, ℕ, length, get_or, arith, subst, sym, Some}
 use Rattle.std.specs.Prelude.{slice_get, ◌↔◌}
 use Rattle.std.proofs.lemmas.List.{length-take-le, length-map}
 use Rattle.std.proofs.lemmas.Option.{slice_get-get_or}
 use Rattle.gl_core.specs.Cells.{at}
-use Rattle.gl_explain.specs.declared.told.Told.{Told}
 use Rattle.gl_explain.specs.declared.told.Kept.{Kept}
 use Rattle.gl_explain.specs.Explained.{IsLearnt}
 use Rattle.gl_explain.specs.Owned.{AreOwned}

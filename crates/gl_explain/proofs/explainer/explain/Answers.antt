@@ -3,7 +3,7 @@ use Rattle.std.specs.Prelude.{string_bytes}
 use Rattle.gl_trace.specs.Verdicts.{is_race}
 use Rattle.gl_explain.specs.Told.{told_of}
 use Rattle.gl_explain.specs.Written.{IsWritten}
-use Rattle.gl_explain.proofs.OneMore.{more_on_ok, written_more, written_same}
+use Rattle.gl_explain.proofs.OneMore.{more_on_ok, written_more}
 use Rattle.gl_explain.proofs.explainer.explain.Goals as goal
 
 pub returns-in_ok-explanation-in-Raised : goal.returns-in_ok-explanation-in-Raised

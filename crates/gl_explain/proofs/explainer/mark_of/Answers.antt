@@ -1,7 +1,5 @@
 use Rattle.std.proofs.Common.{◌∙◌}
-use Rattle.gl_model.specs.Trace.{Line}
 use Rattle.gl_explain.proofs.Marking.{mark_commit}
-use Rattle.gl_explain.specs.Told.{line_of}
 use Rattle.gl_explain.proofs.explainer.mark_of.Goals as goal
 
 pub returns-in-Commit : goal.returns-in-Commit

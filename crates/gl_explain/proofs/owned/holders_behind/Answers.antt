@@ -1,4 +1,4 @@
-use Rattle.std.proofs.Common.{ℕ, ◌<◌, ◌≤◌, Option, None, IfSome, subst, sym, replicate}
+use Rattle.std.proofs.Common.{ℕ, ◌<◌, ◌≤◌, Option, None, IfSome, subst, sym}
 use Rattle.std.proofs.lemmas.List.{get_or-replicate}
 use Rattle.gl_model.specs.declared.limits.TheConstants.{MONITORS}
 use Rattle.gl_explain.proofs.Counting.{known_at}

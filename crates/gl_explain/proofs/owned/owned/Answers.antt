@@ -1,7 +1,6 @@
-use Rattle.std.proofs.Common.{◌≡◌, ◌≤◌, ◌+◌, ◌++◌, ◌∷◌, [], ℕ, ◌<◌, arith, rules, sym, subst, ◌∙◌, map, Some, true, false}
-use Rattle.std.specs.Prelude.{slice_get}
+use Rattle.std.proofs.Common.{◌≡◌, ◌≤◌, ◌+◌, ◌++◌, ◌∷◌, [], ◌<◌, arith, rules, sym, subst, ◌∙◌, true, false}
 use Rattle.gl_model.specs.declared.limits.TheConstants.{MONITORS}
-use Rattle.gl_explain.specs.Told.{step_of, told_of}
+use Rattle.gl_explain.specs.Told.{told_of}
 use Rattle.gl_explain.proofs.Behind.{steps_near}
 use Rattle.gl_explain.proofs.Owning.{AreOwnedBelow, none_owned, one_owned, not_owned, all_owned}
 use Rattle.gl_explain.proofs.owned.owned.Goals.{then-is_owner+in_ok-push, else-is_owner}

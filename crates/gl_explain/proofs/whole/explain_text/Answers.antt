@@ -1,4 +1,4 @@
-use Rattle.std.proofs.Common.{◌++◌, ◌∷◌, [], sym, subst, inl}
+use Rattle.std.proofs.Common.{◌++◌, ◌∷◌, [], inl}
 use Rattle.gl_trace.specs.Reads.{IsReadTo}
 use Rattle.gl_trace.specs.TraceLine.{TraceLine}
 use Rattle.gl_trace.specs.Trace.{IsTrace}

@@ -3,7 +3,7 @@ use Rattle.gl_model.specs.declared.tx.Look.{Look}
 use Rattle.gl_journal.specs.Written.{IsValue}
 use Rattle.std.proofs.lemmas.Option.{slice_get_within}
 use Rattle.gl_journal.specs.Rows.{look_word}
-use Rattle.gl_journal.proofs.WrittenLists.{all_first, all_last, all_more, all_of, push_first, push_more}
+use Rattle.gl_journal.proofs.WrittenLists.{all_first, all_more, push_first, push_more}
 use Rattle.gl_journal.proofs.writing.push_looks.Goals as goal
 
 pub loop-i-preserved : goal.loop-i-preserved

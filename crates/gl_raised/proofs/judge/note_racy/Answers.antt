@@ -1,6 +1,5 @@
 use Rattle.std.proofs.Common.{◌∙◌, ap, sym, Some}
 use Rattle.std.proofs.lemmas.Option.{slice_get-get_or}
-use Rattle.gl_raised.proofs.Cells.{set_cells}
 use Rattle.gl_raised.proofs.Lasting.{least_more, least_kept, least_cells}
 use Rattle.gl_raised.proofs.judge.note_racy.Goals as goal
 

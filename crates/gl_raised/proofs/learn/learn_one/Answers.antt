@@ -1,4 +1,4 @@
-use Rattle.std.proofs.Common.{not, ap}
+use Rattle.std.proofs.Common.{not}
 use Rattle.gl_core.proofs.Marking.{and_both, and_true}
 use Rattle.gl_raised.proofs.Walked.{learned_more, learned_kept, not_true, not_false}
 use Rattle.gl_raised.proofs.learn.learn_one.Goals as goal

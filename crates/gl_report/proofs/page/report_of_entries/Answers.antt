@@ -1,5 +1,5 @@
-use Rattle.std.proofs.Common.{◌≡◌, ◌∙◌, ◌++◌, ℕ, List, Bor, ap, length, map, subst, rules}
-use Rattle.std.specs.Prelude.{string_bytes, count_by}
+use Rattle.std.proofs.Common.{◌≡◌, ◌∙◌, ◌++◌, ℕ, List, Bor, ap, length, subst, rules}
+use Rattle.std.specs.Prelude.{string_bytes}
 use Rattle.std.specs.List.{flat_map}
 use Rattle.gl_model.specs.Entries.{Entry, seen}
 use Rattle.gl_model.specs.declared.record.Entry.{Entry as StoredEntry}

@@ -1,12 +1,8 @@
-use Rattle.std.proofs.Common.{◌≡◌, ◌<◌, ◌≤◌, length, sym, ◌∙◌, ap, arith, map, rules, FitsSigned, w64}
+use Rattle.std.proofs.Common.{◌≡◌, ◌<◌, ◌≤◌, ◌∙◌, rules, FitsSigned, w64}
 use Rattle.std.proofs.lemmas.Int.{to_z-of_z}
-use Rattle.std.proofs.lemmas.List.{length-map}
-use Rattle.gl_model.specs.Machine.{Setting}
 use Rattle.gl_vm.specs.Asking.{AsksInRange}
-use Rattle.gl_bytecode.specs.declared.ask.Ask.TheVariants.{Alloc, Fork}
-use Rattle.gl_riders.proofs.Few.{few_classes}
+use Rattle.gl_bytecode.specs.declared.ask.Ask.TheVariants.{Fork}
 use Rattle.gl_riders.proofs.Starting.{may_fork}
-use Rattle.gl_riders.proofs.Telling.{input_done}
 use Rattle.gl_riders.proofs.events.event.Goals as goal
 
 pub fork-requires : goal.fork-requires

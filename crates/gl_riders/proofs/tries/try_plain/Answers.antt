@@ -1,4 +1,3 @@
-use Rattle.gl_vm.specs.Asking.{AsksInRange}
 use Rattle.gl_riders.proofs.Trying.{access_near, access_tried, mark, outside_owns, owns_outside}
 use Rattle.gl_riders.proofs.tries.try_plain.Goals as goal
 

@@ -1,4 +1,4 @@
-use Rattle.std.proofs.Common.{◌≡◌, ◌∙◌, sym, rules, FitsSigned, w64, false, subst, ℤ, ℕ}
+use Rattle.std.proofs.Common.{◌≡◌, ◌∙◌, sym, rules, FitsSigned, w64, false, subst, ℤ}
 use Rattle.std.proofs.lemmas.Int.{to_z-of_z}
 use Rattle.gl_cache.specs.Words.{with_word}
 use Rattle.gl_rows.specs.Accessing.{HasEntry, value_told}

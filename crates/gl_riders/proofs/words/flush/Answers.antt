@@ -1,8 +1,7 @@
-use Rattle.std.proofs.Common.{◌≡◌, ◌∙◌, sym, ap, FitsSigned, w64, rules}
+use Rattle.std.proofs.Common.{◌≡◌, ◌∙◌, ap, FitsSigned, w64, rules}
 use Rattle.std.proofs.lemmas.Int.{to_z-of_z}
 use Rattle.gl_rows.specs.WritingBack.{without_owed}
 use Rattle.gl_table.specs.PassView.{Own, PassView}
-use Rattle.gl_riders.specs.Owing.{Owns}
 use Rattle.gl_riders.proofs.Owings.{nothing_owed, paid, rest_on}
 use Rattle.gl_riders.proofs.words.flush.Goals as goal
 

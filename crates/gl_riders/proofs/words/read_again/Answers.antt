@@ -1,4 +1,4 @@
-use Rattle.std.proofs.Common.{◌≡◌, ◌∙◌, sym, rules, FitsSigned, w64, Some, None, ap, ℕ}
+use Rattle.std.proofs.Common.{◌≡◌, ◌∙◌, sym, rules, FitsSigned, w64, Some, None, ap}
 use Rattle.std.specs.Option.{option_map}
 use Rattle.std.proofs.lemmas.Int.{to_z-of_z}
 use Rattle.gl_cache.specs.Words.{Word, word_at}

@@ -1,5 +1,4 @@
 use Rattle.std.proofs.Common.{rules}
-use denote.Param.Send.{IsSync}
 use Rattle.gl_bytecode.proofs.program.Program.TheSendSync.{the_sync as program_sync}
 use Rattle.gl_table.proofs.shared.Shared.TheSendSync.{the_sync as shared_sync}
 use Rattle.gl_threads.proofs.working.run_crews.Goals as goal

@@ -1,15 +1,14 @@
-use Rattle.std.proofs.Common.{◌≡◌, ◌++◌, ◌∷◌, [], ℕ, List, sym, subst, rules, Some}
+use Rattle.std.proofs.Common.{◌≡◌, ◌++◌, ◌∷◌, [], ℕ, sym, subst, rules, Some}
 use Rattle.std.specs.Prelude.{slice_get, string_bytes}
 use Rattle.gl_model.specs.declared.row.Judged.TheVariants.{Raised}
 use Rattle.gl_model.specs.TraceSteps.{IsLineItem}
 use Rattle.gl_explain.specs.declared.told.Told.{Told}
 use Rattle.gl_explain.specs.declared.told.Kept.{Kept}
-use Rattle.gl_explain.specs.Follows.{IsTold}
 use Rattle.gl_explain.specs.Marks.{Tells}
 use Rattle.gl_explain.specs.Races.{IsCulprit}
 use Rattle.gl_explain.specs.Told.{told_of}
 use Rattle.gl_explain.specs.Written.{IsWritten}
-use Rattle.gl_explain.proofs.Steps.{Facts, known_facts, told_on}
+use Rattle.gl_explain.proofs.Steps.{known_facts, told_on}
 use Rattle.gl_explain.proofs.explainer.Explainer.take.Goals as goal
 
 pub explain-requires-clause-lines : goal.explain-requires-clause-lines
