@@ -63,13 +63,6 @@ same_event e f x y same a b = let z : Some x ≡ Some y = sym a ∙ ap event_of 
 pub entry_same : (R : Lists) (c : Place) (p q : ℕ) (s r : Stamp) (a : IsEventAt R c p s) (b : IsEventAt R c q r) → a.entry ≡ b.entry
 entry_same R c p q s r a b = same_entry (R c.thread) c.index a.entry b.entry a.there b.there
 
--- and is one event
-pub stamp_same : (R : Lists) (c : Place) (p q : ℕ) (s r : Stamp) → IsEventAt R c p s → IsEventAt R c q r → s ≡ r
-stamp_same R c p q s r a b =
-    let thread : s.thread ≡ r.thread = a.own ∙ sym b.own in
-    let event : s.event ≡ r.event = same_event a.entry b.entry s.event r.event (entry_same R c p q s r a b) a.event b.event in
-    λ i. record { thread = thread i; event = event i }
-
 -- a run goes on by the event at its last position
 module _ (setting : Setting) (R : Lists) (n : ℕ) (run : StepsUpTo setting R n) (c : Place) (s : Stamp) (e : IsEventAt R c n s)
     (next : State) where

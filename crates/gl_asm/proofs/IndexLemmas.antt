@@ -29,7 +29,8 @@ module _ {X : Type 0} (p : X → Bool) where
       by false rest = omega (arith, rest)
 
   place_push : (xs : List X) (x : X) → position p (xs ++ x ∷ []) ≡ option_or (position p xs) (if p x then Some (length xs) else None)
-  place_push xs x = by (p x) (position_or_len p xs) (position_or_len p (xs ++ x ∷ [])) (length xs) (length (xs ++ x ∷ [])) (place_upto xs) (position_or_len_push p xs x) (length-append xs (x ∷ []))
+  place_push xs x = by (p x) (position_or_len p xs) (position_or_len p (xs ++ x ∷ [])) (length xs) (length (xs ++ x ∷ [])) (place_upto xs)
+      (position_or_len_push p xs x) (length-append xs (x ∷ []))
     where
       by : (b : Bool) (n m k l : ℕ) → n ≤ k → m ≡ cond (n == k) (k + cond b 0 1) n → l ≡ k + 1
           → cond (nat_lt m l) (Some m) None ≡ option_or (cond (nat_lt n k) (Some n) None) (if b then Some k else None)
@@ -39,7 +40,8 @@ module _ {X : Type 0} (p : X → Bool) where
   at_place : (xs : List X) → option_and_then (slice_get xs) (position p xs) ≡ find p xs
   at_place xs = ⊎_elim
       (λ yes. ap (option_and_then (slice_get xs)) (ap (λ b. cond b (Some (position_or_len p xs)) None) yes) ∙ sym (find_at p xs))
-      (λ no. ap (option_and_then (slice_get xs)) (ap (λ b. cond b (Some (position_or_len p xs)) None) no) ∙ sym (find_at p xs ∙ slice_get_past xs (position_or_len p xs) (grind (arith, tests, no))))
+      (λ no. ap (option_and_then (slice_get xs)) (ap (λ b. cond b (Some (position_or_len p xs)) None) no)
+      ∙ sym (find_at p xs ∙ slice_get_past xs (position_or_len p xs) (grind (arith, tests, no))))
       (cases_Bool (nat_lt (position_or_len p xs) (length xs)))
 
 find_alike : {X : Type 0} (p q : X → Bool) → ((x : X) → p x ≡ q x) → (xs : List X) → find p xs ≡ find q xs
@@ -68,10 +70,13 @@ same_scopes (Labels f) Functions = grind (arith, tests)
 same_scopes (Labels f) (Labels g) = grind (arith, tests)
 
 key_parts : (scope : ℕ) (name : List ℕ) (key : Key) → is_key scope name key ≡ (scope == key.0) && bytes_eq name key.1.now
-key_parts scope name key = then_equal (nat_cmp scope key.0) (slice_cmp nat_cmp name key.1.now) ∙ ap₂ (λ a b. a && b) (numbers_equal scope key.0) (is_eq-slice_cmp name key.1.now)
+key_parts scope name key = then_equal (nat_cmp scope key.0) (slice_cmp nat_cmp name key.1.now)
+    ∙ ap₂ (λ a b. a && b) (numbers_equal scope key.0) (is_eq-slice_cmp name key.1.now)
 
-keyed : (scope : Scope) (name : Bor (List ℕ)) (d : Definition) → is_key (scope_key d.scope) d.name (scope_key scope, name) ≡ defines scope name.now d
-keyed scope name d = key_parts (scope_key d.scope) d.name (scope_key scope, name) ∙ ap (λ b. b && bytes_eq d.name name.now) (same_scopes d.scope scope)
+keyed : (scope : Scope) (name : Bor (List ℕ)) (d : Definition) → is_key (scope_key d.scope) d.name (scope_key scope, name)
+    ≡ defines scope name.now d
+keyed scope name d = key_parts (scope_key d.scope) d.name (scope_key scope, name)
+    ∙ ap (λ b. b && bytes_eq d.name name.now) (same_scopes d.scope scope)
 
 -- ## The index
 
@@ -84,11 +89,13 @@ first_at ds index is scope name place e =
     ∙ find_alike _ _ (keyed scope name) ds
 
 -- one definition more, whose key is noted
-pub index_more : (ds : List Definition) (d : Definition) (before after : BTreeMap Key ℕ) (one : Key) → one.0 ≡ scope_key d.scope → one.1.now ≡ d.name
+pub index_more : (ds : List Definition) (d : Definition) (before after : BTreeMap Key ℕ) (one : Key) → one.0 ≡ scope_key d.scope
+    → one.1.now ≡ d.name
     → IsIndex ds before → IsNoted before after one (length ds) → IsIndex (ds ++ d ∷ []) after
 index_more ds d before after one scope name is noted key =
     noted key
-    ∙ ap₂ (λ there b. option_or there (if b then Some (length ds) else None)) (is key) (ap₂ (λ number bytes. is_key number bytes key) scope name)
+    ∙ ap₂ (λ there b. option_or there (if b then Some (length ds) else None)) (is key)
+    (ap₂ (λ number bytes. is_key number bytes key) scope name)
     ∙ sym (place_push (λ x. is_key (scope_key x.scope) x.name key) ds d)
 
 -- ## Noting a key
@@ -96,7 +103,8 @@ index_more ds d before after one scope name is noted key =
 same_place : (index : BTreeMap Key ℕ) (one key : Key) → is_key one.0 one.1.now key ≡ true → place_in index key ≡ place_in index one
 same_place index one key same =
     let parts : (one.0 ≡ key.0) × (bytes_eq one.1.now key.1.now ≡ true) = grind (arith, tests, same, key_parts one.0 one.1.now key) in
-    ap₂ (λ scope name. lookup (is_at (key_cmp scope name)) index.entries) (sym parts.0) (sym ((bytes_decides one.1.now key.1.now).0 parts.1))
+    ap₂ (λ scope name. lookup (is_at (key_cmp scope name)) index.entries) (sym parts.0)
+    (sym ((bytes_decides one.1.now key.1.now).0 parts.1))
 
 kept : (a b : Option ℕ) (taken : Bool) → taken ≡ false → a ≡ option_or a (if taken then b else None)
 kept None b taken free = sym (ap (λ t. if t then b else None) free)
@@ -117,8 +125,10 @@ pub noted_new : (before after : BTreeMap Key ℕ) (one : Key) (place : ℕ) → 
 noted_new before after one place free updates key =
     updates.0 key ∙ ⊎_elim
     (λ same. put (place_in before key) (place_in before one) (is_key one.0 one.1.now key) same (same_place before one key same) free)
-    (λ other. ap (λ taken. cond taken (Some place) (place_in before key)) other ∙ kept (place_in before key) (Some place) (is_key one.0 one.1.now key) other)
+    (λ other. ap (λ taken. cond taken (Some place) (place_in before key)) other
+    ∙ kept (place_in before key) (Some place) (is_key one.0 one.1.now key) other)
     (cases_Bool (is_key one.0 one.1.now key))
   where
-    put : (a b : Option ℕ) (taken : Bool) → taken ≡ true → a ≡ b → is_some b ≡ false → cond taken (Some place) a ≡ option_or a (if taken then Some place else None)
+    put : (a b : Option ℕ) (taken : Bool) → taken ≡ true → a ≡ b → is_some b ≡ false → cond taken (Some place) a
+        ≡ option_or a (if taken then Some place else None)
     put a b taken same e none = grind (arith, same, e, none)

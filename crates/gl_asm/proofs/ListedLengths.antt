@@ -35,28 +35,55 @@ four_words : (first a b c : List ℕ) → length (spaced (first ∷ a ∷ b ∷ 
 four_words first a b c =
     omega (arith, one_longer first a (b ∷ c ∷ []), one_longer a b (c ∷ []), one_longer b c [])
 
-pub class_length : (c : ℕ) (fields : Fields) → c ≤ MOST_INDEX → fields.plain ≤ MOST_INDEX → fields.volatile ≤ MOST_INDEX → length (spaced (class_words c fields)) ≤ 24
+pub class_length : (c : ℕ) (fields : Fields) → c ≤ MOST_INDEX → fields.plain ≤ MOST_INDEX → fields.volatile ≤ MOST_INDEX
+    → length (spaced (class_words c fields)) ≤ 24
 class_length c fields small plain volatile =
-    omega (arith, four_words (codes "class") (class_name c) (decimal fields.plain) (decimal fields.volatile), short_number c small, short_number fields.plain plain, short_number fields.volatile volatile)
+    omega (
+      arith,
+      four_words (codes "class") (class_name c) (decimal fields.plain) (decimal fields.volatile),
+      short_number c small,
+      short_number fields.plain plain,
+      short_number fields.volatile volatile,
+    )
 
-pub header_length : (main f args locals : ℕ) → f ≤ MOST_INDEX → args ≤ MOST_INDEX → locals ≤ MOST_INDEX → length (spaced (header_words main f args locals)) ≤ 23
+pub header_length : (main f args locals : ℕ) → f ≤ MOST_INDEX → args ≤ MOST_INDEX → locals ≤ MOST_INDEX
+    → length (spaced (header_words main f args locals)) ≤ 23
 header_length main f args locals small few short =
-    omega (arith, four_words (codes "func") (function_name main f) (decimal args) (decimal locals), short_function main f small, short_number args few, short_number locals short)
+    omega (
+      arith,
+      four_words (codes "func") (function_name main f) (decimal args) (decimal locals),
+      short_function main f small,
+      short_number args few,
+      short_number locals short,
+    )
 
 pub label_length : (at : ℕ) → at ≤ MOST_INDEX → length (spaced (label_words at)) ≤ 7
 label_length at small = omega (arith, length-append (label_name at) (codes ":"), short_number at small)
 
 pub catch_length : (c : Catch) → c.from ≤ MOST_INDEX → c.to ≤ MOST_INDEX → c.target ≤ MOST_INDEX → length (indented (catch_words c)) ≤ 28
 catch_length c from to target =
-    omega (arith, four_words (codes "catch") (label_name c.from) (label_name c.to) (label_name c.target), short_number c.from from, short_number c.to to, short_number c.target target)
+    omega (
+      arith,
+      four_words (codes "catch") (label_name c.from) (label_name c.to) (label_name c.target),
+      short_number c.from from,
+      short_number c.to to,
+      short_number c.target target,
+    )
 
 operand_length : (main : ℕ) (word : List ℕ) (o : Operand) → length word ≤ 7 → Fits o → length (spaced (word ∷ operand_words main o)) ≤ 34
 operand_length main word Nothing short fits = omega arith
 operand_length main word (Value n) short fits = omega (arith, one_longer word (signed_decimal n) [], short_value n fits)
 operand_length main word (Index k) short fits = omega (arith, one_longer word (decimal k) [], short_number k fits)
 operand_length main word (IndexAndValue k n) short fits =
-    omega (arith, one_longer word (decimal k) (signed_decimal n ∷ []), one_longer (decimal k) (signed_decimal n) [], short_number k fits.0, short_value n fits.1)
-operand_length main word (Code code) short fits = omega (arith, one_longer word (decimal code) [], short_number code (omega (arith, fits.1)))
+    omega (
+      arith,
+      one_longer word (decimal k) (signed_decimal n ∷ []),
+      one_longer (decimal k) (signed_decimal n) [],
+      short_number k fits.0,
+      short_value n fits.1,
+    )
+operand_length main word (Code code) short fits =
+    omega (arith, one_longer word (decimal code) [], short_number code (omega (arith, fits.1)))
 operand_length main word (Label to) short fits = omega (arith, one_longer word (label_name to) [], short_number to fits)
 operand_length main word (Function f) short fits = omega (arith, one_longer word (function_name main f) [], short_function main f fits)
 operand_length main word (Class c) short fits = omega (arith, one_longer word (class_name c) [], short_number c fits)

@@ -79,14 +79,17 @@ at_most : (a b : ℕ) → nat_le a b ≡ true → a ≤ b
 at_most a b is = grind (arith, nat_tests)
 
 -- the place that an instruction goes to is listed
-jump_label : (F : Function) (at : ℕ) (i : Instr) (to : ℕ) → slice_get F.code at ≡ Some i → operand_of i ≡ Label to → nat_lt to (length F.code) ≡ true → IsLabel F to
+jump_label : (F : Function) (at : ℕ) (i : Instr) (to : ℕ) → slice_get F.code at ≡ Some i → operand_of i ≡ Label to
+    → nat_lt to (length F.code) ≡ true → IsLabel F to
 jump_label F at i to there goes within =
     let inside = less to (length F.code) within in
-    let some : list_any (λ j. is_label to (operand_of j)) F.code ≡ true = some_has (λ j. is_label to (operand_of j)) F.code at i there (ap (is_label to) goes ∙ itself to) in
+    let some : list_any (λ j. is_label to (operand_of j)) F.code
+    ≡ true = some_has (λ j. is_label to (operand_of j)) F.code at i there (ap (is_label to) goes ∙ itself to) in
     (omega arith, ap (λ b. b || list_any (catch_names to) F.catches) some)
 
 -- a place that a catch names is listed
-catch_label : (F : Function) (k : ℕ) (h : Catch) (at : ℕ) → slice_get F.catches k ≡ Some h → catch_names at h ≡ true → at ≤ length F.code → IsLabel F at
+catch_label : (F : Function) (k : ℕ) (h : Catch) (at : ℕ) → slice_get F.catches k ≡ Some h → catch_names at h ≡ true → at ≤ length F.code
+    → IsLabel F at
 catch_label F k h at there names within =
     let some : list_any (catch_names at) F.catches ≡ true = some_has (catch_names at) F.catches k h there names in
     let jumps = list_any (λ j. is_label at (operand_of j)) F.code in
@@ -115,14 +118,17 @@ handler_there P F named k h is =
     let order = at_most h.from h.to firsts.1 in
     let within = at_most h.to (length F.code) parts.1 in
     let from_end = h.from == h.from in (
-      catch_label F k h h.from is (first_of_three (h.from == h.from) (h.to == h.from) (h.target == h.from) (itself h.from)) (omega (arith, order, within)),
+      catch_label F k h h.from is (first_of_three (h.from == h.from) (h.to == h.from) (h.target == h.from) (itself h.from))
+          (omega (arith, order, within)),
       catch_label F k h h.to is (second_of_three (h.from == h.to) (h.to == h.to) (h.target == h.to) (itself h.to)) within,
-      catch_label F k h h.target is (third_of_three (h.from == h.target) (h.to == h.target) (h.target == h.target) (itself h.target)) (omega (arith, target)),
+      catch_label F k h h.target is (third_of_three (h.from == h.target) (h.to == h.target) (h.target == h.target) (itself h.target))
+          (omega (arith, target)),
     )
 
 -- ## Operands
 
-there_of : (P : Bytecode) (F : Function) (at : ℕ) (i : Instr) → slice_get F.code at ≡ Some i → instr_fault P F i ≡ None → IsThere P F (operand_of i)
+there_of : (P : Bytecode) (F : Function) (at : ℕ) (i : Instr) → slice_get F.code at ≡ Some i → instr_fault P F i ≡ None
+    → IsThere P F (operand_of i)
 there_of P F at (Jump to) there right = jump_label F at (Jump to) to there refl (holds (nat_lt to (length F.code)) _ right)
 there_of P F at (Jz to) there right = jump_label F at (Jz to) to there refl (holds (nat_lt to (length F.code)) _ right)
 there_of P F at (Jnz to) there right = jump_label F at (Jnz to) to there refl (holds (nat_lt to (length F.code)) _ right)
@@ -154,19 +160,23 @@ holds_at P [] k x all is = cc
 holds_at P (y ∷ xs) zero x all is = let same : y ≡ x = cc in subst P same all.0
 holds_at P (y ∷ xs) (suc k) x all is = holds_at P xs k x all.1 is
 
-fit_of : (P : Bytecode) (o : Option Function) (at : ℕ) (i : Instr) → ((F : Function) → o ≡ Some F → AllByRecursion ThrowsInRange F.code) → AreTyped (code_of o)
+fit_of : (P : Bytecode) (o : Option Function) (at : ℕ) (i : Instr) → ((F : Function) → o ≡ Some F → AllByRecursion ThrowsInRange F.code)
+    → AreTyped (code_of o)
     → option_and_then (λ (F : Function). slice_get F.code at) o ≡ Some i → Fits (operand_of i)
 fit_of P None at i thrown typed is = cc
 fit_of P (Some F) at i thrown typed is = fits_if i (holds_at ThrowsInRange F.code at i (thrown F refl) is) (typed at i is)
 
 -- the operands of a program fit, where they are of their types and the codes that are thrown are in range
-fits_at : (P : Bytecode) → AllThrowInRange P.functions → OperandsAreTyped P → (f at : ℕ) (i : Instr) → instr_at P f at ≡ Some i → Fits (operand_of i)
+fits_at : (P : Bytecode) → AllThrowInRange P.functions → OperandsAreTyped P → (f at : ℕ) (i : Instr) → instr_at P f at ≡ Some i
+    → Fits (operand_of i)
 fits_at P thrown typed f at i is =
-    fit_of P (function_at P f) at i (λ F there. holds_at (λ (G : Function). AllByRecursion ThrowsInRange G.code) P.functions f F thrown there) (typed f) is
+    fit_of P (function_at P f) at i (λ F there. holds_at (λ (G : Function). AllByRecursion ThrowsInRange G.code) P.functions f F thrown
+    there) (typed f) is
 
 -- ## Functions
 
-pub listable : (P : Bytecode) → IsFaultless P → AllThrowInRange P.functions → OperandsAreTyped P → (f : ℕ) (F : Function) → function_at P f ≡ Some F → IsListable P F
+pub listable : (P : Bytecode) → IsFaultless P → AllThrowInRange P.functions → OperandsAreTyped P → (f : ℕ) (F : Function) → function_at P f
+    ≡ Some F → IsListable P F
 listable P ok thrown typed f F is =
     let sound = (faultless_is_sound P ok).1 in
     let locals = sound.locals f F is in

@@ -35,7 +35,8 @@ short_tail n small = omega (arith, length-decimal-le 5 n (omega arith) (omega ar
 
 letter_then : (b n : ℕ) → is_ascii_alphabetic b ≡ true → n ≤ MOST_INDEX → is_name (b ∷ decimal n) ≡ true
 letter_then b n letter small =
-    and_from _ _ (and_from _ _ letter (le-leb (length (decimal n)) NAME_TAIL (short_tail n small))) (digits_in_name (decimal n) (decimal_digits n (omega arith)))
+    and_from _ _ (and_from _ _ letter (le-leb (length (decimal n)) NAME_TAIL (short_tail n small)))
+    (digits_in_name (decimal n) (decimal_digits n (omega arith)))
 
 pub is_label_name : (at : ℕ) → at ≤ MOST_INDEX → is_name (label_name at) ≡ true
 is_label_name at small = letter_then 76 at refl small
@@ -76,8 +77,11 @@ word_function main f small =
     of_function IsWord main f (omega arith) (letter_word 102 f (omega arith, omega arith, λ e. omega arith) small)
 
 pub word_colon : (name : List ℕ) → IsWord name → IsWord (colon name)
-word_colon name is =
-    (omega (arith, is.0, length-append name (codes ":")), all_append IsWordByte name (codes ":") is.1 ((omega arith, omega arith, λ e. omega arith), tt))
+word_colon name is = (
+  omega (arith, is.0, length-append name (codes ":")),
+  all_append IsWordByte name (codes ":") is.1
+      ((omega arith, omega arith, λ e. omega arith), tt),
+)
 
 -- ## Labels' lines
 

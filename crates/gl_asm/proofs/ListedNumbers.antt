@@ -42,13 +42,18 @@ magnitude_back : (n : ℕ) → n < 10 ^ 19 → magnitude_of (decimal n) ≡ Some
 magnitude_back n small =
     let some : 0 < length (decimal n) = (decimal_is_IsNumeral n (omega arith)).0.0 in
     let short : length (decimal n) ≤ 19 = length-decimal-le 19 n (omega arith) small (omega arith) in
-    rw (and_from _ _ (and_from _ _ (lt-ltb 0 (length (decimal n)) some) (le-leb (length (decimal n)) 19 short)) (all_digits (decimal n) (decimal_digits n (omega arith))))
+    rw (and_from _ _ (and_from _ _ (lt-ltb 0 (length (decimal n)) some) (le-leb (length (decimal n)) 19 short))
+    (all_digits (decimal n) (decimal_digits n (omega arith))))
     (ap Some (value_back n (omega arith)))
 
 -- ## Naturals
 
 word_of_digits : (ds : List ℕ) → 0 < length ds → AllByRecursion IsDigit ds → IsWord ds
-word_of_digits ds some all = (some, all_map IsDigit IsWordByte ds (λ b is. (omega (arith, is.0), omega (arith, is.1), λ e. omega (arith, is.0))) all)
+word_of_digits ds some all = (
+  some,
+  all_map IsDigit IsWordByte ds
+      (λ b is. (omega (arith, is.0), omega (arith, is.1), λ e. omega (arith, is.0))) all,
+)
 
 pub word_decimal : (n : ℕ) → n < 10 ^ 19 → IsWord (decimal n)
 word_decimal n small = word_of_digits (decimal n) (decimal_is_IsNumeral n (omega arith)).0.0 (decimal_digits n (omega arith))
@@ -56,11 +61,13 @@ word_decimal n small = word_of_digits (decimal n) (decimal_is_IsNumeral n (omega
 no_sign : (ds : List ℕ) → 0 < length ds → AllByRecursion IsDigit ds → signed_of ds ≡ option_map pos (magnitude_of ds)
 no_sign [] some all = absurd (omega arith)
 no_sign (d ∷ ds) some all =
-    cond-false (eqb d 45) (option_map (λ n. neg_ℤ (pos n)) (magnitude_of ds)) (option_map pos (magnitude_of (d ∷ ds))) (ne_eqb d 45 (λ e. omega (arith, all.0)))
+    cond-false (eqb d 45) (option_map (λ n. neg_ℤ (pos n)) (magnitude_of ds)) (option_map pos (magnitude_of (d ∷ ds)))
+    (ne_eqb d 45 (λ e. omega (arith, all.0)))
 
 signed_decimal_back : (n : ℕ) → n < 10 ^ 19 → signed_of (decimal n) ≡ Some (pos n)
 signed_decimal_back n small =
-    no_sign (decimal n) (decimal_is_IsNumeral n (omega arith)).0.0 (decimal_digits n (omega arith)) ∙ ap (option_map pos) (magnitude_back n small)
+    no_sign (decimal n) (decimal_is_IsNumeral n (omega arith)).0.0 (decimal_digits n (omega arith))
+    ∙ ap (option_map pos) (magnitude_back n small)
 
 not_under : (a b : ℤ) → a ≤ℤ b → int_lt b a ≡ false
 not_under a b le = grind (arith, ints)

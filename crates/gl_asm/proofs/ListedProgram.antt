@@ -29,7 +29,8 @@ number_is None n is = cc
 number_is (Some d) n is = let e : d.number ≡ n = cc in ap Some e
 
 -- what the rows say is the program
-rows_say : (P : Bytecode) → IsFaultless P → AllByRecursion IsShortClass P.classes → AllByRecursion (IsListable P) P.functions → lines_read (rows P) ≡ Ok (draft_of P, [])
+rows_say : (P : Bytecode) → IsFaultless P → AllByRecursion IsShortClass P.classes → AllByRecursion (IsListable P) P.functions
+    → lines_read (rows P) ≡ Ok (draft_of P, [])
 rows_say P ok classes functions =
     let T = definitions (rows P) in
     let named = option_map (λ (d : Definition). d.number) (first_definition T Functions (codes "main")) in
@@ -37,8 +38,10 @@ rows_say P ok classes functions =
     let limits = limits_of P ok.short in
     let begin : Stands (Meant P T) T whole P.main none_yet 0 (rows P) (classes_draft [] named) =
     record { before = []; line = 1; table = refl; going = λ known. refl; free = nothing_free P.main } in
-    let first = walk_classes P.classes 0 (length P.classes) [] P.classes named (functions_rows P.main 0 P.functions) (omega arith) limits.classes refl classes begin in
-    let others = walk_functions P T whole P.classes named P.functions (length P.classes) 0 (length P.functions) 0 0 0 [] P.functions (omega arith) limits.functions refl functions first.0 in
+    let first = walk_classes P.classes 0 (length P.classes) [] P.classes named (functions_rows P.main 0 P.functions) (omega arith)
+    limits.classes refl classes begin in
+    let others = walk_functions P T whole P.classes named P.functions (length P.classes) 0 (length P.functions) 0 0 0 [] P.functions
+    (omega arith) limits.functions refl functions first.0 in
     let known : Meant P T = (λ k below. first.1 k (omega arith) below, λ f below. others.1 f (omega arith) below) in
     let main : named ≡ Some P.main =
     number_is (first_definition T Functions (codes "main")) P.main
@@ -59,7 +62,8 @@ listing_is_text P ok thrown typed =
     let are = rows_fit P (limits_of P ok.short) classes functions in
     let same : lines (listing P) ≡ rows P = ap lines (sym (listing_is P)) ∙ lines_of_ended (rows P) are.0 in
     record {
-      read = read_short (listing P) (subst (λ l. length l ≤ LONGEST) (listing_is P) are.1) ∙ ap lines_read same ∙ rows_say P ok classes functions;
+      read = read_short (listing P) (subst (λ l. length l ≤ LONGEST) (listing_is P) are.1) ∙ ap lines_read same
+          ∙ rows_say P ok classes functions;
       faultless = ok;
     }
 

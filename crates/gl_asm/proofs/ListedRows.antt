@@ -62,19 +62,22 @@ rows P = class_rows 0 P.classes (functions_rows P.main 0 P.functions)
 
 -- ## The listing is its rows, each with its line feed
 
-classes_text : (c : ℕ) (Cs : List Fields) (rest : List (List ℕ)) → flat_map ended (class_rows c Cs rest) ≡ each_from class_line c Cs ++ flat_map ended rest
+classes_text : (c : ℕ) (Cs : List Fields) (rest : List (List ℕ)) → flat_map ended (class_rows c Cs rest) ≡ each_from class_line c Cs
+    ++ flat_map ended rest
 classes_text c [] rest = refl
 classes_text c (fields ∷ more) rest =
     ap (λ l. ended (class_row c fields) ++ l) (classes_text (c + 1) more rest)
     ∙ ap (λ l. l ++ (each_from class_line (c + 1) more ++ flat_map ended rest)) (sym (class_line_is c fields))
     ∙ sym (append_assoc (class_line c fields) (each_from class_line (c + 1) more) (flat_map ended rest))
 
-label_text : (named : Bool) (at : ℕ) (rest : List (List ℕ)) → flat_map ended (label_rows named at rest) ≡ label_line named at ++ flat_map ended rest
+label_text : (named : Bool) (at : ℕ) (rest : List (List ℕ)) → flat_map ended (label_rows named at rest) ≡ label_line named at
+    ++ flat_map ended rest
 label_text true at rest = ap (λ l. l ++ flat_map ended rest) (sym (label_line_is at))
 label_text false at rest = refl
 
 code_text : (main : ℕ) (code : List Instr) (catches : List Catch) (at : ℕ) (is : List Instr) (rest : List (List ℕ))
-    → flat_map ended (code_rows main (is_named code catches) at is rest) ≡ each_from (code_line main code catches) at is ++ flat_map ended rest
+    → flat_map ended (code_rows main (is_named code catches) at is rest) ≡ each_from (code_line main code catches) at is
+    ++ flat_map ended rest
 code_text main code catches at [] rest = refl
 code_text main code catches at (i ∷ more) rest =
     let named = is_named code catches in
@@ -85,7 +88,8 @@ code_text main code catches at (i ∷ more) rest =
     ∙ sym (append_assoc (label_line (named at) at) (instr_line main i) (others ++ flat_map ended rest))
     ∙ sym (append_assoc (code_line main code catches at i) others (flat_map ended rest))
 
-catches_text : (cs : List Catch) (rest : List (List ℕ)) → flat_map ended (catch_rows cs rest) ≡ flat_map catch_line cs ++ flat_map ended rest
+catches_text : (cs : List Catch) (rest : List (List ℕ)) → flat_map ended (catch_rows cs rest) ≡ flat_map catch_line cs
+    ++ flat_map ended rest
 catches_text [] rest = refl
 catches_text (c ∷ more) rest =
     ap (λ l. ended (catch_row c) ++ l) (catches_text more rest)
@@ -93,7 +97,8 @@ catches_text (c ∷ more) rest =
     ∙ sym (append_assoc (catch_line c) (flat_map catch_line more) (flat_map ended rest))
 
 body_text : (main : ℕ) (code : List Instr) (catches : List Catch) (rest : List (List ℕ))
-    → flat_map ended (code_rows main (is_named code catches) 0 code (label_rows (is_named code catches (length code)) (length code) (catch_rows catches rest)))
+    → flat_map ended (code_rows main (is_named code catches) 0 code
+    (label_rows (is_named code catches (length code)) (length code) (catch_rows catches rest)))
     ≡ body main code catches ++ flat_map ended rest
 body_text main code catches rest =
     let instrs = each_from (code_line main code catches) 0 code in
@@ -106,7 +111,8 @@ body_text main code catches rest =
     ∙ ap (λ l. instrs ++ l) (sym (append_assoc label handlers end))
     ∙ sym (append_assoc instrs (label ++ handlers) end)
 
-function_is : (main f : ℕ) (F : Function) (rest : List (List ℕ)) → flat_map ended (function_rows main f F rest) ≡ function_text main f F ++ flat_map ended rest
+function_is : (main f : ℕ) (F : Function) (rest : List (List ℕ)) → flat_map ended (function_rows main f F rest) ≡ function_text main f F
+    ++ flat_map ended rest
 function_is main f F rest =
     let first = header main f F.args F.locals in
     let inner = body main F.code F.catches in

@@ -52,7 +52,8 @@ index_back k small = count_decimal 0 MOST_INDEX k (omega arith) small (omega ari
 index_operand : (t : Instr) (k : ℕ) → k ≤ MOST_INDEX → with_index t (decimal k ∷ []) ≡ Ok (filled t k (pos 0))
 index_operand t k small = ap (λ r. r >>= (λ j. Ok (filled t j (pos 0)))) (index_back k small)
 
-both_operands : (t : Instr) (k : ℕ) (n : ℤ) → k ≤ MOST_INDEX → IsValue n → with_both t (decimal k ∷ signed_decimal n ∷ []) ≡ Ok (filled t k n)
+both_operands : (t : Instr) (k : ℕ) (n : ℤ) → k ≤ MOST_INDEX → IsValue n → with_both t (decimal k ∷ signed_decimal n ∷ [])
+    ≡ Ok (filled t k n)
 both_operands t k n small is =
     ap (λ r. r >>= (λ j. value_of (signed_decimal n) >>= (λ z. Ok (filled t j z)))) (index_back k small)
     ∙ ap (λ r. r >>= (λ z. Ok (filled t k z))) (value_decimal n is)
@@ -137,39 +138,50 @@ pub said_instr : (table : List Definition) (c : Counts) (line have main : ℕ) (
     → said table c line have (indented (instr_words main i)) ≡ Ok (AddsInstruction i)
 said_instr table c line have main i first inside fits known =
     let are = instr_are_words main i fits in
-    says table c line have (indented (instr_words main i)) (instr_words main i) (Some (forms.Instruction (template_for i))) (AddsInstruction i)
+    says table c line have (indented (instr_words main i)) (instr_words main i) (Some (forms.Instruction (template_for i)))
+    (AddsInstruction i)
     (plain_indented (instr_words main i) are) (words_indented (instr_words main i) are) (instr_form main i)
     (before_inputs c (not (c.functions == 0)) first (not_from_false (c.functions == 0) inside)) (says_instr table c main i fits known)
 
-says_class : (table : List Definition) (c : Counts) (line k : ℕ) (fields : Fields) → new_name table Classes line (nat_lt c.classes CLASSES) (class_name k) ≡ Ok tt
+says_class : (table : List Definition) (c : Counts) (line k : ℕ) (fields : Fields)
+    → new_name table Classes line (nat_lt c.classes CLASSES) (class_name k) ≡ Ok tt
     → fields.plain ≤ VARIABLES → fields.volatile ≤ VOLATILES
-    → class_of table c line (class_name k ∷ decimal fields.plain ∷ decimal fields.volatile ∷ []) ≡ Ok (AddsClass fields.plain fields.volatile)
+    → class_of table c line (class_name k ∷ decimal fields.plain ∷ decimal fields.volatile ∷ [])
+    ≡ Ok (AddsClass fields.plain fields.volatile)
 unfolding class_of
 says_class table c line k fields named plain volatile =
-    ap (λ r. r >>= (λ u. count_of 0 VARIABLES (decimal fields.plain) >>= (λ p. count_of 0 VOLATILES (decimal fields.volatile) >>= (λ v. Ok (AddsClass p v))))) named
-    ∙ ap (λ r. r >>= (λ p. count_of 0 VOLATILES (decimal fields.volatile) >>= (λ v. Ok (AddsClass p v)))) (count_decimal 0 VARIABLES fields.plain (omega arith) plain (omega arith))
+    ap (λ r. r >>= (λ u. count_of 0 VARIABLES (decimal fields.plain) >>=
+    (λ p. count_of 0 VOLATILES (decimal fields.volatile) >>= (λ v. Ok (AddsClass p v))))) named
+    ∙ ap (λ r. r >>= (λ p. count_of 0 VOLATILES (decimal fields.volatile) >>= (λ v. Ok (AddsClass p v))))
+    (count_decimal 0 VARIABLES fields.plain (omega arith) plain (omega arith))
     ∙ ap (λ r. r >>= (λ v. Ok (AddsClass fields.plain v))) (count_decimal 0 VOLATILES fields.volatile (omega arith) volatile (omega arith))
 
 pub said_class : (table : List Definition) (c : Counts) (line have k : ℕ) (fields : Fields) → c.given ≡ false → (c.functions == 0) ≡ true
-    → new_name table Classes line (nat_lt c.classes CLASSES) (class_name k) ≡ Ok tt → k ≤ MOST_INDEX → fields.plain ≤ VARIABLES → fields.volatile ≤ VOLATILES
+    → new_name table Classes line (nat_lt c.classes CLASSES) (class_name k) ≡ Ok tt → k ≤ MOST_INDEX → fields.plain ≤ VARIABLES
+    → fields.volatile ≤ VOLATILES
     → said table c line have (spaced (class_words k fields)) ≡ Ok (AddsClass fields.plain fields.volatile)
 said_class table c line have k fields first before named small plain volatile =
     let are = class_are_words k fields small (omega arith) (omega arith) in
-    says table c line have (spaced (class_words k fields)) (class_words k fields) (Some forms.Class) (AddsClass fields.plain fields.volatile)
+    says table c line have (spaced (class_words k fields)) (class_words k fields) (Some forms.Class)
+    (AddsClass fields.plain fields.volatile)
     (plain_spaced (class_words k fields) are) (words_spaced (class_words k fields) are) (class_form k fields)
     (before_inputs c (c.functions == 0) first before) (says_class table c line k fields named plain volatile)
 
-says_header : (table : List Definition) (c : Counts) (line main f args locals : ℕ) → new_name table Functions line (nat_lt c.functions FUNCTIONS) (function_name main f) ≡ Ok tt
+says_header : (table : List Definition) (c : Counts) (line main f args locals : ℕ)
+    → new_name table Functions line (nat_lt c.functions FUNCTIONS) (function_name main f) ≡ Ok tt
     → args ≤ LOCALS → locals ≤ LOCALS
     → function_of table c line (function_name main f ∷ decimal args ∷ decimal locals ∷ []) ≡ Ok (AddsFunction args locals)
 unfolding function_of
 says_header table c line main f args locals named few short =
-    ap (λ r. r >>= (λ u. count_of 0 LOCALS (decimal args) >>= (λ a. count_of 0 LOCALS (decimal locals) >>= (λ l. Ok (AddsFunction a l))))) named
-    ∙ ap (λ r. r >>= (λ a. count_of 0 LOCALS (decimal locals) >>= (λ l. Ok (AddsFunction a l)))) (count_decimal 0 LOCALS args (omega arith) few (omega arith))
+    ap (λ r. r >>= (λ u. count_of 0 LOCALS (decimal args) >>= (λ a. count_of 0 LOCALS (decimal locals) >>= (λ l. Ok (AddsFunction a l)))))
+    named
+    ∙ ap (λ r. r >>= (λ a. count_of 0 LOCALS (decimal locals) >>= (λ l. Ok (AddsFunction a l))))
+    (count_decimal 0 LOCALS args (omega arith) few (omega arith))
     ∙ ap (λ r. r >>= (λ l. Ok (AddsFunction args l))) (count_decimal 0 LOCALS locals (omega arith) short (omega arith))
 
 pub said_header : (table : List Definition) (c : Counts) (line have main f args locals : ℕ) → c.given ≡ false
-    → new_name table Functions line (nat_lt c.functions FUNCTIONS) (function_name main f) ≡ Ok tt → f ≤ MOST_INDEX → args ≤ LOCALS → locals ≤ LOCALS
+    → new_name table Functions line (nat_lt c.functions FUNCTIONS) (function_name main f) ≡ Ok tt → f ≤ MOST_INDEX → args ≤ LOCALS
+    → locals ≤ LOCALS
     → said table c line have (spaced (header_words main f args locals)) ≡ Ok (AddsFunction args locals)
 said_header table c line have main f args locals first named small few short =
     let ws = header_words main f args locals in
@@ -201,12 +213,15 @@ says_catch : (table : List Definition) (c : Counts) (k : Catch) → nat_lt c.cat
 unfolding catch_of
 says_catch table c k room from to target =
     let meaning : ℕ → Result ℕ ℕ = λ at. meaning_of table (Labels c.functions) (label_name at) in
-    ap (λ b. room_for b >>= (λ u. meaning k.from >>= (λ x. meaning k.to >>= (λ y. meaning k.target >>= (λ z. Ok (AddsCatch (record { from = x; to = y; target = z }))))))) room
-    ∙ ap (λ r. r >>= (λ x. meaning k.to >>= (λ y. meaning k.target >>= (λ z. Ok (AddsCatch (record { from = x; to = y; target = z })))))) from
+    ap (λ b. room_for b >>= (λ u. meaning k.from >>=
+    (λ x. meaning k.to >>= (λ y. meaning k.target >>= (λ z. Ok (AddsCatch (record { from = x; to = y; target = z }))))))) room
+    ∙ ap (λ r. r >>= (λ x. meaning k.to >>= (λ y. meaning k.target >>= (λ z. Ok (AddsCatch (record { from = x; to = y; target = z }))))))
+    from
     ∙ ap (λ r. r >>= (λ y. meaning k.target >>= (λ z. Ok (AddsCatch (record { from = k.from; to = y; target = z }))))) to
     ∙ ap (λ r. r >>= (λ z. Ok (AddsCatch (record { from = k.from; to = k.to; target = z })))) target
 
-pub said_catch : (table : List Definition) (c : Counts) (line have : ℕ) (k : Catch) → c.given ≡ false → (c.functions == 0) ≡ false → nat_lt c.catches CATCHES ≡ true
+pub said_catch : (table : List Definition) (c : Counts) (line have : ℕ) (k : Catch) → c.given ≡ false → (c.functions == 0) ≡ false
+    → nat_lt c.catches CATCHES ≡ true
     → meaning_of table (Labels c.functions) (label_name k.from) ≡ Ok k.from
     → meaning_of table (Labels c.functions) (label_name k.to) ≡ Ok k.to
     → meaning_of table (Labels c.functions) (label_name k.target) ≡ Ok k.target

@@ -21,7 +21,8 @@ use Rattle.gl_asm.proofs.ListedWords.{catch_are_words, catch_words, class_are_wo
 abbrev pub AreRows : List (List ℕ) → ℕ → Type 0
 AreRows rs most = AllByRecursion IsPlain rs × (length (flat_map ended rs) ≤ most)
 
-row_more : (row : List ℕ) (rest : List (List ℕ)) (bytes most : ℕ) → IsPlain row → length row ≤ bytes → AreRows rest most → AreRows (row ∷ rest) (bytes + 1 + most)
+row_more : (row : List ℕ) (rest : List (List ℕ)) (bytes most : ℕ) → IsPlain row → length row ≤ bytes → AreRows rest most
+    → AreRows (row ∷ rest) (bytes + 1 + most)
 row_more row rest bytes most plain short are =
     ((plain, are.0), omega (arith, length-append (ended row) (flat_map ended rest), length-append row (codes "\n"), short, are.1))
 
@@ -29,7 +30,8 @@ row_more row rest bytes most plain short are =
 more_room : (rs : List (List ℕ)) (few most : ℕ) → few ≤ most → AreRows rs few → AreRows rs most
 more_room rs few most less are = (are.0, omega (arith, are.1))
 
-class_sizes : (c : ℕ) (Cs : List Fields) (rest : List (List ℕ)) (most : ℕ) → c + length Cs ≤ CLASSES → AllByRecursion IsShortClass Cs → AreRows rest most
+class_sizes : (c : ℕ) (Cs : List Fields) (rest : List (List ℕ)) (most : ℕ) → c + length Cs ≤ CLASSES → AllByRecursion IsShortClass Cs
+    → AreRows rest most
     → AreRows (class_rows c Cs rest) (25 * length Cs + most)
 class_sizes c [] rest most room short are = more_room rest most (25 * 0 + most) (omega arith) are
 class_sizes c (fields ∷ Cs) rest most room short are =
@@ -38,14 +40,18 @@ class_sizes c (fields ∷ Cs) rest most room short are =
     let small : c ≤ MOST_INDEX = omega arith in
     let others = class_sizes (c + 1) Cs rest most (omega arith) short.1 are in
     more_room (class_rows c (fields ∷ Cs) rest) (24 + 1 + (25 * length Cs + most)) (25 * length (fields ∷ Cs) + most) (omega arith)
-    (row_more (class_row c fields) (class_rows (c + 1) Cs rest) 24 (25 * length Cs + most) (plain_spaced (class_words c fields) (class_are_words c fields small plain volatile))
+    (row_more (class_row c fields) (class_rows (c + 1) Cs rest) 24 (25 * length Cs + most)
+    (plain_spaced (class_words c fields) (class_are_words c fields small plain volatile))
     (class_length c fields small plain volatile) others)
 
-label_sizes : (named : Bool) (at : ℕ) (rest : List (List ℕ)) (most : ℕ) → at ≤ MOST_INDEX → AreRows rest most → AreRows (label_rows named at rest) (8 + most)
-label_sizes true at rest most small are = row_more (label_row at) rest 7 most (plain_spaced (label_words at) (label_are_words at small)) (label_length at small) are
+label_sizes : (named : Bool) (at : ℕ) (rest : List (List ℕ)) (most : ℕ) → at ≤ MOST_INDEX → AreRows rest most
+    → AreRows (label_rows named at rest) (8 + most)
+label_sizes true at rest most small are =
+    row_more (label_row at) rest 7 most (plain_spaced (label_words at) (label_are_words at small)) (label_length at small) are
 label_sizes false at rest most small are = more_room rest most (8 + most) (omega arith) are
 
-catch_sizes : (F : Function) (hs : List Catch) (rest : List (List ℕ)) (most : ℕ) → length F.code ≤ CODE → AllByRecursion (IsHandler F) hs → AreRows rest most
+catch_sizes : (F : Function) (hs : List Catch) (rest : List (List ℕ)) (most : ℕ) → length F.code ≤ CODE → AllByRecursion (IsHandler F) hs
+    → AreRows rest most
     → AreRows (catch_rows hs rest) (29 * length hs + most)
 catch_sizes F [] rest most short there are = more_room rest most (29 * 0 + most) (omega arith) are
 catch_sizes F (h ∷ hs) rest most short there are =
@@ -53,21 +59,26 @@ catch_sizes F (h ∷ hs) rest most short there are =
     let to : h.to ≤ MOST_INDEX = omega (arith, there.0.1.0) in
     let target : h.target ≤ MOST_INDEX = omega (arith, there.0.2.0) in
     more_room (catch_rows (h ∷ hs) rest) (28 + 1 + (29 * length hs + most)) (29 * length (h ∷ hs) + most) (omega arith)
-    (row_more (catch_row h) (catch_rows hs rest) 28 (29 * length hs + most) (plain_indented (catch_words h) (catch_are_words h from to target))
+    (row_more (catch_row h) (catch_rows hs rest) 28 (29 * length hs + most)
+    (plain_indented (catch_words h) (catch_are_words h from to target))
     (catch_length h from to target) (catch_sizes F hs rest most short there.1 are))
 
-code_sizes : (P : Bytecode) (F : Function) (at : ℕ) (is : List Instr) (rest : List (List ℕ)) (most : ℕ) → at + length is ≤ CODE → AllByRecursion (IsSayable P F) is → AreRows rest most
+code_sizes : (P : Bytecode) (F : Function) (at : ℕ) (is : List Instr) (rest : List (List ℕ)) (most : ℕ) → at + length is ≤ CODE
+    → AllByRecursion (IsSayable P F) is → AreRows rest most
     → AreRows (code_rows P.main (names_of F) at is rest) (45 * length is + most)
 code_sizes P F at [] rest most room said are = more_room rest most (45 * 0 + most) (omega arith) are
 code_sizes P F at (i ∷ is) rest most room said are =
     let next = code_rows P.main (names_of F) (at + 1) is rest in
     let others = code_sizes P F (at + 1) is rest most (omega arith) said.1 are in
-    let line = row_more (instr_row P.main i) next 36 (45 * length is + most) (plain_indented (instr_words P.main i) (instr_are_words P.main i said.0.fits))
+    let line = row_more (instr_row P.main i) next 36 (45 * length is + most)
+    (plain_indented (instr_words P.main i) (instr_are_words P.main i said.0.fits))
     (instr_length P.main i said.0.fits) others in
-    more_room (code_rows P.main (names_of F) at (i ∷ is) rest) (8 + (36 + 1 + (45 * length is + most))) (45 * length (i ∷ is) + most) (omega arith)
+    more_room (code_rows P.main (names_of F) at (i ∷ is) rest) (8 + (36 + 1 + (45 * length is + most))) (45 * length (i ∷ is) + most)
+    (omega arith)
     (label_sizes (names_of F at) at (instr_row P.main i ∷ next) (36 + 1 + (45 * length is + most)) (omega arith) line)
 
-function_sizes : (P : Bytecode) (F : Function) (f : ℕ) (rest : List (List ℕ)) (most : ℕ) → f < FUNCTIONS → IsListable P F → AreRows rest most
+function_sizes : (P : Bytecode) (F : Function) (f : ℕ) (rest : List (List ℕ)) (most : ℕ) → f < FUNCTIONS → IsListable P F
+    → AreRows rest most
     → AreRows (function_rows P.main f F rest) (45 * length F.code + 496 + most)
 function_sizes P F f rest most room is are =
     let end = length F.code in
@@ -75,10 +86,14 @@ function_sizes P F f rest most room is are =
     let args : F.args ≤ MOST_INDEX = omega (arith, is.args) in
     let locals : F.locals ≤ MOST_INDEX = omega (arith, is.locals) in
     let handlers = catch_sizes F F.catches rest most is.code is.handlers are in
-    let last = label_sizes (names_of F end) end (catch_rows F.catches rest) (29 * length F.catches + most) (omega (arith, is.code)) handlers in
-    let code = code_sizes P F 0 F.code (label_rows (names_of F end) end (catch_rows F.catches rest)) (8 + (29 * length F.catches + most)) (omega (arith, is.code)) is.instrs last in
-    more_room (function_rows P.main f F rest) (23 + 1 + (45 * end + (8 + (29 * length F.catches + most)))) (45 * end + 496 + most) (omega (arith, few))
-    (row_more (header_row P.main f F.args F.locals) (code_rows P.main (names_of F) 0 F.code (label_rows (names_of F end) end (catch_rows F.catches rest))) 23
+    let last = label_sizes (names_of F end) end (catch_rows F.catches rest) (29 * length F.catches + most) (omega (arith, is.code))
+    handlers in
+    let code = code_sizes P F 0 F.code (label_rows (names_of F end) end (catch_rows F.catches rest)) (8 + (29 * length F.catches + most))
+    (omega (arith, is.code)) is.instrs last in
+    more_room (function_rows P.main f F rest) (23 + 1 + (45 * end + (8 + (29 * length F.catches + most)))) (45 * end + 496 + most)
+    (omega (arith, few))
+    (row_more (header_row P.main f F.args F.locals)
+    (code_rows P.main (names_of F) 0 F.code (label_rows (names_of F end) end (catch_rows F.catches rest))) 23
     (45 * end + (8 + (29 * length F.catches + most)))
     (plain_spaced (header_words P.main f F.args F.locals) (header_are_words P.main f F.args F.locals (omega arith) args locals))
     (header_length P.main f F.args F.locals (omega arith) args locals) code)
@@ -89,17 +104,21 @@ functions_sizes P f [] room are = (tt, omega arith)
 functions_sizes P f (F ∷ Gs) room are =
     let size = λ (G : Function). length G.code in
     let others = functions_sizes P (f + 1) Gs (omega arith) are.1 in
-    more_room (functions_rows P.main f (F ∷ Gs)) (45 * length F.code + 496 + (45 * sum_by size Gs + 496 * length Gs)) (45 * sum_by size (F ∷ Gs) + 496 * length (F ∷ Gs))
+    more_room (functions_rows P.main f (F ∷ Gs)) (45 * length F.code + 496 + (45 * sum_by size Gs + 496 * length Gs))
+    (45 * sum_by size (F ∷ Gs) + 496 * length (F ∷ Gs))
     (omega (arith, sum_by-cons size F Gs))
     (function_sizes P F f (functions_rows P.main (f + 1) Gs) (45 * sum_by size Gs + 496 * length Gs) (omega arith) are.0 others)
 
 -- no program within the limits has a listing that is too long
-pub rows_fit : (P : Bytecode) → Limits P → AllByRecursion IsShortClass P.classes → AllByRecursion (IsListable P) P.functions → AreRows (rows P) LONGEST
+pub rows_fit : (P : Bytecode) → Limits P → AllByRecursion IsShortClass P.classes → AllByRecursion (IsListable P) P.functions
+    → AreRows (rows P) LONGEST
 rows_fit P limits classes functions =
     let size = λ (G : Function). length G.code in
     let code = limits.code in
     let many = limits.functions in
     let some = limits.classes in
     let rest = functions_sizes P 0 P.functions (omega arith) functions in
-    more_room (rows P) (25 * length P.classes + (45 * sum_by size P.functions + 496 * length P.functions)) LONGEST (omega (arith, code, many, some))
-    (class_sizes 0 P.classes (functions_rows P.main 0 P.functions) (45 * sum_by size P.functions + 496 * length P.functions) (omega arith) classes rest)
+    more_room (rows P) (25 * length P.classes + (45 * sum_by size P.functions + 496 * length P.functions)) LONGEST
+    (omega (arith, code, many, some))
+    (class_sizes 0 P.classes (functions_rows P.main 0 P.functions) (45 * sum_by size P.functions + 496 * length P.functions) (omega arith)
+    classes rest)

@@ -27,7 +27,8 @@ use Rattle.gl_asm.proofs.Reading.{line_more}
 -- ## Counts
 
 abbrev pub counts : ℕ → ℕ → ℕ → ℕ → Counts
-counts classes functions places catches = record { classes = classes; functions = functions; places = places; catches = catches; given = false }
+counts classes functions places catches =
+    record { classes = classes; functions = functions; places = places; catches = catches; given = false }
 
 pub more_is : (n : ℕ) → n < MOST_INDEX → more n ≡ n + 1
 more_is n below = omega arith
@@ -52,13 +53,16 @@ definition scope name line number = record { scope = scope; name = name; line = 
 pub defines_itself : (scope : Scope) (name : List ℕ) (line number : ℕ) → defines scope name (definition scope name line number) ≡ true
 defines_itself scope name line number = ap (λ b. b && bytes_eq name name) (itself scope) ∙ same_bytes name
 
-find_first : (p : Definition → Bool) (before : List Definition) (d : Definition) (behind : List Definition) → find p before ≡ None → p d ≡ true
+find_first : (p : Definition → Bool) (before : List Definition) (d : Definition) (behind : List Definition) → find p before ≡ None → p d
+    ≡ true
     → find p (before ++ d ∷ behind) ≡ Some d
 find_first p before d behind none is =
     find-append p before (d ∷ behind) ∙ ap (λ o. option_or o (find p (d ∷ behind))) none ∙ ap (λ b. cond b (Some d) (find p behind)) is
 
-find_none : (p : Definition → Bool) (before : List Definition) (d : Definition) → find p before ≡ None → p d ≡ false → find p (before ++ d ∷ []) ≡ None
-find_none p before d none is = find-append p before (d ∷ []) ∙ ap (λ o. option_or o (find p (d ∷ []))) none ∙ ap (λ b. cond b (Some d) None) is
+find_none : (p : Definition → Bool) (before : List Definition) (d : Definition) → find p before ≡ None → p d ≡ false
+    → find p (before ++ d ∷ []) ≡ None
+find_none p before d none is = find-append p before (d ∷ []) ∙ ap (λ o. option_or o (find p (d ∷ []))) none
+    ∙ ap (λ b. cond b (Some d) None) is
 
 -- a name that is free before its line is that line's
 pub found_here : (T before behind : List Definition) (scope : Scope) (name : List ℕ) (line number : ℕ) → IsFree before scope name
@@ -67,7 +71,8 @@ found_here T before behind scope name line number free is =
     ap (λ t. find (defines scope name) t) is
     ∙ find_first (defines scope name) before (definition scope name line number) behind free (defines_itself scope name line number)
 
-pub means : (T : List Definition) (scope : Scope) (name : List ℕ) (line number : ℕ) → first_definition T scope name ≡ Some (definition scope name line number)
+pub means : (T : List Definition) (scope : Scope) (name : List ℕ) (line number : ℕ) → first_definition T scope name
+    ≡ Some (definition scope name line number)
     → meaning_of T scope name ≡ Ok number
 means T scope name line number is = ap meant is
 
@@ -78,7 +83,8 @@ pub is_new : (T : List Definition) (scope : Scope) (name : List ℕ) (line numbe
     → first_definition T scope name ≡ Some (definition scope name line number) → new_name T scope line room name ≡ Ok tt
 is_new T scope name line number room named there is = rw named (rw there (rw is (rw (not_less line) refl)))
 
-pub is_defined : (scope : Scope) (name : List ℕ) (line number : ℕ) → is_name name ≡ true → named scope line number (Some name) ≡ Some (definition scope name line number)
+pub is_defined : (scope : Scope) (name : List ℕ) (line number : ℕ) → is_name name ≡ true → named scope line number (Some name)
+    ≡ Some (definition scope name line number)
 is_defined scope name line number is = rw is refl
 
 -- ## Free names
@@ -107,7 +113,8 @@ pub free_class : (before : List Definition) (main classes functions label line :
 free_class before main classes functions label line free within =
     let d = definition Classes (class_name classes) line classes in
     record {
-      of_classes = λ k from most. find_none (defines Classes (class_name k)) before d (free.of_classes k (omega arith) most) (eq_class classes k within most ∙ differ classes k (omega arith));
+      of_classes = λ k from most. find_none (defines Classes (class_name k)) before d (free.of_classes k (omega arith) most)
+          (eq_class classes k within most ∙ differ classes k (omega arith));
       of_functions = λ k from most. find_none (defines Functions (function_name main k)) before d (free.of_functions k from most) refl;
       of_labels = λ g at from. find_none (defines (Labels g) (label_name at)) before d (free.of_labels g at from) refl;
       here = λ at from most. find_none (defines (Labels functions) (label_name at)) before d (free.here at from most) refl;
@@ -123,7 +130,8 @@ free_function before main classes functions label line free within =
       of_functions = λ k from most. find_none (defines Functions (function_name main k)) before d (free.of_functions k (omega arith) most)
           (eq_function main functions k within most ∙ differ functions k (omega arith));
       of_labels = λ g at from. find_none (defines (Labels g) (label_name at)) before d (free.of_labels g at (omega arith)) refl;
-      here = λ at from most. find_none (defines (Labels (functions + 1)) (label_name at)) before d (free.of_labels (functions + 1) at (omega arith)) refl;
+      here = λ at from most. find_none (defines (Labels (functions + 1)) (label_name at)) before d
+          (free.of_labels (functions + 1) at (omega arith)) refl;
     }
 
 pub free_label : (before : List Definition) (main classes functions label line : ℕ) → AreFree before main classes functions label
@@ -137,7 +145,8 @@ free_label before main classes functions label line free within =
       of_labels = λ g at from. find_none (defines (Labels g) (label_name at)) before d (free.of_labels g at from)
           (ap (λ b. b && bytes_eq (label_name label) (label_name at)) (differ functions g from));
       here = λ at from most. find_none (defines (Labels functions) (label_name at)) before d (free.here at (omega arith) most)
-          (ap (λ b. b && bytes_eq (label_name label) (label_name at)) (itself (Labels functions)) ∙ eq_label label at within most ∙ differ label at (omega arith));
+          (ap (λ b. b && bytes_eq (label_name label) (label_name at)) (itself (Labels functions)) ∙ eq_label label at within most
+          ∙ differ label at (omega arith));
     }
 
 -- a place without a label
@@ -153,7 +162,8 @@ free_place before main classes functions label free = record {
 -- ## How far a reader has come
 
 -- behind these lines, with this table of definitions, are those rows left; where M holds, what they add to what is there is the whole
-pub record Stands (M : Type 0) (T : List Definition) (whole : Result (Draft × List ℤ) LineFault) (main : ℕ) (c : Counts) (label : ℕ) (left : List (List ℕ)) (D : Draft) : Type 0 where
+pub record Stands (M : Type 0) (T : List Definition) (whole : Result (Draft × List ℤ) LineFault) (main : ℕ) (c : Counts) (label : ℕ)
+    (left : List (List ℕ)) (D : Draft) : Type 0 where
   pub before : List Definition
   pub line : ℕ
   pub table : T ≡ before ++ definitions_from c line left
@@ -161,19 +171,23 @@ pub record Stands (M : Type 0) (T : List Definition) (whole : Result (Draft × L
   pub free : AreFree before main c.classes c.functions label
 
 -- the table behind one row more
-table_more : (T before : List Definition) (c : Counts) (line : ℕ) (row : List ℕ) (left : List (List ℕ)) (form : Form) (ws : List (List ℕ)) (ds : List Definition)
-    → T ≡ before ++ definitions_from c line (row ∷ left) → words row ≡ ws → form_of ws ≡ Some form → option_to_list (definition_of c line (Some form) ws) ≡ ds
+table_more : (T before : List Definition) (c : Counts) (line : ℕ) (row : List ℕ) (left : List (List ℕ)) (form : Form) (ws : List (List ℕ))
+    (ds : List Definition)
+    → T ≡ before ++ definitions_from c line (row ∷ left) → words row ≡ ws → form_of ws ≡ Some form
+    → option_to_list (definition_of c line (Some form) ws) ≡ ds
     → T ≡ (before ++ ds) ++ definitions_from (counted c (Some form)) (line + 1) left
 table_more T before c line row left form ws ds table are is adds =
     let fs : form_of (words row) ≡ Some form = ap form_of are ∙ is in
     table
     ∙ ap (λ f. before ++ (option_to_list (definition_of c line f (words row)) ++ definitions_from (counted c f) (line + 1) left)) fs
-    ∙ ap (λ w. before ++ (option_to_list (definition_of c line (Some form) w) ++ definitions_from (counted c (Some form)) (line + 1) left)) are
+    ∙ ap (λ w. before ++ (option_to_list (definition_of c line (Some form) w) ++ definitions_from (counted c (Some form)) (line + 1) left))
+    are
     ∙ ap (λ l. before ++ (l ++ definitions_from (counted c (Some form)) (line + 1) left)) adds
     ∙ sym (append_assoc before ds (definitions_from (counted c (Some form)) (line + 1) left))
 
 -- what is added behind one row more
-added_more : (T : List Definition) (whole : Result (Draft × List ℤ) LineFault) (c : Counts) (line : ℕ) (row : List ℕ) (left : List (List ℕ)) (D : Draft)
+added_more : (T : List Definition) (whole : Result (Draft × List ℤ) LineFault) (c : Counts) (line : ℕ) (row : List ℕ)
+    (left : List (List ℕ)) (D : Draft)
     (form : Form) (a : Addition) → built D [] (read_from T c line 0 (row ∷ left)) ≡ whole → form_of (words row) ≡ Some form
     → said T c line 0 row ≡ Ok a → inputs_in a ≡ [] → built (added D a) [] (read_from T (counted c (Some form)) (line + 1) 0 left) ≡ whole
 added_more T whole c line row left D form a going is says none =
@@ -183,15 +197,18 @@ added_more T whole c line row left D form a going is says none =
     ∙ going
 
 -- one row more
-pub stands_on : {M : Type 0} {T : List Definition} {whole : Result (Draft × List ℤ) LineFault} {main : ℕ} {c : Counts} {label : ℕ} {row : List ℕ} {left : List (List ℕ)} {D : Draft}
-    (s : Stands M T whole main c label (row ∷ left) D) (form : Form) (ws : List (List ℕ)) (ds : List Definition) (a : Addition) (k : Counts) (next : ℕ)
+pub stands_on : {M : Type 0} {T : List Definition} {whole : Result (Draft × List ℤ) LineFault} {main : ℕ} {c : Counts} {label : ℕ}
+    {row : List ℕ} {left : List (List ℕ)} {D : Draft}
+    (s : Stands M T whole main c label (row ∷ left) D) (form : Form) (ws : List (List ℕ)) (ds : List Definition) (a : Addition)
+    (k : Counts) (next : ℕ)
     → words row ≡ ws → form_of ws ≡ Some form → option_to_list (definition_of c s.line (Some form) ws) ≡ ds
     → (M → said T c s.line 0 row ≡ Ok a) → inputs_in a ≡ [] → counted c (Some form) ≡ k
     → AreFree (s.before ++ ds) main k.classes k.functions next → Stands M T whole main k next left (added D a)
 stands_on {M} {T} {whole} {main} {c} {label} {row} {left} {D} s form ws ds a k next are is adds says none count free = record {
   before = s.before ++ ds;
   line = s.line + 1;
-  table = table_more T s.before c s.line row left form ws ds s.table are is adds ∙ ap (λ q. (s.before ++ ds) ++ definitions_from q (s.line + 1) left) count;
+  table = table_more T s.before c s.line row left form ws ds s.table are is adds
+      ∙ ap (λ q. (s.before ++ ds) ++ definitions_from q (s.line + 1) left) count;
   going = λ m.
       ap (λ q. built (added D a) [] (read_from T q (s.line + 1) 0 left)) (sym count)
       ∙ added_more T whole c s.line row left D form a (s.going m) (ap form_of are ∙ is) (says m) none;
@@ -199,7 +216,8 @@ stands_on {M} {T} {whole} {main} {c} {label} {row} {left} {D} s form ws ds a k n
 }
 
 -- the name that the next row defines is that row's
-pub found_next : (T before : List Definition) (c : Counts) (line : ℕ) (row : List ℕ) (left : List (List ℕ)) (form : Form) (ws : List (List ℕ))
+pub found_next : (T before : List Definition) (c : Counts) (line : ℕ) (row : List ℕ) (left : List (List ℕ)) (form : Form)
+    (ws : List (List ℕ))
     (scope : Scope) (name : List ℕ) (number : ℕ)
     → T ≡ before ++ definitions_from c line (row ∷ left) → words row ≡ ws → form_of ws ≡ Some form
     → option_to_list (definition_of c line (Some form) ws) ≡ definition scope name line number ∷ [] → IsFree before scope name

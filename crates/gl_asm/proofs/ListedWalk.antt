@@ -42,7 +42,8 @@ some_function : (g : ℕ) → (g + 1 == 0) ≡ false
 some_function g = grind (arith, nat_tests)
 
 moved : {M : Type 0} {T : List Definition} {whole : Result (Draft × List ℤ) LineFault} {main : ℕ} {left : List (List ℕ)}
-    (c k : Counts) (label next : ℕ) (D E : Draft) → c ≡ k → label ≡ next → D ≡ E → Stands M T whole main c label left D → Stands M T whole main k next left E
+    (c k : Counts) (label next : ℕ) (D E : Draft) → c ≡ k → label ≡ next → D ≡ E → Stands M T whole main c label left D
+    → Stands M T whole main k next left E
 moved {M} {T} {whole} {main} {left} c k label next D E same there is s =
     subst (λ d. Stands M T whole main k next left d) is
     (subst (λ l. Stands M T whole main k l left D) there (subst (λ q. Stands M T whole main q label left D) same s))
@@ -50,9 +51,11 @@ moved {M} {T} {whole} {main} {left} c k label next D E same there is s =
 -- ## A row of each kind
 
 module _ {M : Type 0} {T : List Definition} {whole : Result (Draft × List ℤ) LineFault} {main : ℕ} where
-  class_step : (n : ℕ) (fields : Fields) (left : List (List ℕ)) (D : Draft) → n < CLASSES → fields.plain ≤ VARIABLES → fields.volatile ≤ VOLATILES
+  class_step : (n : ℕ) (fields : Fields) (left : List (List ℕ)) (D : Draft) → n < CLASSES → fields.plain ≤ VARIABLES
+      → fields.volatile ≤ VOLATILES
       → Stands M T whole main (counts n 0 0 0) 0 (class_row n fields ∷ left) D
-      → Stands M T whole main (counts (n + 1) 0 0 0) 0 left (added D (AddsClass fields.plain fields.volatile)) × (meaning_of T Classes (class_name n) ≡ Ok n)
+      → Stands M T whole main (counts (n + 1) 0 0 0) 0 left (added D (AddsClass fields.plain fields.volatile))
+      × (meaning_of T Classes (class_name n) ≡ Ok n)
   class_step n fields left D room plain volatile s =
       let c = counts n 0 0 0 in
       let ws = class_words n fields in
@@ -60,8 +63,10 @@ module _ {M : Type 0} {T : List Definition} {whole : Result (Draft × List ℤ) 
       let d = definition Classes name s.line n in
       let are = words_spaced ws (class_are_words n fields (omega arith) (omega arith) (omega arith)) in
       let named = is_class_name n (omega arith) in
-      let adds : option_to_list (definition_of c s.line (Some forms.Class) ws) ≡ d ∷ [] = ap option_to_list (is_defined Classes name s.line n named) in
-      let found = found_next T s.before c s.line (class_row n fields) left forms.Class ws Classes name n s.table are (class_form n fields) adds (s.free.of_classes n (omega arith) (omega arith)) in
+      let adds : option_to_list (definition_of c s.line (Some forms.Class) ws) ≡ d
+      ∷ [] = ap option_to_list (is_defined Classes name s.line n named) in
+      let found = found_next T s.before c s.line (class_row n fields) left forms.Class ws Classes name n s.table are (class_form n fields)
+      adds (s.free.of_classes n (omega arith) (omega arith)) in
       let new = is_new T Classes name s.line n (nat_lt n CLASSES) named (below n CLASSES room) found in (
         stands_on s forms.Class ws (d ∷ []) (AddsClass fields.plain fields.volatile) (counts (n + 1) 0 0 0) 0 are (class_form n fields) adds
             (λ m. said_class T c s.line 0 n fields refl refl new (omega arith) plain volatile) refl
@@ -71,7 +76,8 @@ module _ {M : Type 0} {T : List Definition} {whole : Result (Draft × List ℤ) 
 
   header_step : (n f p k label args locals : ℕ) (left : List (List ℕ)) (D : Draft) → f < FUNCTIONS → args ≤ LOCALS → locals ≤ LOCALS
       → Stands M T whole main (counts n f p k) label (header_row main f args locals ∷ left) D
-      → Stands M T whole main (counts n (f + 1) 0 0) 0 left (added D (AddsFunction args locals)) × (meaning_of T Functions (function_name main f) ≡ Ok f)
+      → Stands M T whole main (counts n (f + 1) 0 0) 0 left (added D (AddsFunction args locals))
+      × (meaning_of T Functions (function_name main f) ≡ Ok f)
   header_step n f p k label args locals left D room few some s =
       let c = counts n f p k in
       let ws = header_words main f args locals in
@@ -79,9 +85,11 @@ module _ {M : Type 0} {T : List Definition} {whole : Result (Draft × List ℤ) 
       let d = definition Functions name s.line f in
       let are = words_spaced ws (header_are_words main f args locals (omega arith) (omega arith) (omega arith)) in
       let named = is_function_name main f (omega arith) in
-      let adds : option_to_list (definition_of c s.line (Some forms.Function) ws) ≡ d ∷ [] = ap option_to_list (is_defined Functions name s.line f named) in
+      let adds : option_to_list (definition_of c s.line (Some forms.Function) ws) ≡ d
+      ∷ [] = ap option_to_list (is_defined Functions name s.line f named) in
       let is = header_form main f args locals in
-      let found = found_next T s.before c s.line (header_row main f args locals) left forms.Function ws Functions name f s.table are is adds (s.free.of_functions f (omega arith) (omega arith)) in
+      let found = found_next T s.before c s.line (header_row main f args locals) left forms.Function ws Functions name f s.table are is
+      adds (s.free.of_functions f (omega arith) (omega arith)) in
       let new = is_new T Functions name s.line f (nat_lt f FUNCTIONS) named (below f FUNCTIONS room) found in (
         stands_on s forms.Function ws (d ∷ []) (AddsFunction args locals) (counts n (f + 1) 0 0) 0 are is adds
             (λ m. said_header T c s.line 0 main f args locals refl new (omega arith) few some) refl
@@ -100,11 +108,14 @@ module _ {M : Type 0} {T : List Definition} {whole : Result (Draft × List ℤ) 
       let d = definition scope name s.line p in
       let are = words_spaced ws (label_are_words p most) in
       let named = is_label_name p most in
-      let adds : option_to_list (definition_of c s.line (Some forms.Label) ws) ≡ d ∷ [] = rw (label_of_colon name) (ap option_to_list (is_defined scope name s.line p named)) in
-      let found = found_next T s.before c s.line (label_row p) left forms.Label ws scope name p s.table are (label_form p) adds (s.free.here p (omega arith) most) in
+      let adds : option_to_list (definition_of c s.line (Some forms.Label) ws) ≡ d
+      ∷ [] = rw (label_of_colon name) (ap option_to_list (is_defined scope name s.line p named)) in
+      let found = found_next T s.before c s.line (label_row p) left forms.Label ws scope name p s.table are (label_form p) adds
+      (s.free.here p (omega arith) most) in
       let new = is_new T scope name s.line p true named refl found in (
         stands_on s forms.Label ws (d ∷ []) AddsNothing c (p + 1) are (label_form p) adds
-            (λ m. said_label T c s.line 0 p refl (some_function g) new most) refl refl (free_label s.before main n (g + 1) p s.line s.free most),
+            (λ m. said_label T c s.line 0 p refl (some_function g) new most) refl refl
+            (free_label s.before main n (g + 1) p s.line s.free most),
         means T scope name s.line p found,
       )
 
@@ -113,13 +124,17 @@ module _ {M : Type 0} {T : List Definition} {whole : Result (Draft × List ℤ) 
       → Stands M T whole main (counts n (g + 1) p 0) p (label_rows named p left) D
       → Stands M T whole main (counts n (g + 1) p 0) (p + 1) left D × (named ≡ true → meaning_of T (Labels (g + 1)) (label_name p) ≡ Ok p)
   slot_step true n g p left D most s = let both = label_step n g p left D most s in (both.0, λ is. both.1)
-  slot_step false n g p left D most s =
-      (record { before = s.before; line = s.line; table = s.table; going = s.going; free = free_place s.before main n (g + 1) p s.free }, λ is. cc)
+  slot_step false n g p left D most s = (
+    record { before = s.before; line = s.line; table = s.table; going = s.going; free = free_place s.before main n (g + 1) p s.free },
+    λ is. cc,
+  )
 
   -- a row that defines nothing
-  plain_step : (c k : Counts) (label : ℕ) (row : List ℕ) (left : List (List ℕ)) (D : Draft) (s : Stands M T whole main c label (row ∷ left) D) (form : Form) (ws : List (List ℕ)) (a : Addition)
+  plain_step : (c k : Counts) (label : ℕ) (row : List ℕ) (left : List (List ℕ)) (D : Draft)
+      (s : Stands M T whole main c label (row ∷ left) D) (form : Form) (ws : List (List ℕ)) (a : Addition)
       → words row ≡ ws → form_of ws ≡ Some form → option_to_list (definition_of c s.line (Some form) ws) ≡ []
-      → (M → said T c s.line 0 row ≡ Ok a) → inputs_in a ≡ [] → counted c (Some form) ≡ k → k.classes ≡ c.classes → k.functions ≡ c.functions
+      → (M → said T c s.line 0 row ≡ Ok a) → inputs_in a ≡ [] → counted c (Some form) ≡ k → k.classes ≡ c.classes → k.functions
+      ≡ c.functions
       → Stands M T whole main k label left (added D a)
   plain_step c k label row left D s form ws a are is adds says none count classes functions =
       let free : AreFree (s.before ++ []) main k.classes k.functions label =
@@ -135,12 +150,14 @@ module _ {M : Type 0} {T : List Definition} {whole : Result (Draft × List ℤ) 
       → Stands M T whole main (counts n (g + 1) (p + 1) 0) label left (added D (AddsInstruction i))
   instr_step n g p label i left D most fits knows s =
       let c = counts n (g + 1) p 0 in
-      plain_step c (counts n (g + 1) (p + 1) 0) label (instr_row main i) left D s (forms.Instruction (template_for i)) (instr_words main i) (AddsInstruction i)
+      plain_step c (counts n (g + 1) (p + 1) 0) label (instr_row main i) left D s (forms.Instruction (template_for i)) (instr_words main i)
+      (AddsInstruction i)
       (words_indented (instr_words main i) (instr_are_words main i fits)) (instr_form main i) refl
       (λ m. said_instr T c s.line 0 main i refl (some_function g) fits (knows m)) refl
       (ap (λ q. counts n (g + 1) q 0) (more_is p most)) refl refl
 
-  catch_step : (n g p k label : ℕ) (h : Catch) (left : List (List ℕ)) (D : Draft) → k < CATCHES → h.from ≤ MOST_INDEX → h.to ≤ MOST_INDEX → h.target ≤ MOST_INDEX
+  catch_step : (n g p k label : ℕ) (h : Catch) (left : List (List ℕ)) (D : Draft) → k < CATCHES → h.from ≤ MOST_INDEX → h.to ≤ MOST_INDEX
+      → h.target ≤ MOST_INDEX
       → (M → (meaning_of T (Labels (g + 1)) (label_name h.from) ≡ Ok h.from) × (meaning_of T (Labels (g + 1)) (label_name h.to) ≡ Ok h.to)
       × (meaning_of T (Labels (g + 1)) (label_name h.target) ≡ Ok h.target))
       → Stands M T whole main (counts n (g + 1) p k) label (catch_row h ∷ left) D
@@ -149,7 +166,8 @@ module _ {M : Type 0} {T : List Definition} {whole : Result (Draft × List ℤ) 
       let c = counts n (g + 1) p k in
       plain_step c (counts n (g + 1) p (k + 1)) label (catch_row h) left D s forms.Catch (catch_words h) (AddsCatch h)
       (words_indented (catch_words h) (catch_are_words h from to target)) (catch_form h) refl
-      (λ m. let known = knows m in said_catch T c s.line 0 h refl (some_function g) (below k CATCHES room) known.0 known.1 known.2 from to target) refl
+      (λ m. let known = knows m in said_catch T c s.line 0 h refl (some_function g) (below k CATCHES room) known.0 known.1 known.2 from to
+      target) refl
       (ap (λ q. counts n (g + 1) p q) (more_is k (omega arith))) refl refl
 
 -- ## Drafts
@@ -170,7 +188,8 @@ last_changed change (G ∷ H ∷ Fs) F = ap (λ l. G ∷ l) (last_changed change
 abbrev pub IsShortClass : Fields → Type 0
 IsShortClass fields = (fields.plain ≤ VARIABLES) × (fields.volatile ≤ VOLATILES)
 
-pub walk_classes : {M : Type 0} {T : List Definition} {whole : Result (Draft × List ℤ) LineFault} {main : ℕ} (Cs : List Fields) (n end : ℕ) (done all : List Fields) (m : Option ℕ) (rest : List (List ℕ))
+pub walk_classes : {M : Type 0} {T : List Definition} {whole : Result (Draft × List ℤ) LineFault} {main : ℕ} (Cs : List Fields) (n end : ℕ)
+    (done all : List Fields) (m : Option ℕ) (rest : List (List ℕ))
     → end ≡ n + length Cs → end ≤ CLASSES → all ≡ done ++ Cs → AllByRecursion IsShortClass Cs
     → Stands M T whole main (counts n 0 0 0) 0 (class_rows n Cs rest) (classes_draft done m)
     → Stands M T whole main (counts end 0 0 0) 0 rest (classes_draft all m)
@@ -182,7 +201,8 @@ walk_classes [] n end done all m rest count room is short s = (
 )
 walk_classes {M} {T} {whole} {main} (fields ∷ Cs) n end done all m rest count room is short s =
     let first = class_step n fields (class_rows (n + 1) Cs rest) (classes_draft done m) (omega arith) short.0.0 short.0.1 s in
-    let others = walk_classes Cs (n + 1) end (done ++ fields ∷ []) all m rest (omega arith) room (is ∙ sym (append_assoc done (fields ∷ []) Cs)) short.1 first.0 in (
+    let others = walk_classes Cs (n + 1) end (done ++ fields ∷ []) all m rest (omega arith) room (is
+    ∙ sym (append_assoc done (fields ∷ []) Cs)) short.1 first.0 in (
       others.0,
       λ k from to. elim (cases_lt n k) [
         | inl more ↦ others.1 k (omega (arith, more)) to
@@ -233,7 +253,8 @@ Meant P T = ((k : ℕ) → k < length P.classes → meaning_of T Classes (class_
 abbrev pub Labelled : List Definition → ℕ → Function → Type 0
 Labelled T g F = (p : ℕ) → IsLabel F p → meaning_of T (Labels g) (label_name p) ≡ Ok p
 
-knows : (P : Bytecode) (F : Function) (T : List Definition) (n g p k : ℕ) (o : Operand) → IsThere P F o → Meant P T → Labelled T g F → Known T (counts n g p k) P.main o
+knows : (P : Bytecode) (F : Function) (T : List Definition) (n g p k : ℕ) (o : Operand) → IsThere P F o → Meant P T → Labelled T g F
+    → Known T (counts n g p k) P.main o
 knows P F T n g p k Nothing there meant labels = tt
 knows P F T n g p k (Value z) there meant labels = tt
 knows P F T n g p k (Index j) there meant labels = tt
@@ -248,15 +269,18 @@ knows P F T n g p k (Class c) there meant labels = meant.0 c there
 abbrev pub part : Function → List Instr → List Catch → Function
 part F code catches = record { args = F.args; locals = F.locals; code = code; catches = catches }
 
-module _ (P : Bytecode) (F : Function) (T : List Definition) (whole : Result (Draft × List ℤ) LineFault) (Cs : List Fields) (Fs : List Function) (m : Option ℕ) where
+module _ (P : Bytecode) (F : Function) (T : List Definition) (whole : Result (Draft × List ℤ) LineFault) (Cs : List Fields)
+    (Fs : List Function) (m : Option ℕ) where
   walk_code : (n g : ℕ) (is : List Instr) (at end : ℕ) (done all : List Instr) (rest : List (List ℕ))
       → end ≡ at + length is → end ≤ CODE → all ≡ done ++ is → AllByRecursion (IsSayable P F) is
-      → Stands (Meant P T × Labelled T (g + 1) F) T whole P.main (counts n (g + 1) at 0) at (code_rows P.main (names_of F) at is rest) (draft_with Cs Fs (part F done []) m)
+      → Stands (Meant P T × Labelled T (g + 1) F) T whole P.main (counts n (g + 1) at 0) at (code_rows P.main (names_of F) at is rest)
+      (draft_with Cs Fs (part F done []) m)
       → Stands (Meant P T × Labelled T (g + 1) F) T whole P.main (counts n (g + 1) end 0) end rest (draft_with Cs Fs (part F all []) m)
       × ((p : ℕ) → at ≤ p → p < end → names_of F p ≡ true → meaning_of T (Labels (g + 1)) (label_name p) ≡ Ok p)
   walk_code n g [] at end done all rest count room is sayable s = (
     moved (counts n (g + 1) at 0) (counts n (g + 1) end 0) at end (draft_with Cs Fs (part F done []) m) (draft_with Cs Fs (part F all []) m)
-        (ap (λ q. counts n (g + 1) q 0) (omega arith)) (omega arith) (ap (λ l. draft_with Cs Fs (part F l []) m) (sym (append-nil done) ∙ sym is)) s,
+        (ap (λ q. counts n (g + 1) q 0) (omega arith)) (omega arith)
+        (ap (λ l. draft_with Cs Fs (part F l []) m) (sym (append-nil done) ∙ sym is)) s,
     λ p from to. absurd (omega arith),
   )
   walk_code n g (i ∷ is) at end done all rest count room same sayable s =
@@ -265,9 +289,12 @@ module _ (P : Bytecode) (F : Function) (T : List Definition) (whole : Result (Dr
       let slot = slot_step (names_of F at) n g at (instr_row P.main i ∷ next) D (omega arith) s in
       let said = instr_step n g at (at + 1) i next D (omega arith) sayable.0.fits
       (λ known. knows P F T n (g + 1) at 0 (operand_of i) sayable.0.there known.0 known.1) slot.0 in
-      let onward = moved (counts n (g + 1) (at + 1) 0) (counts n (g + 1) (at + 1) 0) (at + 1) (at + 1) (added D (AddsInstruction i)) (draft_with Cs Fs (part F (done ++ i ∷ []) []) m) refl refl
-      (ap (λ l. record { classes = Cs; functions = l; main = m }) (last_changed (λ G. record G { code = G.code ++ i ∷ [] }) Fs (part F done []))) said in
-      let others = walk_code n g is (at + 1) end (done ++ i ∷ []) all rest (omega arith) room (same ∙ sym (append_assoc done (i ∷ []) is)) sayable.1 onward in (
+      let onward = moved (counts n (g + 1) (at + 1) 0) (counts n (g + 1) (at + 1) 0) (at + 1) (at + 1) (added D (AddsInstruction i))
+      (draft_with Cs Fs (part F (done ++ i ∷ []) []) m) refl refl
+      (ap (λ l. record { classes = Cs; functions = l; main = m })
+      (last_changed (λ G. record G { code = G.code ++ i ∷ [] }) Fs (part F done []))) said in
+      let others = walk_code n g is (at + 1) end (done ++ i ∷ []) all rest (omega arith) room (same ∙ sym (append_assoc done (i ∷ []) is))
+      sayable.1 onward in (
         others.0,
         λ p from to named. elim (cases_lt at p) [
           | inl more ↦ others.1 p (omega (arith, more)) to named
@@ -279,36 +306,49 @@ module _ (P : Bytecode) (F : Function) (T : List Definition) (whole : Result (Dr
 
   walk_catches : (n g p label : ℕ) (hs : List Catch) (k end : ℕ) (done all : List Catch) (rest : List (List ℕ))
       → end ≡ k + length hs → end ≤ CATCHES → all ≡ done ++ hs → length F.code ≤ CODE → AllByRecursion (IsHandler F) hs
-      → Stands (Meant P T × Labelled T (g + 1) F) T whole P.main (counts n (g + 1) p k) label (catch_rows hs rest) (draft_with Cs Fs (part F F.code done) m)
-      → Stands (Meant P T × Labelled T (g + 1) F) T whole P.main (counts n (g + 1) p end) label rest (draft_with Cs Fs (part F F.code all) m)
+      → Stands (Meant P T × Labelled T (g + 1) F) T whole P.main (counts n (g + 1) p k) label (catch_rows hs rest)
+      (draft_with Cs Fs (part F F.code done) m)
+      → Stands (Meant P T × Labelled T (g + 1) F) T whole P.main (counts n (g + 1) p end) label rest
+      (draft_with Cs Fs (part F F.code all) m)
   walk_catches n g p label [] k end done all rest count room is short handlers s =
-      moved (counts n (g + 1) p k) (counts n (g + 1) p end) label label (draft_with Cs Fs (part F F.code done) m) (draft_with Cs Fs (part F F.code all) m)
-      (ap (λ q. counts n (g + 1) p q) (omega arith)) refl (ap (λ l. draft_with Cs Fs (part F F.code l) m) (sym (append-nil done) ∙ sym is)) s
+      moved (counts n (g + 1) p k) (counts n (g + 1) p end) label label (draft_with Cs Fs (part F F.code done) m)
+      (draft_with Cs Fs (part F F.code all) m)
+      (ap (λ q. counts n (g + 1) p q) (omega arith)) refl (ap (λ l. draft_with Cs Fs (part F F.code l) m) (sym (append-nil done) ∙ sym is))
+      s
   walk_catches n g p label (h ∷ hs) k end done all rest count room is short handlers s =
       let D = draft_with Cs Fs (part F F.code done) m in
       let mine = handlers.0 in
       let within : (h.from ≤ length F.code) × (h.to ≤ length F.code) × (h.target ≤ length F.code) = (mine.0.0, mine.1.0, mine.2.0) in
-      let said = catch_step n g p k label h (catch_rows hs rest) D (omega arith) (omega (arith, within.0)) (omega (arith, within.1)) (omega (arith, within.2))
+      let said = catch_step n g p k label h (catch_rows hs rest) D (omega arith) (omega (arith, within.0)) (omega (arith, within.1))
+      (omega (arith, within.2))
       (λ known. (known.1 h.from mine.0, known.1 h.to mine.1, known.1 h.target mine.2)) s in
-      let onward = moved (counts n (g + 1) p (k + 1)) (counts n (g + 1) p (k + 1)) label label (added D (AddsCatch h)) (draft_with Cs Fs (part F F.code (done ++ h ∷ [])) m) refl refl
-      (ap (λ l. record { classes = Cs; functions = l; main = m }) (last_changed (λ G. record G { catches = G.catches ++ h ∷ [] }) Fs (part F F.code done))) said in
-      walk_catches n g p label hs (k + 1) end (done ++ h ∷ []) all rest (omega arith) room (is ∙ sym (append_assoc done (h ∷ []) hs)) short handlers.1 onward
+      let onward = moved (counts n (g + 1) p (k + 1)) (counts n (g + 1) p (k + 1)) label label (added D (AddsCatch h))
+      (draft_with Cs Fs (part F F.code (done ++ h ∷ [])) m) refl refl
+      (ap (λ l. record { classes = Cs; functions = l; main = m })
+      (last_changed (λ G. record G { catches = G.catches ++ h ∷ [] }) Fs (part F F.code done))) said in
+      walk_catches n g p label hs (k + 1) end (done ++ h ∷ []) all rest (omega arith) room (is ∙ sym (append_assoc done (h ∷ []) hs)) short
+      handlers.1 onward
 
 -- where more is known, the same is
-weaker : {M N : Type 0} {T : List Definition} {whole : Result (Draft × List ℤ) LineFault} {main : ℕ} {c : Counts} {label : ℕ} {left : List (List ℕ)} {D : Draft}
+weaker : {M N : Type 0} {T : List Definition} {whole : Result (Draft × List ℤ) LineFault} {main : ℕ} {c : Counts} {label : ℕ}
+    {left : List (List ℕ)} {D : Draft}
     → (N → M) → Stands M T whole main c label left D → Stands N T whole main c label left D
 weaker so s = record { before = s.before; line = s.line; table = s.table; going = λ n. s.going (so n); free = s.free }
 
-walk_function : (P : Bytecode) (F : Function) (T : List Definition) (whole : Result (Draft × List ℤ) LineFault) (Cs : List Fields) (Fs : List Function) (m : Option ℕ)
+walk_function : (P : Bytecode) (F : Function) (T : List Definition) (whole : Result (Draft × List ℤ) LineFault) (Cs : List Fields)
+    (Fs : List Function) (m : Option ℕ)
     (n f p k label : ℕ) (rest : List (List ℕ)) → f < FUNCTIONS → IsListable P F
-    → Stands (Meant P T) T whole P.main (counts n f p k) label (function_rows P.main f F rest) (record { classes = Cs; functions = Fs; main = m })
-    → Stands (Meant P T) T whole P.main (counts n (f + 1) (length F.code) (length F.catches)) (length F.code + 1) rest (draft_with Cs Fs F m)
+    → Stands (Meant P T) T whole P.main (counts n f p k) label (function_rows P.main f F rest)
+    (record { classes = Cs; functions = Fs; main = m })
+    → Stands (Meant P T) T whole P.main (counts n (f + 1) (length F.code) (length F.catches)) (length F.code + 1) rest
+    (draft_with Cs Fs F m)
     × (meaning_of T Functions (function_name P.main f) ≡ Ok f)
 walk_function P F T whole Cs Fs m n f p k label rest room listable s =
     let end = length F.code in
     let handlers = catch_rows F.catches rest in
     let last = label_rows (names_of F end) end handlers in
-    let headed = header_step n f p k label F.args F.locals (code_rows P.main (names_of F) 0 F.code last) (record { classes = Cs; functions = Fs; main = m }) room listable.args listable.locals s in
+    let headed = header_step n f p k label F.args F.locals (code_rows P.main (names_of F) 0 F.code last)
+    (record { classes = Cs; functions = Fs; main = m }) room listable.args listable.locals s in
     let started = weaker {N = Meant P T × Labelled T (f + 1) F} (λ known. known.0) headed.0 in
     let coded = walk_code P F T whole Cs Fs m n f F.code 0 end [] F.code last (omega arith) listable.code refl listable.instrs started in
     let slot = slot_step (names_of F end) n f end handlers (draft_with Cs Fs (part F F.code []) m) (omega (arith, listable.code)) coded.0 in
@@ -318,21 +358,28 @@ walk_function P F T whole Cs Fs m n f p k label rest room listable s =
           let here : end ≡ at = omega (arith, past, is.0) in
           subst (λ q. meaning_of T (Labels (f + 1)) (label_name q) ≡ Ok q) here (slot.1 (ap (names_of F) here ∙ is.1))
     ] in
-    let caught = walk_catches P F T whole Cs Fs m n f end (end + 1) F.catches 0 (length F.catches) [] F.catches rest (omega arith) listable.catches refl listable.code listable.handlers slot.0 in
+    let caught = walk_catches P F T whole Cs Fs m n f end (end + 1) F.catches 0 (length F.catches) [] F.catches rest (omega arith)
+    listable.catches refl listable.code listable.handlers slot.0 in
     (weaker (λ known. (known, labels)) caught, headed.1)
 
 -- ## All functions
 
 pub walk_functions : (P : Bytecode) (T : List Definition) (whole : Result (Draft × List ℤ) LineFault) (Cs : List Fields) (m : Option ℕ)
-    (Gs : List Function) (n f end p k label : ℕ) (done all : List Function) → end ≡ f + length Gs → end ≤ FUNCTIONS → all ≡ done ++ Gs → AllByRecursion (IsListable P) Gs
-    → Stands (Meant P T) T whole P.main (counts n f p k) label (functions_rows P.main f Gs) (record { classes = Cs; functions = done; main = m })
+    (Gs : List Function) (n f end p k label : ℕ) (done all : List Function) → end ≡ f + length Gs → end ≤ FUNCTIONS → all ≡ done ++ Gs
+    → AllByRecursion (IsListable P) Gs
+    → Stands (Meant P T) T whole P.main (counts n f p k) label (functions_rows P.main f Gs)
+    (record { classes = Cs; functions = done; main = m })
     → (Meant P T → Ok (record { classes = Cs; functions = all; main = m }, []) ≡ whole)
     × ((g : ℕ) → f ≤ g → g < end → meaning_of T Functions (function_name P.main g) ≡ Ok g)
-walk_functions P T whole Cs m [] n f end p k label done all count room is listable s =
-    (λ known. ap (λ l. Ok (record { classes = Cs; functions = l; main = m }, [])) (is ∙ append-nil done) ∙ s.going known, λ g from to. absurd (omega arith))
+walk_functions P T whole Cs m [] n f end p k label done all count room is listable s = (
+  λ known. ap (λ l. Ok (record { classes = Cs; functions = l; main = m }, [])) (is ∙ append-nil done)
+      ∙ s.going known,
+  λ g from to. absurd (omega arith),
+)
 walk_functions P T whole Cs m (F ∷ Gs) n f end p k label done all count room is listable s =
     let first = walk_function P F T whole Cs done m n f p k label (functions_rows P.main (f + 1) Gs) (omega arith) listable.0 s in
-    let others = walk_functions P T whole Cs m Gs n (f + 1) end (length F.code) (length F.catches) (length F.code + 1) (done ++ F ∷ []) all (omega arith) room
+    let others = walk_functions P T whole Cs m Gs n (f + 1) end (length F.code) (length F.catches) (length F.code + 1) (done ++ F ∷ []) all
+    (omega arith) room
     (is ∙ sym (append_assoc done (F ∷ []) Gs)) listable.1 first.0 in (
       others.0,
       λ g from to. elim (cases_lt f g) [

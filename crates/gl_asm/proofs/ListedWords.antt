@@ -50,11 +50,13 @@ catch_words c = codes "catch" ∷ label_name c.from ∷ label_name c.to ∷ labe
 
 -- ## The lines are those words
 
-operand_line : (main : ℕ) (word : List ℕ) (o : Operand) → word ++ (operand_text main o ++ codes "\n") ≡ ended (spaced (word ∷ operand_words main o))
+operand_line : (main : ℕ) (word : List ℕ) (o : Operand) → word ++ (operand_text main o ++ codes "\n")
+    ≡ ended (spaced (word ∷ operand_words main o))
 operand_line main word Nothing = refl
 operand_line main word (Value n) = sym (append_assoc word (codes " " ++ signed_decimal n) (codes "\n"))
 operand_line main word (Index k) = sym (append_assoc word (codes " " ++ decimal k) (codes "\n"))
-operand_line main word (IndexAndValue k n) = sym (append_assoc word (codes " " ++ (decimal k ++ (codes " " ++ signed_decimal n))) (codes "\n"))
+operand_line main word (IndexAndValue k n) =
+    sym (append_assoc word (codes " " ++ (decimal k ++ (codes " " ++ signed_decimal n))) (codes "\n"))
 operand_line main word (Code code) = sym (append_assoc word (codes " " ++ decimal code) (codes "\n"))
 operand_line main word (Label to) = sym (append_assoc word (codes " " ++ label_name to) (codes "\n"))
 operand_line main word (OfFunction f) = sym (append_assoc word (codes " " ++ function_name main f) (codes "\n"))
@@ -67,7 +69,8 @@ instr_line_is main i = ap (λ l. codes "  " ++ l) (operand_line main (word_of i)
 three_line : (first a b c : List ℕ)
     → first ++ (codes " " ++ (a ++ (codes " " ++ (b ++ (codes " " ++ (c ++ codes "\n")))))) ≡ ended (spaced (first ∷ a ∷ b ∷ c ∷ []))
 three_line first a b c =
-    ap (λ l. first ++ (codes " " ++ l)) (ap (λ l. a ++ (codes " " ++ l)) (sym (append_assoc b (codes " " ++ c) (codes "\n"))) ∙ sym (append_assoc a (codes " " ++ (b ++ (codes " " ++ c))) (codes "\n")))
+    ap (λ l. first ++ (codes " " ++ l)) (ap (λ l. a ++ (codes " " ++ l)) (sym (append_assoc b (codes " " ++ c) (codes "\n")))
+    ∙ sym (append_assoc a (codes " " ++ (b ++ (codes " " ++ c))) (codes "\n")))
     ∙ sym (append_assoc first (codes " " ++ (a ++ (codes " " ++ (b ++ (codes " " ++ c))))) (codes "\n"))
 
 pub class_line_is : (c : ℕ) (fields : Fields) → class_line c fields ≡ ended (spaced (class_words c fields))
@@ -174,13 +177,25 @@ operand_are_words main (Class c) fits = (word_class c fits, tt)
 pub instr_are_words : (main : ℕ) (i : Instr) → Fits (operand_of i) → AreWords (instr_words main i)
 instr_are_words main i fits = ((of_letters (word_of i) (keyword i)).0, operand_are_words main (operand_of i) fits)
 
-pub class_are_words : (c : ℕ) (fields : Fields) → c ≤ MOST_INDEX → fields.plain ≤ MOST_INDEX → fields.volatile ≤ MOST_INDEX → AreWords (class_words c fields)
-class_are_words c fields small plain volatile =
-    ((of_letters (codes "class") refl).0, (word_class c small, (word_decimal fields.plain (omega arith), (word_decimal fields.volatile (omega arith), tt))))
+pub class_are_words : (c : ℕ) (fields : Fields) → c ≤ MOST_INDEX → fields.plain ≤ MOST_INDEX → fields.volatile ≤ MOST_INDEX
+    → AreWords (class_words c fields)
+class_are_words c fields small plain volatile = (
+  (of_letters (codes "class") refl).0,
+  (
+    word_class c small,
+    (word_decimal fields.plain (omega arith), (word_decimal fields.volatile (omega arith), tt)),
+  ),
+)
 
-pub header_are_words : (main f args locals : ℕ) → f ≤ MOST_INDEX → args ≤ MOST_INDEX → locals ≤ MOST_INDEX → AreWords (header_words main f args locals)
-header_are_words main f args locals small few short =
-    ((of_letters (codes "func") refl).0, (word_function main f small, (word_decimal args (omega arith), (word_decimal locals (omega arith), tt))))
+pub header_are_words : (main f args locals : ℕ) → f ≤ MOST_INDEX → args ≤ MOST_INDEX → locals ≤ MOST_INDEX
+    → AreWords (header_words main f args locals)
+header_are_words main f args locals small few short = (
+  (of_letters (codes "func") refl).0,
+  (
+    word_function main f small,
+    (word_decimal args (omega arith), (word_decimal locals (omega arith), tt)),
+  ),
+)
 
 pub label_are_words : (at : ℕ) → at ≤ MOST_INDEX → AreWords (label_words at)
 label_are_words at small = (word_colon (label_name at) (word_label at small), tt)

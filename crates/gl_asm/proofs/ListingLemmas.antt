@@ -57,7 +57,8 @@ past_of xs at none =
 
 -- ## Parts of a function
 
-pub code_there : (o : Option Function) (at : ℕ) (r : Option Instr) → r ≡ option_and_then (λ F. slice_get F.code at) o → slice_get (code_of o) at ≡ r
+pub code_there : (o : Option Function) (at : ℕ) (r : Option Instr) → r ≡ option_and_then (λ F. slice_get F.code at) o
+    → slice_get (code_of o) at ≡ r
 code_there None at r is = sym is
 code_there (Some F) at r is = sym is
 
@@ -75,7 +76,8 @@ no_catch : (o : Option Catch) → None ≡ option_map places_of o → o ≡ None
 no_catch None is = refl
 no_catch (Some c) is = cc
 
-pub catch_there : (o : Option Function) (i : ℕ) (t : ℕ × ℕ × ℕ) → Some t ≡ option_map places_of (option_and_then (λ F. slice_get F.catches i) o)
+pub catch_there : (o : Option Function) (i : ℕ) (t : ℕ × ℕ × ℕ) → Some t
+    ≡ option_map places_of (option_and_then (λ F. slice_get F.catches i) o)
     → slice_get (catches_of o) i ≡ Some (catch_at t)
 catch_there None i t is = cc
 catch_there (Some F) i t is = same_catch (slice_get F.catches i) t is

@@ -19,7 +19,8 @@ not_both : (r : Result (Draft × List ℤ) LineFault) (a : Draft × List ℤ) (b
 not_both r a b one two = cc
 
 -- two faults of one program
-program_faults : (r : Result (Draft × List ℤ) LineFault) (text : List ℕ) (a b j k : ℕ) (one : HasProgramFault r text a j) (two : HasProgramFault r text b k) → one.fault ≡ two.fault → (a ≡ b) × (j ≡ k)
+program_faults : (r : Result (Draft × List ℤ) LineFault) (text : List ℕ) (a b j k : ℕ) (one : HasProgramFault r text a j)
+    (two : HasProgramFault r text b k) → one.fault ≡ two.fault → (a ≡ b) × (j ≡ k)
 program_faults r text a b j k one two same = (
   one.line_is ∙ ap (fault_line (lines text)) same ∙ sym two.line_is,
   one.kind_is ∙ ap (λ (f : ProgFault). PROGRAM_FAULT_BASE + f.kind) same ∙ sym two.kind_is,
@@ -34,7 +35,8 @@ ProgramsOnce = (D : Draft) (x y : ProgFault) → IsProgramsFirstFault D x → Is
 
 -- a text is not both a program and refused
 pub read_apart : (r : Result (Draft × List ℤ) LineFault) → ProgramsApart
-    → (text : List ℕ) (program : Bytecode) (inputs : List ℤ) (line kind : ℕ) → IsTextBy r program inputs → IsFirstFaultBy r text line kind → ⊥
+    → (text : List ℕ) (program : Bytecode) (inputs : List ℤ) (line kind : ℕ) → IsTextBy r program inputs → IsFirstFaultBy r text line kind
+    → ⊥
 read_apart r apart text program inputs line kind is fault =
     elim fault [
       | inl wrong ↦ not_both r (draft_of program, inputs) (line, kind) is.read wrong
@@ -64,7 +66,8 @@ read_faults r once text a b j k one two =
     ]
 
 -- a text means one program and one list of inputs
-pub read_once : (r : Result (Draft × List ℤ) LineFault) (P Q : Bytecode) (xs ys : List ℤ) → IsTextBy r P xs → IsTextBy r Q ys → (draft_of P ≡ draft_of Q) × (xs ≡ ys)
+pub read_once : (r : Result (Draft × List ℤ) LineFault) (P Q : Bytecode) (xs ys : List ℤ) → IsTextBy r P xs → IsTextBy r Q ys
+    → (draft_of P ≡ draft_of Q) × (xs ≡ ys)
 read_once r P Q xs ys one two =
     let same = same_read r (draft_of P, xs) (draft_of Q, ys) one.read two.read in
     (ap (λ p. p.0) same, ap (λ p. p.1) same)

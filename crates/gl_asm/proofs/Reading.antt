@@ -13,16 +13,15 @@ use Rattle.gl_asm.specs.declared.definitions.Definition.{Definition}
 use Rattle.gl_asm.specs.declared.forms.Counts.{Counts}
 use Rattle.gl_asm.specs.declared.forms.Form.{Form}
 use Rattle.gl_asm.specs.declared.forms.Form.TheVariants.{Blank, Class, Function as Starts, Label, Catch, Inputs, Instruction}
-use Rattle.gl_asm.specs.declared.refusal.Refusal.{Refusal}
-use Rattle.gl_asm.specs.declared.refusal.Refusal.TheVariants.{Kind, Memory}
 use Rattle.gl_asm.specs.Additions.{IsPlaced, ◌>>=◌}
 use Rattle.gl_asm.specs.Forms.{counted, form_of, none_yet}
-use Rattle.gl_asm.specs.Sayings.{HasFunction, IsFunction, Refused, StartsFunction, refused_at, said}
-use Rattle.gl_asm.specs.Texts.{LineFault, TellsLine, added, at_line, built, inputs_in, read_from, start}
+use Rattle.gl_asm.specs.Sayings.{IsFunction, StartsFunction, said}
+use Rattle.gl_asm.specs.Texts.{LineFault, added, at_line, built, inputs_in, read_from, start}
 
 -- what there is behind some lines
 pub record Reads (table : List Definition) (text : List ℕ) (parts : Draft) (inputs : List ℤ) (c : Counts) (rest : LinesLeft) : Type 0 where
-  pub going : built parts inputs (read_from table c (rest.given + 1) (length inputs) rest.left) ≡ built (start table) [] (read_from table none_yet 1 0 (lines text))
+  pub going : built parts inputs (read_from table c (rest.given + 1) (length inputs) rest.left)
+      ≡ built (start table) [] (read_from table none_yet 1 0 (lines text))
   pub inside : 0 < c.functions → 0 < length parts.functions
   pub room : length inputs ≤ INPUTS
 
@@ -30,28 +29,21 @@ pub record Reads (table : List Definition) (text : List ℕ) (parts : Draft) (in
 
 pub built_more : (D : Draft) (zs : List ℤ) (a : Addition) (r : Result (List Addition) LineFault)
     → built D zs (r >>= (λ others. Ok (a ∷ others))) ≡ built (added D a) (zs ++ inputs_in a) r
-built_more D zs a (Ok others) = ap (λ l. Ok (fold added (added D a) others, l)) (sym (append_assoc zs (inputs_in a) (flat_map inputs_in others)))
+built_more D zs a (Ok others) = ap (λ l. Ok (fold added (added D a) others, l))
+    (sym (append_assoc zs (inputs_in a) (flat_map inputs_in others)))
 built_more D zs a (Err fault) = refl
 
-pub line_more : (table : List Definition) (c : Counts) (n : ℕ) (D : Draft) (zs : List ℤ) (text : List ℕ) (rest : List (List ℕ)) (a : Addition)
+pub line_more : (table : List Definition) (c : Counts) (n : ℕ) (D : Draft) (zs : List ℤ) (text : List ℕ) (rest : List (List ℕ))
+    (a : Addition)
     → said table c n (length zs) text ≡ Ok a
     → built D zs (read_from table c n (length zs) (text ∷ rest))
     ≡ built (added D a) (zs ++ inputs_in a) (read_from table (counted c (form_of (words text))) (n + 1) (length (zs ++ inputs_in a)) rest)
 line_more table c n D zs text rest a says =
-    ap (λ r. built D zs (at_line n r >>= (λ b. read_from table (counted c (form_of (words text))) (n + 1) (length zs + length (inputs_in b)) rest >>= (λ others. Ok (b ∷ others))))) says
+    ap (λ r. built D zs (at_line n r >>= (λ b. read_from table (counted c (form_of (words text))) (n + 1)
+    (length zs + length (inputs_in b)) rest >>= (λ others. Ok (b ∷ others))))) says
     ∙ built_more D zs a (read_from table (counted c (form_of (words text))) (n + 1) (length zs + length (inputs_in a)) rest)
-    ∙ ap (λ k. built (added D a) (zs ++ inputs_in a) (read_from table (counted c (form_of (words text))) (n + 1) k rest)) (sym (length-append zs (inputs_in a)))
-
-pub line_wrong : (table : List Definition) (c : Counts) (n : ℕ) (D : Draft) (zs : List ℤ) (text : List ℕ) (rest : List (List ℕ)) (kind : ℕ)
-    → said table c n (length zs) text ≡ Err kind
-    → built D zs (read_from table c n (length zs) (text ∷ rest)) ≡ Err (n, kind)
-line_wrong table c n D zs text rest kind says =
-    ap (λ r. built D zs (at_line n r >>= (λ b. read_from table (counted c (form_of (words text))) (n + 1) (length zs + length (inputs_in b)) rest >>= (λ others. Ok (b ∷ others))))) says
-
-pub refused_tells : (whole : Result (Draft × List ℤ) LineFault) (r : Result Addition ℕ) (refusal : Refusal) (n : ℕ) → Refused r refusal
-    → ((kind : ℕ) → r ≡ Err kind → whole ≡ Err (n, kind)) → TellsLine whole (refused_at n refusal)
-refused_tells whole r (Kind kind) n is so = so kind is
-refused_tells whole r (Memory e) n is so = tt
+    ∙ ap (λ k. built (added D a) (zs ++ inputs_in a) (read_from table (counted c (form_of (words text))) (n + 1) k rest))
+    (sym (length-append zs (inputs_in a)))
 
 -- ## Functions
 
@@ -76,7 +68,8 @@ starts_some D (AddsInstruction i) is = absurd is
 starts_some D (AddsCatch k) is = absurd is
 starts_some D (AddsInputs zs) is = absurd is
 
-pub inside_more : (D : Draft) (a : Addition) (c : Counts) (form : Option Form) → StartsFunction form a → (0 < c.functions → 0 < length D.functions)
+pub inside_more : (D : Draft) (a : Addition) (c : Counts) (form : Option Form) → StartsFunction form a
+    → (0 < c.functions → 0 < length D.functions)
     → 0 < (counted c form).functions → 0 < length (added D a).functions
 inside_more D a c None is before h = stays_some D a (before h)
 inside_more D a c (Some Blank) is before h = stays_some D a (before h)
@@ -86,14 +79,6 @@ inside_more D a c (Some Label) is before h = stays_some D a (before h)
 inside_more D a c (Some Catch) is before h = stays_some D a (before h)
 inside_more D a c (Some Inputs) is before h = stays_some D a (before h)
 inside_more D a c (Some (Instruction i)) is before h = stays_some D a (before h)
-
-pub has_function : (functions room there : ℕ) (a : Addition) → IsPlaced functions room a → (0 < functions → 0 < there) → HasFunction there a
-has_function functions room there Nothing is so = tt
-has_function functions room there (AddsClass p v) is so = tt
-has_function functions room there (AddsFunction args locals) is so = tt
-has_function functions room there (AddsInstruction i) is so = (so is.0, is.1)
-has_function functions room there (AddsCatch k) is so = so is
-has_function functions room there (AddsInputs zs) is so = tt
 
 pub within_room : (functions room : ℕ) (a : Addition) → IsPlaced functions room a → length (inputs_in a) ≤ room
 within_room functions room Nothing is = omega arith
@@ -120,8 +105,10 @@ reads_on table text parts inputs c rest line after a D zs k reads left given say
       going =
           ap (λ d. built d zs (read_from table k (after.given + 1) (length zs) after.left)) is_d
           ∙ ap (λ z. built (added parts a) z (read_from table k (after.given + 1) (length z) after.left)) is_z
-          ∙ ap (λ q. built (added parts a) (inputs ++ inputs_in a) (read_from table q (after.given + 1) (length (inputs ++ inputs_in a)) after.left)) is_k
-          ∙ ap (λ g. built (added parts a) (inputs ++ inputs_in a) (read_from table (counted c form) (g + 1) (length (inputs ++ inputs_in a)) after.left)) given
+          ∙ ap (λ q. built (added parts a) (inputs ++ inputs_in a)
+          (read_from table q (after.given + 1) (length (inputs ++ inputs_in a)) after.left)) is_k
+          ∙ ap (λ g. built (added parts a) (inputs ++ inputs_in a)
+          (read_from table (counted c form) (g + 1) (length (inputs ++ inputs_in a)) after.left)) given
           ∙ sym (line_more table c (rest.given + 1) parts inputs line after.left a says)
           ∙ ap (λ l. built parts inputs (read_from table c (rest.given + 1) (length inputs) l)) (sym left)
           ∙ reads.going;

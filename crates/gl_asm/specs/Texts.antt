@@ -39,7 +39,10 @@ inputs_in _ = []
 abbrev pub added : Draft → Addition → Draft
 added D Nothing = D
 added D (AddsClass plain volatile) = record D { classes = D.classes ++ (record { plain = plain; volatile = volatile }) ∷ [] }
-added D (AddsFunction args locals) = record D { functions = D.functions ++ (record { args = args; locals = locals; code = []; catches = [] }) ∷ [] }
+added D (AddsFunction args locals) = record D {
+  functions = D.functions
+      ++ (record { args = args; locals = locals; code = []; catches = [] }) ∷ [];
+}
 added D (AddsInstruction i) = with_instr i D
 added D (AddsCatch c) = with_catch c D
 added D (AddsInputs values) = D
@@ -53,7 +56,8 @@ abbrev pub read_from : List Definition → Counts → ℕ → ℕ → List (List
 read_from table c line have [] = Ok []
 read_from table c line have (text ∷ rest) =
     at_line line (said table c line have text)
-    >>= (λ a. read_from table (counted c (form_of (words text))) (line + 1) (have + length (inputs_in a)) rest >>= (λ others. Ok (a ∷ others)))
+    >>= (λ a. read_from table (counted c (form_of (words text))) (line + 1) (have + length (inputs_in a)) rest >>=
+    (λ others. Ok (a ∷ others)))
 
 -- the draft and the inputs with what is added
 abbrev pub built : Draft → List ℤ → Result (List Addition) LineFault → Result (Draft × List ℤ) LineFault

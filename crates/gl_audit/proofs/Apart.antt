@@ -19,7 +19,8 @@ apart formed listed numbered runs legal words P inputs steps made OfForm c kept 
 apart formed listed numbered runs legal words P inputs steps made OfList c kept below says fails = (listed made kept).0 says c fails.0
 apart formed listed numbered runs legal words P inputs steps made OfNumbers c kept below says fails =
     (numbered made kept (below OfForm (omega arith))).0 says c fails.0
-apart formed listed numbered runs legal words P inputs steps made OfMachine c kept below says fails = runs (setting_of P inputs) (lists_of made) c says fails
+apart formed listed numbered runs legal words P inputs steps made OfMachine c kept below says fails =
+    runs (setting_of P inputs) (lists_of made) c says fails
 apart formed listed numbered runs legal words P inputs steps made OfRaces c kept below says fails =
     (let f = fails.0 in f.2 (says c f.0 f.1))
 apart formed listed numbered runs legal words P inputs steps made OfWords c kept below says fails =

@@ -40,7 +40,8 @@ at_other threads u t x other = rw (other_false t u other) refl
 
 -- one thread changed
 one_changed :
-    (setting : Setting) (s : State) (u : ℕ) (x : ThreadState) → ForkedRight setting s → ((f : ℕ) (v : ℤ) → x ≡ Forked f v → MayStart setting f) →
+    (setting : Setting) (s : State) (u : ℕ) (x : ThreadState) → ForkedRight setting s
+    → ((f : ℕ) (v : ℤ) → x ≡ Forked f v → MayStart setting f) →
     (t f : ℕ) (v : ℤ) → with_at s.threads u x t ≡ Forked f v → MayStart setting f
 one_changed setting s u x right here t f v is = elim (ℕ_discrete t u) [
   | yes same ↦ here f v (sym (at_here s.threads u x) ∙ subst (λ z. with_at s.threads u x z ≡ Forked f v) same is)
@@ -51,8 +52,10 @@ effect_right :
     (setting : Setting) (s new : State) (t : ℕ) (event : Event) (value : ℤ) → ForkedRight setting s → Effect setting s t event value new →
     ForkedRight setting new
 effect_right setting s new t (Commits xs) value right e = subst (ForkedRight setting) (sym e) right
-effect_right setting s new t (Does (Begin f)) value right e = subst (ForkedRight setting) (sym e) (one_changed setting s t Running right (λ g v is. absurd (cc)))
-effect_right setting s new t (Does End) value right e = subst (ForkedRight setting) (sym e) (one_changed setting s t Ended right (λ g v is. absurd (cc)))
+effect_right setting s new t (Does (Begin f)) value right e =
+    subst (ForkedRight setting) (sym e) (one_changed setting s t Running right (λ g v is. absurd (cc)))
+effect_right setting s new t (Does End) value right e =
+    subst (ForkedRight setting) (sym e) (one_changed setting s t Ended right (λ g v is. absurd (cc)))
 effect_right setting s new t (Does (Acq o)) value right e = subst (ForkedRight setting) (sym e.2) right
 effect_right setting s new t (Does (Rel o)) value right e = subst (ForkedRight setting) (sym e.2) right
 effect_right setting s new t (Does (VRead v)) value right e = subst (ForkedRight setting) (sym e.1) right
@@ -71,7 +74,8 @@ start_right setting t f v is = elim (ℕ_discrete t 0) [
   | yes same ↦
       inl (sym (forked_same setting.main f (pos 0) v
       (sym (at_here (λ _. NeverForked) 0 (Forked setting.main (pos 0))) ∙ subst (λ z. (start setting).threads z ≡ Forked f v) same is)))
-  | no other ↦ absurd (let none : NeverForked ≡ Forked f v = sym (at_other (λ _. NeverForked) 0 t (Forked setting.main (pos 0)) other) ∙ is in cc)
+  | no other ↦ absurd (let none : NeverForked ≡ Forked f v = sym (at_other (λ _. NeverForked) 0 t (Forked setting.main (pos 0)) other) ∙ is
+      in cc)
 ]
 
 module _ (setting : Setting) (R : Lists) (h : List Stamp) (is_list : IsEventList h R) (machine : IsMachineRun setting R h) where
@@ -96,23 +100,26 @@ module _ (setting : Setting) (R : Lists) (h : List Stamp) (is_list : IsEventList
   begins_rightly t i at f value there =
       let place : Place = record { thread = t; index = i } in
       let s : Stamp = record { thread = t; event = Does (Begin f) } in
-      let e : IsEventAt R place at s = record { entry = Sync at (Begin f) value; there = there; position = refl; event = refl; own = refl } in
+      let e : IsEventAt R place at s = record { entry = Sync at (Begin f) value; there = there; position = refl; event = refl; own = refl }
+      in
       let within = slice_get_within h at s (is_list.listed place at s e) in
       let step = machine.steps place at s e in
       always_right at (omega arith) t f value step.may
 
-has_one : (P : Bytecode) (f : ℕ) (o : Option Function) → function_at P f ≡ o → (args_of o == 1) ≡ true → (F : Function) × (function_at P f ≡ Some F) × (F.args < 2)
+has_one : (P : Bytecode) (f : ℕ) (o : Option Function) → function_at P f ≡ o → (args_of o == 1) ≡ true → (F : Function)
+    × (function_at P f ≡ Some F) × (F.args < 2)
 has_one P f None there one = cc
 has_one P f (Some F) there one = (F, there, (let is : F.args ≡ 1 = grind (arith, nat_tests) in omega arith))
 
 pub begins_are_right : (P : Bytecode) (inputs : List ℤ) (R : Lists) → IsValid P → RunsMachine (setting_of P inputs) R → BeginsAreRight P R
-begins_are_right P inputs R valid runs t i at f value there = by_start (begins_rightly (setting_of P inputs) R runs.0 runs.1 runs.2 t i at f value there) where
-  by_start : MayStart (setting_of P inputs) f → (F : Function) × (function_at P f ≡ Some F) × (F.args < 2)
-  by_start (inl main) =
-      let m = valid.1.main in
-      let none = m.2 in
-      (m.0, ap (function_at P) main ∙ m.1, omega arith)
-  by_start (inr forked) =
-      let p : ℕ → Bool = λ g. args_of (function_at P g) == 1 in
-      has_one P f (function_at P f) refl
-      (All-contains (λ x. p x ≡ true) (forkable_of P) f (filter_passes p (range_with_len 0 (length P.functions))) forked)
+begins_are_right P inputs R valid runs t i at f value there =
+    by_start (begins_rightly (setting_of P inputs) R runs.0 runs.1 runs.2 t i at f value there) where
+      by_start : MayStart (setting_of P inputs) f → (F : Function) × (function_at P f ≡ Some F) × (F.args < 2)
+      by_start (inl main) =
+          let m = valid.1.main in
+          let none = m.2 in
+          (m.0, ap (function_at P) main ∙ m.1, omega arith)
+      by_start (inr forked) =
+          let p : ℕ → Bool = λ g. args_of (function_at P g) == 1 in
+          has_one P f (function_at P f) refl
+          (All-contains (λ x. p x ≡ true) (forkable_of P) f (filter_passes p (range_with_len 0 (length P.functions))) forked)

@@ -61,15 +61,18 @@ module _ (P : Bytecode) (inputs : List ℤ) (steps : ℕ) (made : List (ℕ × L
   below_words form list numbers machine races = below_more OfRaces OfWords refl (below_races form list numbers machine) races
 
   pub below_program : S OfForm → S OfList → S OfNumbers → S OfMachine → S OfRaces → S OfWords → Below OfProgram
-  below_program form list numbers machine races words = below_more OfWords OfProgram refl (below_words form list numbers machine races) words
+  below_program form list numbers machine races words =
+      below_more OfWords OfProgram refl (below_words form list numbers machine races) words
 
   -- what an answer of a clause's call says
-  pub holds_at : (k : Clause) (o : Option StoredPlace) → MatchOption o (S k) (λ c. FailsFirst P inputs steps made k (seen c)) → o ≡ None → S k
+  pub holds_at : (k : Clause) (o : Option StoredPlace) → MatchOption o (S k) (λ c. FailsFirst P inputs steps made k (seen c)) → o ≡ None
+      → S k
   holds_at k None says is = says
   holds_at k (Some c) says is = absurd (cc)
 
   pub first_at :
-      (k : Clause) (T : Type 0) (o : Option StoredPlace) (c : StoredPlace) → MatchOption o T (λ d. FailsFirst P inputs steps made k (seen d)) →
+      (k : Clause) (T : Type 0) (o : Option StoredPlace) (c : StoredPlace)
+      → MatchOption o T (λ d. FailsFirst P inputs steps made k (seen d)) →
       o ≡ Some c → FailsFirst P inputs steps made k (seen c)
   first_at k T None c says is = absurd (cc)
   first_at k T (Some d) c says is = (let same : d ≡ c = cc in subst (λ b. FailsFirst P inputs steps made k (seen b)) same says)

@@ -117,7 +117,8 @@ no_parts (x ∷ xs) none =
 cancel : (a L : List (List ℕ)) (x : List ℕ) → a ++ L ≡ x ∷ L → a ≡ x ∷ []
 cancel [] L x e = let more : length L ≡ length (x ∷ L) = ap length e in absurd (omega arith)
 cancel (y ∷ []) L x e = let same : y ∷ L ≡ x ∷ L = e in ap (λ z. z ∷ []) (ap (head_or x) same)
-cancel (y ∷ z ∷ rest) L x e = let more : length (y ∷ z ∷ rest ++ L) ≡ length (x ∷ L) = ap length e in absurd (omega (arith, length-append rest L))
+cancel (y ∷ z ∷ rest) L x e = let more : length (y ∷ z ∷ rest ++ L) ≡ length (x ∷ L) = ap length e
+    in absurd (omega (arith, length-append rest L))
 
 last_line : (text : List ℕ) → 0 < length text → lines_of_parts (text ∷ []) ≡ text ∷ []
 last_line [] h = absurd (omega arith)
@@ -131,8 +132,10 @@ first_line rest n some (inl (k, at, feed, none)) =
     let same : n ≡ suc k = omega arith in
     let line : List ℕ = strip_carriage_return (take k rest) in
     let whole : lines rest ≡ line ∷ lines (drop (suc k) rest) =
-    ap lines_of_parts (first_parts rest k feed none) ∙ front_part (take k rest) (slice_split is_feed (drop (suc k) rest)) (some_parts (drop (suc k) rest)) in
-    let alone : lines (take (suc k) rest) ≡ line ∷ [] = cancel (lines (take (suc k) rest)) (lines (drop (suc k) rest)) line (sym (cut_after rest k feed) ∙ whole) in
+    ap lines_of_parts (first_parts rest k feed none)
+    ∙ front_part (take k rest) (slice_split is_feed (drop (suc k) rest)) (some_parts (drop (suc k) rest)) in
+    let alone : lines (take (suc k) rest) ≡ line
+    ∷ [] = cancel (lines (take (suc k) rest)) (lines (drop (suc k) rest)) line (sym (cut_after rest k feed) ∙ whole) in
     (line, rw same whole, rw same alone)
 first_line rest n some (inr (all, none)) =
     let front : take n rest ≡ rest = take_all n rest (omega arith) in
@@ -197,12 +200,17 @@ between_later text at n h (inl (k, same, feed, none)) = inr (inr (at + k, omega 
 between_later text at n h (inr (all, none)) = inr (inl (omega (arith, drop_length text at h)))
 
 end_within : (rest : List ℕ) (n : ℕ) → 0 < length rest → IsLineEnd rest n → (0 < n) × (n ≤ length rest)
-end_within rest n some (inl (k, same, feed, none)) = (omega arith, let low : k < length rest = slice_get_within rest k 10 feed in omega arith)
+end_within rest n some (inl (k, same, feed, none)) =
+    (omega arith, let low : k < length rest = slice_get_within rest k 10 feed in omega arith)
 end_within rest n some (inr (all, none)) = (omega arith, omega arith)
 
 one_more : (ls : List (List ℕ)) (line : List ℕ) → list_any begins_record ls ≡ false → begins_record line ≡ false →
     (list_any begins_record (ls ++ line ∷ []) ≡ false) × (length (ls ++ line ∷ []) ≡ length ls + 1)
-one_more ls line none not = (list_any-append begins_record ls (line ∷ []) ∙ or_from _ _ none (or_from _ _ not refl), omega (arith, length-append ls (line ∷ [])))
+one_more ls line none not = (
+  list_any-append begins_record ls (line ∷ [])
+      ∙ or_from _ _ none (or_from _ _ not refl),
+  omega (arith, length-append ls (line ∷ [])),
+)
 
 cut_later :
     (text : List ℕ) (at count n : ℕ) → IsCutSoFar text at count → at < length text → first_begins_record (lines (drop at text)) ≡ false →
@@ -213,19 +221,18 @@ cut_later text at count n c h not end =
     let (line, whole, alone) = first_line rest n (omega arith) end in
     let no : begins_record line ≡ false = sym (ap first_begins_record whole) ∙ not in
     let both : lines (take (at + n) text) ≡ lines (take at text) ++ line ∷ [] =
-    ap lines (take_sum text at n) ∙ lines_both (take at text) (take n rest) (ends_before text at h c.between) ∙ ap (λ l. lines (take at text) ++ l) alone in
+    ap lines (take_sum text at n) ∙ lines_both (take at text) (take n rest) (ends_before text at h c.between)
+    ∙ ap (λ l. lines (take at text) ++ l) alone in
     let (none, more) = one_more (lines (take at text)) line c.before no in
     let (some, fits) = end_within rest n (omega arith) end in
     record {
       within = omega arith;
       between = between_later text at n c.within end;
       before = ap (list_any begins_record) both ∙ none;
-      counted = let old : count ≡ length (lines (take at text)) = c.counted in let new : length (lines (take (at + n) text)) ≡ length (lines (take at text)) + 1 = ap length both ∙ more in omega arith;
+      counted = let old : count ≡ length (lines (take at text)) = c.counted in let new : length (lines (take (at + n) text))
+          ≡ length (lines (take at text)) + 1 = ap length both ∙ more in omega arith;
       few = let old : count ≤ at = c.few in omega arith;
     }
-
-pub cut_first : (text : List ℕ) → IsCutSoFar text 0 0
-cut_first text = record { within = omega arith; between = inl refl; before = refl; counted = refl; few = omega arith }
 
 -- ## One cut
 
@@ -246,7 +253,8 @@ some_lines (x ∷ xs) h =
       | inr e ↦
           let long : length (lines (x ∷ xs)) ≡ length (lines_of_parts (onto_first x (slice_split is_feed xs))) =
           ap (λ ps. length (lines_of_parts ps)) (slice_split-cons_no is_feed x xs e) in
-          let some : 0 < length (lines_of_parts (onto_first x (slice_split is_feed xs))) = onto_lines x (slice_split is_feed xs) (some_parts xs) in
+          let some : 0 < length (lines_of_parts (onto_first x (slice_split is_feed xs))) =
+          onto_lines x (slice_split is_feed xs) (some_parts xs) in
           omega arith
     ]
 
@@ -270,11 +278,14 @@ cut_apart text m d c e some =
     let both : lines (take (m + d) text) ≡ lines (take m text) ++ lines (take d rest) =
     ap lines (take_sum text m d) ∙ lines_both (take m text) (take d rest) (ends_before text m (omega arith) c.between) in
     let none : list_any begins_record (lines (take d rest)) ≡ false =
-    (or_parts (list_any begins_record (lines (take m text))) _ (sym (list_any-append begins_record (lines (take m text)) (lines (take d rest)))
+    (or_parts (list_any begins_record (lines (take m text))) _
+    (sym (list_any-append begins_record (lines (take m text)) (lines (take d rest)))
     ∙ sym (ap (list_any begins_record) both) ∙ e.before)).1 in
-    let whole : lines rest ≡ lines (take d rest) ++ lines (drop d rest) = lines_cut rest d (between_rest text m d some (omega arith) e.between) in
+    let whole : lines rest ≡ lines (take d rest)
+    ++ lines (drop d rest) = lines_cut rest d (between_rest text m d some (omega arith) e.between) in
     let there : 0 < length (lines (take d rest)) = some_lines (take d rest) (omega (arith, length-take d rest)) in
-    let not : first_begins_record (lines rest) ≡ false = ap first_begins_record whole ∙ first_stays (lines (take d rest)) (lines (drop d rest)) there none in
+    let not : first_begins_record (lines rest) ≡ false = ap first_begins_record whole
+    ∙ first_stays (lines (take d rest)) (lines (drop d rest)) there none in
     elim c.after [
       | inl all ↦ omega arith
       | inr begins ↦ true≢false (sym begins ∙ not)
@@ -287,7 +298,8 @@ one_cut text m n c e =
       | inl less ↦ let sum : n ≡ m + (n - m) = omega arith in absurd (cut_apart text m (n - m) c (subst (IsCutAt text) sum e) (omega arith))
       | inr at_least ↦
           elim (cases_lt n m) [
-            | inl less ↦ let sum : m ≡ n + (m - n) = omega arith in absurd (cut_apart text n (m - n) e (subst (IsCutAt text) sum c) (omega arith))
+            | inl less ↦ let sum : m ≡ n + (m - n) = omega arith
+                in absurd (cut_apart text n (m - n) e (subst (IsCutAt text) sum c) (omega arith))
             | inr same ↦ omega arith
           ]
     ]

@@ -1,7 +1,7 @@
 -- That the text of an audit has one meaning, where its two parts have.
 use Rattle.std.proofs.Common.{◌≡◌, ℕ, ℤ, ◌+◌, ◌<◌, ◌≤◌, List, length, take, drop, sym, ◌∙◌, subst, inl, inr, arith}
 use Rattle.std.specs.Str.Lines.{lines}
-use Rattle.gl_asm.specs.Texts.{IsFirstFault as IsFirstOfProgram, IsText, TellsFirst as TellsFirstOfProgram}
+use Rattle.gl_asm.specs.Texts.{IsFirstFault as IsFirstOfProgram, IsText}
 use Rattle.gl_audited.specs.declared.limits.TheConstants.{AUDIT_BYTES}
 use Rattle.gl_audited.specs.Cut.{IsCutAt}
 use Rattle.gl_audited.specs.Meaning.{IsAuditText, IsFaultOfProgram, IsFaultOfRecord, IsFirstFault, TellsFirst}
@@ -15,7 +15,8 @@ use Rattle.gl_text.specs.declared.fault.TextError.TheVariants.{Fault, Memory}
 -- ## What is known of the parts
 
 abbrev ProgramsAreApart : Type 0
-ProgramsAreApart = (text : List ℕ) (P : Bytecode) (inputs : List ℤ) (line kind : ℕ) → IsText text P inputs → IsFirstOfProgram text line kind → ⊥
+ProgramsAreApart = (text : List ℕ) (P : Bytecode) (inputs : List ℤ) (line kind : ℕ) → IsText text P inputs
+    → IsFirstOfProgram text line kind → ⊥
 
 abbrev ProgramFaultsAreOne : Type 0
 ProgramFaultsAreOne = (text : List ℕ) (a b j k : ℕ) → IsFirstOfProgram text a j → IsFirstOfProgram text b k → (a ≡ b) × (j ≡ k)
@@ -26,12 +27,14 @@ RecordsAreApart =
     IsFirstOfRecord text first line kind → ⊥
 
 abbrev RecordFaultsAreOne : Type 0
-RecordFaultsAreOne = (text : List ℕ) (first a b j k : ℕ) → IsFirstOfRecord text first a j → IsFirstOfRecord text first b k → (a ≡ b) × (j ≡ k)
+RecordFaultsAreOne = (text : List ℕ) (first a b j k : ℕ) → IsFirstOfRecord text first a j → IsFirstOfRecord text first b k → (a ≡ b)
+    × (j ≡ k)
 
 -- ## The whole text
 
 pub texts_apart :
-    ProgramsAreApart → RecordsAreApart → (text : List ℕ) (P : Bytecode) (inputs : List ℤ) (steps : ℕ) (R : List (ℕ × List Entry)) (line kind : ℕ) →
+    ProgramsAreApart → RecordsAreApart → (text : List ℕ) (P : Bytecode) (inputs : List ℤ) (steps : ℕ) (R : List (ℕ × List Entry))
+    (line kind : ℕ) →
     IsAuditText text P inputs steps R → IsFirstFault text line kind → ⊥
 texts_apart programs records text P inputs steps R line kind a (inl f) =
     let few : length text ≤ AUDIT_BYTES = a.within in
@@ -93,13 +96,6 @@ texts_one programs records text P Q xs ys m n R S a b =
     (draft, inputs, steps, made)
 
 -- ## The reader
-
-pub told_of_program :
-    (text part : List ℕ) (at : ℕ) (error : TextError) → part ≡ take at text → length text ≤ AUDIT_BYTES → IsCutAt text at →
-    TellsFirstOfProgram part error → TellsFirst text error
-told_of_program text part at (Fault f) same few cut told =
-    inr (inl (record { within = few; at = at; cut = cut; fault = subst (λ p. IsFirstOfProgram p f.line f.kind) same told }))
-told_of_program text part at (Memory e) same few cut told = told
 
 pub told_of_record :
     (text front part : List ℕ) (at count : ℕ) (P : Bytecode) (inputs : List ℤ) (error : TextError) → front ≡ take at text →

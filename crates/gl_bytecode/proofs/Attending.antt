@@ -76,10 +76,14 @@ row_minds P t locals stack Halt = refl
 row_minds P t locals stack (Throw code) = tt
 row_minds P t locals stack Nop = tt
 row_minds P t locals stack (NewObject c) = λ e. absurd (cc e)
-row_minds P t locals stack (Get k) = on_some (Get k) (object_at P (top stack)) _ (λ x. either_way (Minds (Get k)) (nat_lt k x.fields.plain) _ _ (λ e. tt) tt)
-row_minds P t locals stack (Put k) = on_some (Put k) (object_at P (second stack)) _ (λ x. either_way (Minds (Put k)) (nat_lt k x.fields.plain) _ _ (λ e. tt) tt)
-row_minds P t locals stack (Vget k) = on_some (Vget k) (object_at P (top stack)) _ (λ x. either_way (Minds (Vget k)) (nat_lt k x.fields.volatile) _ _ (λ e. absurd (cc e)) tt)
-row_minds P t locals stack (Vput k) = on_some (Vput k) (object_at P (second stack)) _ (λ x. either_way (Minds (Vput k)) (nat_lt k x.fields.volatile) _ _ (λ e. absurd (cc e)) tt)
+row_minds P t locals stack (Get k) = on_some (Get k) (object_at P (top stack)) _
+    (λ x. either_way (Minds (Get k)) (nat_lt k x.fields.plain) _ _ (λ e. tt) tt)
+row_minds P t locals stack (Put k) = on_some (Put k) (object_at P (second stack)) _
+    (λ x. either_way (Minds (Put k)) (nat_lt k x.fields.plain) _ _ (λ e. tt) tt)
+row_minds P t locals stack (Vget k) = on_some (Vget k) (object_at P (top stack)) _
+    (λ x. either_way (Minds (Vget k)) (nat_lt k x.fields.volatile) _ _ (λ e. absurd (cc e)) tt)
+row_minds P t locals stack (Vput k) = on_some (Vput k) (object_at P (second stack)) _
+    (λ x. either_way (Minds (Vput k)) (nat_lt k x.fields.volatile) _ _ (λ e. absurd (cc e)) tt)
 row_minds P t locals stack Enter = on_some Enter (object_at P (top stack)) _ (λ x e. absurd (cc e))
 row_minds P t locals stack Exit = on_some Exit (object_at P (top stack)) _ (λ x e. absurd (cc e))
 row_minds P t locals stack (Fork f) = λ e. absurd (cc e)
@@ -106,12 +110,13 @@ thrown_none P code c [] none = by_handler (handler P c.frame) where
   by_handler : (o : Option Catch) → (handled_or o code c (ending_with (Uncaught code) c)).attempt ≡ None
   by_handler None = none
   by_handler (Some h) = none
-thrown_none P code c (caller ∷ callers) none = by_handler (handler P c.frame) (thrown_none P code (record c { frame = caller; callers = callers }) callers none) where
-  by_handler :
-      (o : Option Catch) → (thrown P code (record c { frame = caller; callers = callers }) callers).attempt ≡ None →
-      (handled_or o code c (thrown P code (record c { frame = caller; callers = callers }) callers)).attempt ≡ None
-  by_handler None up = up
-  by_handler (Some h) up = none
+thrown_none P code c (caller ∷ callers) none =
+    by_handler (handler P c.frame) (thrown_none P code (record c { frame = caller; callers = callers }) callers none) where
+      by_handler :
+          (o : Option Catch) → (thrown P code (record c { frame = caller; callers = callers }) callers).attempt ≡ None →
+          (handled_or o code c (thrown P code (record c { frame = caller; callers = callers }) callers)).attempt ≡ None
+      by_handler None up = up
+      by_handler (Some h) up = none
 
 without : (d : Config) → d.attempt ≡ None → AttendsWith false d
 without d none = record { runs = ap is_some none; attends = none_attends d.attempt (ask_of d.stage) none }
@@ -120,7 +125,8 @@ any_drops : (o : Option Attempt) → Attends o (TxEnd false)
 any_drops None = tt
 any_drops (Some b) = tt
 
-failed_attends : (P : Bytecode) (failure : Failure) (c : Config) (o : Option Attempt) → c.attempt ≡ o → AttendsWith (is_some o) (failed_in o P failure c)
+failed_attends : (P : Bytecode) (failure : Failure) (c : Config) (o : Option Attempt) → c.attempt ≡ o
+    → AttendsWith (is_some o) (failed_in o P failure c)
 failed_attends P (RaisesOn code) c None is = without (raised P code c) (thrown_none P code c c.callers is)
 failed_attends P Spends c None is = without (failing P Spends c) is
 failed_attends P failure c (Some a) is = record { runs = ap is_some is; attends = any_drops c.attempt }
@@ -139,7 +145,8 @@ not_barred : (a : Attempt) (c : Config) (i : Instr) → is_refused (Some a) c i 
 not_barred a c Ret allowed = refl
 not_barred a c i allowed = allowed
 
-asks_inside : (o : Option Attempt) (c : Config) (i : Instr) (ask : Ask) → is_refused o c i ≡ false → (is_barred i ≡ false → IsAskedInside ask) → Attends o ask
+asks_inside : (o : Option Attempt) (c : Config) (i : Instr) (ask : Ask) → is_refused o c i ≡ false
+    → (is_barred i ≡ false → IsAskedInside ask) → Attends o ask
 asks_inside None c i ask allowed minds = tt
 asks_inside (Some a) c i ask allowed minds = minds (not_barred a c i allowed)
 
@@ -152,7 +159,8 @@ abbrev HasBelow : Option Attempt → List Frame → Type 0
 HasBelow None callers = Unit {0}
 HasBelow (Some a) callers = a.depth ≤ length callers
 
-returns_outside : (o : Option Attempt) (c : Config) (i : Instr) → HasBelow o c.callers → c.callers ≡ [] → is_refused o c i ≡ false → i ≡ Ret → o ≡ None
+returns_outside : (o : Option Attempt) (c : Config) (i : Instr) → HasBelow o c.callers → c.callers ≡ [] → is_refused o c i ≡ false → i
+    ≡ Ret → o ≡ None
 returns_outside None c i over none allowed is = refl
 returns_outside (Some a) c i over none allowed is =
     let refused : is_refused (Some a) c Ret ≡ false = (rw is at allowed) in
@@ -161,7 +169,8 @@ returns_outside (Some a) c i over none allowed is =
     cc
 
 done_attends :
-    (P : Bytecode) (i : Instr) (c : Config) (outcome : Outcome) → HasBelow c.attempt c.callers → is_refused c.attempt c i ≡ false → Minds i outcome →
+    (P : Bytecode) (i : Instr) (c : Config) (outcome : Outcome) → HasBelow c.attempt c.callers → is_refused c.attempt c i ≡ false
+    → Minds i outcome →
     AttendsWith (is_some c.attempt) (done P i c outcome)
 done_attends P i c OutGoes over allowed minds = same _ c.attempt refl (runs_attends c.attempt)
 done_attends P i c (Gives a) over allowed minds = same _ c.attempt refl (runs_attends c.attempt)
@@ -169,7 +178,8 @@ done_attends P i c (GivesTwo a b) over allowed minds = same _ c.attempt refl (ru
 done_attends P i c (Sets k a) over allowed minds = same _ c.attempt refl (runs_attends c.attempt)
 done_attends P i c (Jumps to) over allowed minds = same _ c.attempt refl (runs_attends c.attempt)
 done_attends P i c (Calls f) over allowed minds = by_room (length c.callers == CALLERS) where
-  by_room : (b : Bool) → AttendsWith (is_some c.attempt) (if b then failed P (RaisesOn DEPTH) c else record c { frame = entered f (in_order (args_of (function_at P f)) c.frame.stack); callers = c.frame ∷ c.callers; stage = Runs })
+  by_room : (b : Bool) → AttendsWith (is_some c.attempt) (if b then failed P (RaisesOn DEPTH) c
+      else record c { frame = entered f (in_order (args_of (function_at P f)) c.frame.stack); callers = c.frame ∷ c.callers; stage = Runs })
   by_room true = failed_attends P (RaisesOn DEPTH) c c.attempt refl
   by_room false = same _ c.attempt refl (runs_attends c.attempt)
 done_attends P i c (Returns a) over allowed minds = by_callers c.callers refl where
@@ -180,18 +190,23 @@ done_attends P i c Halts over allowed minds = same _ c.attempt refl (none_attend
 done_attends P i c (Raises code) over allowed minds = failed_attends P (RaisesOn code) c c.attempt refl
 done_attends P i c (Asks ask) over allowed minds = same _ c.attempt refl (asks_inside c.attempt c i ask allowed minds)
 
-ran_attends : (P : Bytecode) (c : Config) → HasBelow c.attempt c.callers → c.stage ≡ Runs → (o : Option Instr) → AttendsWith (is_some c.attempt) (ran P c o)
+ran_attends : (P : Bytecode) (c : Config) → HasBelow c.attempt c.callers → c.stage ≡ Runs → (o : Option Instr)
+    → AttendsWith (is_some c.attempt) (ran P c o)
 ran_attends P c over runs None = same c c.attempt refl (rw runs (runs_attends c.attempt))
 ran_attends P c over runs (Some i) = by_refusal (is_refused c.attempt c i) refl where
-  by_refusal : (b : Bool) → is_refused c.attempt c i ≡ b → AttendsWith (is_some c.attempt) (if b then failed P (RaisesOn TX_STATE) c else done P i c (row P c.thread c.frame.locals c.frame.stack i))
+  by_refusal : (b : Bool) → is_refused c.attempt c i ≡ b
+      → AttendsWith (is_some c.attempt) (if b then failed P (RaisesOn TX_STATE) c
+      else done P i c (row P c.thread c.frame.locals c.frame.stack i))
   by_refusal true refused = failed_attends P (RaisesOn TX_STATE) c c.attempt refl
   by_refusal false allowed = done_attends P i c _ over allowed (row_minds P c.thread c.frame.locals c.frame.stack i)
 
-started_attends : (P : Bytecode) (c : Config) → HasBelow c.attempt c.callers → c.stage ≡ Runs → AttendsWith (is_some c.attempt) (started P c)
+started_attends : (P : Bytecode) (c : Config) → HasBelow c.attempt c.callers → c.stage ≡ Runs
+    → AttendsWith (is_some c.attempt) (started P c)
 started_attends P c over runs = by_steps (c.counted == c.limit) where
   by_steps :
       (b : Bool) →
-      AttendsWith (is_some c.attempt) (if b then failed P Spends c else ran P (record c { counted = c.counted + 1 }) (instr_at P c.frame.function c.frame.place))
+      AttendsWith (is_some c.attempt) (if b then failed P Spends c
+      else ran P (record c { counted = c.counted + 1 }) (instr_at P c.frame.function c.frame.place))
   by_steps true = failed_attends P Spends c c.attempt refl
   by_steps false = ran_attends P (record c { counted = c.counted + 1 }) over runs (instr_at P c.frame.function c.frame.place)
 
@@ -246,7 +261,8 @@ settled_attends P c ask Gone n i there taken =
 settled_attends P c ask (Value a) n i there taken =
     rw there (told_so _ _ _ (by_value n ask a (is_some c.attempt) taken) (same _ c.attempt refl (runs_attends c.attempt)))
 settled_attends P c ask (Raise code) n i there taken =
-    told_so _ _ _ (begins_or_ends ask c) (failed_attends P (RaisesOn code) (record c { attempt = attempt_after ask c }) (attempt_after ask c) refl)
+    told_so _ _ _ (begins_or_ends ask c) (failed_attends P (RaisesOn code) (record c { attempt = attempt_after ask c })
+    (attempt_after ask c) refl)
 settled_attends P c ask Retry n i there taken = told_so _ _ _ (by_retry n ask (is_some c.attempt) taken) (again_attends c c.attempt refl)
 settled_attends P c ask (Start f a) n i there taken = absurd (no_start n ask f a taken)
 
@@ -270,8 +286,10 @@ outside None ask never attends = refl
 outside (Some a) ask never attends = absurd (never attends)
 
 next_attends :
-    (P : Bytecode) (D : Depths) (c : Config) (reply : Reply) (stage : Stage) → c.stage ≡ stage → HasBelow c.attempt c.callers → Holds P D c stage →
-    takes_at stage c.attempt reply ≡ true → Attends c.attempt (ask_of stage) → AttendsWith (runs_after (ask_of stage) (is_some c.attempt)) (next_at stage P c reply)
+    (P : Bytecode) (D : Depths) (c : Config) (reply : Reply) (stage : Stage) → c.stage ≡ stage → HasBelow c.attempt c.callers
+    → Holds P D c stage →
+    takes_at stage c.attempt reply ≡ true → Attends c.attempt (ask_of stage)
+    → AttendsWith (runs_after (ask_of stage) (is_some c.attempt)) (next_at stage P c reply)
 next_attends P D c reply New is over held taken attends = same _ c.attempt refl (none_attends c.attempt _ held.1)
 next_attends P D c reply Begins is over held taken attends = begun_attends P c reply held.1
 next_attends P D c reply Runs is over held taken attends = started_attends P c over is
@@ -289,7 +307,8 @@ lives_over : (P : Bytecode) (c : Config) (D : Depths) (a : Attempt) → c.attemp
 lives_over P c D a is lives = (let stands : AnyAttemptStands P D c.callers (Some a) = (rw is at lives.attempt) in stands.below)
 
 -- the callers that an attempt began over are there
-is_over : (P : Bytecode) (D : Depths) (c : Config) (stage : Stage) (o : Option Attempt) → c.attempt ≡ o → Holds P D c stage → Attends o (ask_of stage) → HasBelow o c.callers
+is_over : (P : Bytecode) (D : Depths) (c : Config) (stage : Stage) (o : Option Attempt) → c.attempt ≡ o → Holds P D c stage
+    → Attends o (ask_of stage) → HasBelow o c.callers
 is_over P D c stage None is holds attends = tt
 is_over P D c New (Some a) is holds attends = let none = holds.1 in cc
 is_over P D c Begins (Some a) is holds attends = absurd attends
@@ -301,6 +320,8 @@ is_over P D c (Ends ending) (Some a) is holds attends = absurd attends
 is_over P D c (Over ending) (Some a) is holds attends = absurd attends
 
 -- by a reply that it takes, a machine goes on to attend to its attempt, which began with the answer to TxBegin and ends with that to TxEnd
-pub attends_on : (P : Bytecode) (c : Config) (reply : Reply) → Fits P c → takes c reply ≡ true → AttendsWith (runs_after (ask_of c.stage) (is_some c.attempt)) (next P c reply)
+pub attends_on : (P : Bytecode) (c : Config) (reply : Reply) → Fits P c → takes c reply ≡ true
+    → AttendsWith (runs_after (ask_of c.stage) (is_some c.attempt)) (next P c reply)
 attends_on P c reply fits taken =
-    next_attends P fits.depths c reply c.stage refl (is_over P fits.depths c c.stage c.attempt refl fits.keeps fits.attends) fits.keeps taken fits.attends
+    next_attends P fits.depths c reply c.stage refl (is_over P fits.depths c c.stage c.attempt refl fits.keeps fits.attends) fits.keeps
+    taken fits.attends

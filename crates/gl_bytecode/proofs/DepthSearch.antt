@@ -124,7 +124,8 @@ popped P F ds cs c p is =
       long = p.long;
       within = all_left (λ (d : Claim). d.at < length F.code) cs (c ∷ []) p.within;
       starts = keeps 0 0 p.starts;
-      handles = all_so (λ (h : Catch). IsKnown ds (cs ++ c ∷ []) h.target 1) (λ (h : Catch). IsKnown ds cs h.target 1) F.catches (λ h. keeps h.target 1) p.handles;
+      handles = all_so (λ (h : Catch). IsKnown ds (cs ++ c ∷ []) h.target 1) (λ (h : Catch). IsKnown ds cs h.target 1) F.catches
+          (λ h. keeps h.target 1) p.handles;
       seen = λ at n i there at_depth. seen_still P ds ds (cs ++ c ∷ []) cs keeps i at n (p.seen at n i there at_depth);
       forced = λ depth are.
           let f = p.forced depth are in
@@ -145,11 +146,13 @@ claims_in : (n : ℕ) (tos : List ℕ) → AllByRecursion (λ to. IsIn (record {
 claims_in n [] = tt
 claims_in n (to ∷ tos) = (
   inl refl,
-  all_so (λ x. IsIn (record { at = x; depth = n }) (claims_after n tos)) (λ x. IsIn (record { at = x; depth = n }) (claims_after n (to ∷ tos))) tos
+  all_so (λ x. IsIn (record { at = x; depth = n }) (claims_after n tos))
+      (λ x. IsIn (record { at = x; depth = n }) (claims_after n (to ∷ tos))) tos
       (λ x there. inr there) (claims_in n tos),
 )
 
-claims_all : (Q : Claim → Type 0) (n : ℕ) (tos : List ℕ) → AllByRecursion (λ to. Q (record { at = to; depth = n })) tos → AllByRecursion Q (claims_after n tos)
+claims_all : (Q : Claim → Type 0) (n : ℕ) (tos : List ℕ) → AllByRecursion (λ to. Q (record { at = to; depth = n })) tos
+    → AllByRecursion Q (claims_after n tos)
 claims_all Q n [] all = tt
 claims_all Q n (to ∷ tos) all = (all.0, claims_all Q n tos all.1)
 
@@ -159,7 +162,8 @@ keeps_entered :
 keeps_entered ds cs more c within none to n (inl at) =
     inl (found_else ds c.at to c.depth (λ same. (let at' : found ds c.at ≡ Some n = rw (sym same) at in cc)) ∙ at)
 keeps_entered ds cs more c within none to n (inr there) = by_place (in_snoc _ c cs there) where
-  by_place : IsIn (record { at = to; depth = n }) cs ⊎ (c ≡ record { at = to; depth = n }) → IsKnown (slice_set ds c.at (Some c.depth)) (cs ++ more) to n
+  by_place : IsIn (record { at = to; depth = n }) cs ⊎ (c ≡ record { at = to; depth = n })
+      → IsKnown (slice_set ds c.at (Some c.depth)) (cs ++ more) to n
   by_place (inl in_rest) = inr (in_left _ cs more in_rest)
   by_place (inr same) =
       inl
@@ -188,20 +192,24 @@ same_there o i j first second = cc
 
 entered_seen :
     (P : Bytecode) (F : Function) (ds : List (Option ℕ)) (cs : List Claim) (c : Claim) (i : Instr) → Passing P F ds (cs ++ c ∷ []) →
-    c.at < length ds → found ds c.at ≡ None → slice_get F.code c.at ≡ Some i → needs P i ≤ c.depth → c.depth ≤ OPERANDS → (at n : ℕ) (j : Instr) →
+    c.at < length ds → found ds c.at ≡ None → slice_get F.code c.at ≡ Some i → needs P i ≤ c.depth → c.depth ≤ OPERANDS
+    → (at n : ℕ) (j : Instr) →
     slice_get F.code at ≡ Some j → found (slice_set ds c.at (Some c.depth)) at ≡ Some n →
     WasSeen P (slice_set ds c.at (Some c.depth)) (cs ++ claims_after ((c.depth - needs P i) + gives i) (successors i c.at)) j at n
 entered_seen P F ds cs c i p within none is operands room at n j there at_depth = by_place (entered_or ds c at n within at_depth) where
   after : ℕ
   after = (c.depth - needs P i) + gives i
 
-  here : WasSeen P (slice_set ds c.at (Some c.depth)) (cs ++ claims_after ((c.depth - needs P i) + gives i) (successors i c.at)) i c.at c.depth
+  here : WasSeen P (slice_set ds c.at (Some c.depth)) (cs ++ claims_after ((c.depth - needs P i) + gives i) (successors i c.at)) i c.at
+      c.depth
   here = record {
     within = room;
     operands = operands;
     onward =
-        all_so (λ to. IsIn (record { at = to; depth = (c.depth - needs P i) + gives i }) (claims_after ((c.depth - needs P i) + gives i) (successors i c.at)))
-        (λ to. IsKnown (slice_set ds c.at (Some c.depth)) (cs ++ claims_after ((c.depth - needs P i) + gives i) (successors i c.at)) to ((c.depth - needs P i) + gives i))
+        all_so (λ to. IsIn (record { at = to; depth = (c.depth - needs P i) + gives i })
+        (claims_after ((c.depth - needs P i) + gives i) (successors i c.at)))
+        (λ to. IsKnown (slice_set ds c.at (Some c.depth)) (cs ++ claims_after ((c.depth - needs P i) + gives i) (successors i c.at)) to
+        ((c.depth - needs P i) + gives i))
         (successors i c.at) (λ to there. inr (in_right _ cs _ there)) (claims_in ((c.depth - needs P i) + gives i) (successors i c.at));
   }
 
@@ -211,11 +219,14 @@ entered_seen P F ds cs c i p within none is operands room at n j there at_depth 
   by_place (inl same) =
       let there' : slice_get F.code c.at ≡ Some j = rw same.0 there in
       let same_instr : i ≡ j = same_there (slice_get F.code c.at) i j is there' in
-      let Q : Instr → ℕ → ℕ → Type 0 = λ x y z. WasSeen P (slice_set ds c.at (Some c.depth)) (cs ++ claims_after ((c.depth - needs P i) + gives i) (successors i c.at)) x y z in
+      let Q : Instr → ℕ → ℕ → Type 0 = λ x y z. WasSeen P (slice_set ds c.at (Some c.depth)) (cs
+      ++ claims_after ((c.depth - needs P i) + gives i) (successors i c.at)) x y z in
       subst (λ x. Q x at n) same_instr (subst (λ y. Q i y n) same.0 (subst (λ z. Q i c.at z) same.1 here))
   by_place (inr before) =
-      seen_still P ds (slice_set ds c.at (Some c.depth)) (cs ++ c ∷ []) (cs ++ claims_after ((c.depth - needs P i) + gives i) (successors i c.at))
-      (keeps_entered ds cs (claims_after ((c.depth - needs P i) + gives i) (successors i c.at)) c within none) j at n (p.seen at n j there before)
+      seen_still P ds (slice_set ds c.at (Some c.depth)) (cs ++ c ∷ []) (cs
+      ++ claims_after ((c.depth - needs P i) + gives i) (successors i c.at))
+      (keeps_entered ds cs (claims_after ((c.depth - needs P i) + gives i) (successors i c.at)) c within none) j at n
+      (p.seen at n j there before)
 
 entered_forced :
     (P : Bytecode) (F : Function) (ds : List (Option ℕ)) (cs : List Claim) (c : Claim) (i : Instr) → Passing P F ds (cs ++ c ∷ []) →
@@ -253,7 +264,8 @@ entered P F ds cs c i p none is operands room =
           (successors_of P F p.named p.ended c.at i is));
       starts = keeps 0 0 p.starts;
       handles =
-          all_so (λ (h : Catch). IsKnown ds (cs ++ c ∷ []) h.target 1) (λ (h : Catch). IsKnown (slice_set ds c.at (Some c.depth)) (cs ++ more) h.target 1)
+          all_so (λ (h : Catch). IsKnown ds (cs ++ c ∷ []) h.target 1)
+          (λ (h : Catch). IsKnown (slice_set ds c.at (Some c.depth)) (cs ++ more) h.target 1)
           F.catches (λ h. keeps h.target 1) p.handles;
       seen = entered_seen P F ds cs c i p within none is operands room;
       forced = entered_forced P F ds cs c i p within is;
@@ -306,34 +318,44 @@ too_many P F ds cs c i p is over has =
 
 abbrev pub first_claims : List Catch → List Claim
 first_claims catches =
-    (let c : Claim = record { at = 0; depth = 0 } in c) ∷ map (λ (h : Catch). let c : Claim = record { at = h.target; depth = 1 } in c) catches
+    (let c : Claim = record { at = 0; depth = 0 } in c)
+    ∷ map (λ (h : Catch). let c : Claim = record { at = h.target; depth = 1 } in c) catches
 
-handlers_in : (hs : List Catch) (before : List Claim) → AllByRecursion (λ (h : Catch). IsIn (record { at = h.target; depth = 1 }) (map (λ (h : Catch). let c : Claim = record { at = h.target; depth = 1 } in c) hs)) hs
+handlers_in : (hs : List Catch) (before : List Claim)
+    → AllByRecursion (λ (h : Catch). IsIn (record { at = h.target; depth = 1 })
+    (map (λ (h : Catch). let c : Claim = record { at = h.target; depth = 1 } in c) hs)) hs
 handlers_in [] before = tt
 handlers_in (h ∷ hs) before = (
   inl refl,
-  all_so (λ (k : Catch). IsIn (record { at = k.target; depth = 1 }) (map (λ (h : Catch). let c : Claim = record { at = h.target; depth = 1 } in c) hs))
-      (λ (k : Catch). IsIn (record { at = k.target; depth = 1 }) (map (λ (h : Catch). let c : Claim = record { at = h.target; depth = 1 } in c) (h ∷ hs))) hs
+  all_so (λ (k : Catch). IsIn (record { at = k.target; depth = 1 })
+      (map (λ (h : Catch). let c : Claim = record { at = h.target; depth = 1 } in c) hs))
+      (λ (k : Catch). IsIn (record { at = k.target; depth = 1 })
+      (map (λ (h : Catch). let c : Claim = record { at = h.target; depth = 1 } in c) (h ∷ hs))) hs
       (λ k there. inr there) (handlers_in hs before),
 )
 
-handlers_all : (Q : Claim → Type 0) (hs : List Catch) → AllByRecursion (λ (h : Catch). Q (record { at = h.target; depth = 1 })) hs → AllByRecursion Q (map (λ (h : Catch). let c : Claim = record { at = h.target; depth = 1 } in c) hs)
+handlers_all : (Q : Claim → Type 0) (hs : List Catch) → AllByRecursion (λ (h : Catch). Q (record { at = h.target; depth = 1 })) hs
+    → AllByRecursion Q (map (λ (h : Catch). let c : Claim = record { at = h.target; depth = 1 } in c) hs)
 handlers_all Q [] all = tt
 handlers_all Q (h ∷ hs) all = (all.0, handlers_all Q hs all.1)
 
-pub first_pass : (P : Bytecode) (F : Function) → IsNamed P F → falls_off F ≡ false → (n : ℕ) → n ≡ length F.code → Passing P F (replicate n None) (first_claims F.catches)
+pub first_pass : (P : Bytecode) (F : Function) → IsNamed P F → falls_off F ≡ false → (n : ℕ) → n ≡ length F.code
+    → Passing P F (replicate n None) (first_claims F.catches)
 first_pass P F named ended n is = record {
   named = named;
   ended = ended;
   long = length_none n ∙ is;
   within = (
     starts_there F ended,
-    handlers_all (λ (d : Claim). d.at < length F.code) F.catches (all_from (λ (h : Catch). h.target < length F.code) F.catches (catch_right P F named)),
+    handlers_all (λ (d : Claim). d.at < length F.code) F.catches
+        (all_from (λ (h : Catch). h.target < length F.code) F.catches (catch_right P F named)),
   );
   starts = inr (inl refl);
   handles =
-      all_so (λ (h : Catch). IsIn (record { at = h.target; depth = 1 }) (map (λ (h : Catch). let c : Claim = record { at = h.target; depth = 1 } in c) F.catches))
-      (λ (h : Catch). IsKnown (replicate n None) (first_claims F.catches) h.target 1) F.catches (λ h there. inr (inr there)) (handlers_in F.catches []);
+      all_so (λ (h : Catch). IsIn (record { at = h.target; depth = 1 })
+      (map (λ (h : Catch). let c : Claim = record { at = h.target; depth = 1 } in c) F.catches))
+      (λ (h : Catch). IsKnown (replicate n None) (first_claims F.catches) h.target 1) F.catches (λ h there. inr (inr there))
+      (handlers_in F.catches []);
   seen = λ at m i there at_depth. absurd (nothing at m at_depth);
   forced = λ depth are. record {
     by_depths = λ at m at_depth. absurd (nothing at m at_depth);
@@ -352,14 +374,16 @@ last_pass P F ds p = (
   found ds,
   record {
     starts = known_at_end ds 0 0 p.starts;
-    handles = all_so (λ (h : Catch). IsKnown ds [] h.target 1) (λ (h : Catch). found ds h.target ≡ Some 1) F.catches (λ h. known_at_end ds h.target 1) p.handles;
+    handles = all_so (λ (h : Catch). IsKnown ds [] h.target 1) (λ (h : Catch). found ds h.target ≡ Some 1) F.catches
+        (λ h. known_at_end ds h.target 1) p.handles;
     leads = λ at n i there at_depth.
         let seen = p.seen at n i there at_depth in
         record {
           within = seen.within;
           operands = seen.operands;
           onward =
-              all_so (λ to. IsKnown ds [] to ((n - needs P i) + gives i)) (λ to. found ds to ≡ Some ((n - needs P i) + gives i)) (successors i at)
+              all_so (λ to. IsKnown ds [] to ((n - needs P i) + gives i)) (λ to. found ds to ≡ Some ((n - needs P i) + gives i))
+              (successors i at)
               (λ to. known_at_end ds to ((n - needs P i) + gives i)) seen.onward;
         };
   },
@@ -380,7 +404,8 @@ found_is [] k d within is = absurd (omega arith)
 found_is (e ∷ ds) zero d within is = sym is
 found_is (e ∷ ds) (suc k) d within is = found_is ds k d (omega arith) is
 
-pub instr_is : (items code : List Instr) (k : ℕ) (i : Instr) → items ≡ code → k < length code → i ≡ slice_index_or items k i → slice_get code k ≡ Some i
+pub instr_is : (items code : List Instr) (k : ℕ) (i : Instr) → items ≡ code → k < length code → i ≡ slice_index_or items k i
+    → slice_get code k ≡ Some i
 instr_is items code k i same within is = slice_get_read code (length code) k i refl within (rw same at is)
 
 pub agreed :

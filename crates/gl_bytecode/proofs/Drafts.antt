@@ -15,7 +15,8 @@ set_last change (F ∷ G ∷ Fs) d some =
     rw last (ap (λ Hs. F ∷ Hs) more)
 
 -- the last function is the one that was added last
-pub with_last-push : (change : Function → Function) (Fs : List Function) (F : Function) → with_last change (Fs ++ F ∷ []) ≡ Fs ++ change F ∷ []
+pub with_last-push : (change : Function → Function) (Fs : List Function) (F : Function) → with_last change (Fs ++ F ∷ []) ≡ Fs ++ change F
+    ∷ []
 with_last-push change [] F = refl
 with_last-push change (G ∷ []) F = refl
 with_last-push change (G ∷ H ∷ Fs) F = ap (λ Is. G ∷ Is) (with_last-push change (H ∷ Fs) F)
@@ -24,7 +25,8 @@ pub written_last :
     (change : Function → Function) (Fs : List Function) (n : ℕ) (old new : Function) → n ≡ length Fs → 0 < length Fs →
     old ≡ slice_index_or Fs (n - 1) old → new ≡ change old → slice_set Fs (n - 1) new ≡ with_last change Fs
 written_last change Fs n old new many some was is =
-    let new_is : new ≡ change (slice_index_or Fs (length Fs - 1) old) = is ∙ ap change (was ∙ ap (λ k. slice_index_or Fs (k - 1) old) many) in
+    let new_is : new ≡ change (slice_index_or Fs (length Fs - 1) old) = is
+    ∙ ap change (was ∙ ap (λ k. slice_index_or Fs (k - 1) old) many) in
     rw (many, new_is) (set_last change Fs old some)
 
 pub on_ok_then : {T E : Type 0} (r : Result T E) (P Q : Type 0) → OnOk r P → (P → Q) → OnOk r Q

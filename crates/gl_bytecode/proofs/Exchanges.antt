@@ -43,7 +43,13 @@ told_of P x p q is = by_reply (reply_of p (ask_of p.config.stage) x) refl where
   by_test r true gives fits =
       let e : told_one P x p ≡ Some (made r) = rw (gives, fits) refl in
       let same : q ≡ made r = cc in
-      record { reply = r; gives = gives; fits = fits; config = ap (λ (m : Progress). m.config) same; looks = ap (λ (m : Progress). m.looks) same }
+      record {
+        reply = r;
+        gives = gives;
+        fits = fits;
+        config = ap (λ (m : Progress). m.config) same;
+        looks = ap (λ (m : Progress). m.looks) same;
+      }
   by_test r false gives fits = (let e : told_one P x p ≡ None = rw (gives, fits) refl in cc)
 
   by_reply : (o : Option Reply) → reply_of p (ask_of p.config.stage) x ≡ o → Told P x p q
@@ -161,7 +167,8 @@ no_end_quietly o p Input r is = tt
 no_end_quietly o p TxBegin r is = tt
 
 -- a look stays while its attempt runs
-looks_stay : (p : Progress) (ask : Ask) (r : Reply) (y : ℕ) (w : ℤ) → IsNoEnd ask → word_of p.looks y ≡ Some w → word_of (looks_after p ask r) y ≡ Some w
+looks_stay : (p : Progress) (ask : Ask) (r : Reply) (y : ℕ) (w : ℤ) → IsNoEnd ask → word_of p.looks y ≡ Some w
+    → word_of (looks_after p ask r) y ≡ Some w
 looks_stay p (TxEnd keep) r y w no_end is = absurd no_end
 looks_stay p (Read x) (Value a) y w no_end is = by_test (is_none p.config.attempt) (knows p x) refl refl where
   by_test : (s t : Bool) → is_none p.config.attempt ≡ s → knows p x ≡ t → word_of (looks_after p (Read x) (Value a)) y ≡ Some w
@@ -190,13 +197,16 @@ looks_stay p TxBegin r y w no_end is = is
 
 module _ (P : Bytecode) where
   -- what holds of a running attempt that has looked at y holds after one exchange more that doesn't end it
-  still_runs : (x : Exchange) (p m : Progress) → Told P x p m → IsNoEnd (ask_of p.config.stage) → is_some p.config.attempt ≡ true → is_some m.config.attempt ≡ true
+  still_runs : (x : Exchange) (p m : Progress) → Told P x p m → IsNoEnd (ask_of p.config.stage) → is_some p.config.attempt ≡ true
+      → is_some m.config.attempt ≡ true
   still_runs x p m t no_end lives = rw t.config (next_lives P p.config t.reply no_end t.fits lives)
 
-  still_known : (x : Exchange) (p m : Progress) (y : ℕ) (w : ℤ) → Told P x p m → IsNoEnd (ask_of p.config.stage) → word_of p.looks y ≡ Some w → word_of m.looks y ≡ Some w
+  still_known : (x : Exchange) (p m : Progress) (y : ℕ) (w : ℤ) → Told P x p m → IsNoEnd (ask_of p.config.stage) → word_of p.looks y
+      ≡ Some w → word_of m.looks y ≡ Some w
   still_known x p m y w t no_end is = rw t.looks (looks_stay p (ask_of p.config.stage) t.reply y w no_end is)
 
-  plain_not : (p : Progress) (ask : Ask) (o : Option Reply) → is_some p.config.attempt ≡ true → (if is_none p.config.attempt then o else None) ≡ None
+  plain_not : (p : Progress) (ask : Ask) (o : Option Reply) → is_some p.config.attempt ≡ true
+      → (if is_none p.config.attempt then o else None) ≡ None
   plain_not p ask o lives = by_attempt p.config.attempt refl where
     by_attempt : (a : Option Attempt) → p.config.attempt ≡ a → (if is_none a then o else None) ≡ None
     by_attempt None none = (let e : is_some p.config.attempt ≡ false = rw none refl in cc)
@@ -367,16 +377,22 @@ refused_word w l a n e is refused = by_known (known_word w l) refl is where
       clash (is_some w || is_some l) e n (or_left (is_some w || is_some l) (nat_lt n TX_VARIABLES) some) refused
   by_known None known word = clash (is_some w || is_some l) e n (or_right (is_some w || is_some l) (nat_lt n TX_VARIABLES) word) refused
 
-reads_same : (p : Progress) (x : ℕ) (r s : Reply) → LooksSame p (Read x) r s → is_quiet_within p (Read x) r ≡ true → is_quiet_within p (Read x) s ≡ true → r ≡ s
-reads_same p x (Value a) (Value b) look first second = by_known (known_word (word_of p.writes x) (word_of p.looks x)) refl first second where
-  by_known :
-      (o : Option ℤ) → known_word (word_of p.writes x) (word_of p.looks x) ≡ o → is_word o (nat_lt (touched p) TX_VARIABLES) a ≡ true →
-      is_word o (nat_lt (touched p) TX_VARIABLES) b ≡ true → Value a ≡ Value b
-  by_known (Some k) known one other = ap Value (one_int a b k one other)
-  by_known None known one other = ap Value (look x a b refl refl refl known)
-reads_same p x (Value a) (Raise d) look first second = absurd (refused_word (word_of p.writes x) (word_of p.looks x) a (touched p) (d == TX_TOO_LARGE) first second)
-reads_same p x (Raise c) (Value b) look first second = absurd (refused_word (word_of p.writes x) (word_of p.looks x) b (touched p) (c == TX_TOO_LARGE) second first)
-reads_same p x (Raise c) (Raise d) look first second = ap Raise (same_codes (not (knows p x)) (touched p == TX_VARIABLES) (not (knows p x)) (touched p == TX_VARIABLES) c d TX_TOO_LARGE first second)
+reads_same : (p : Progress) (x : ℕ) (r s : Reply) → LooksSame p (Read x) r s → is_quiet_within p (Read x) r ≡ true
+    → is_quiet_within p (Read x) s ≡ true → r ≡ s
+reads_same p x (Value a) (Value b) look first second =
+    by_known (known_word (word_of p.writes x) (word_of p.looks x)) refl first second where
+      by_known :
+          (o : Option ℤ) → known_word (word_of p.writes x) (word_of p.looks x) ≡ o → is_word o (nat_lt (touched p) TX_VARIABLES) a ≡ true →
+          is_word o (nat_lt (touched p) TX_VARIABLES) b ≡ true → Value a ≡ Value b
+      by_known (Some k) known one other = ap Value (one_int a b k one other)
+      by_known None known one other = ap Value (look x a b refl refl refl known)
+reads_same p x (Value a) (Raise d) look first second =
+    absurd (refused_word (word_of p.writes x) (word_of p.looks x) a (touched p) (d == TX_TOO_LARGE) first second)
+reads_same p x (Raise c) (Value b) look first second =
+    absurd (refused_word (word_of p.writes x) (word_of p.looks x) b (touched p) (c == TX_TOO_LARGE) second first)
+reads_same p x (Raise c) (Raise d) look first second =
+    ap Raise (same_codes (not (knows p x)) (touched p == TX_VARIABLES) (not (knows p x)) (touched p == TX_VARIABLES) c d TX_TOO_LARGE first
+    second)
 reads_same p x Gone s look first second = cc
 reads_same p x Retry s look first second = cc
 reads_same p x (Start f a) s look first second = cc
@@ -387,11 +403,14 @@ reads_same p x (Raise c) Gone look first second = cc
 reads_same p x (Raise c) Retry look first second = cc
 reads_same p x (Raise c) (Start f b) look first second = cc
 
-writes_same : (p : Progress) (x : ℕ) (v : ℤ) (r s : Reply) → is_quiet_within p (Write x v) r ≡ true → is_quiet_within p (Write x v) s ≡ true → r ≡ s
+writes_same : (p : Progress) (x : ℕ) (v : ℤ) (r s : Reply) → is_quiet_within p (Write x v) r ≡ true → is_quiet_within p (Write x v) s
+    ≡ true → r ≡ s
 writes_same p x v Gone Gone first second = refl
 writes_same p x v Gone (Raise d) first second = absurd (clash (knows p x) (d == TX_TOO_LARGE) (touched p) first second)
 writes_same p x v (Raise c) Gone first second = absurd (clash (knows p x) (c == TX_TOO_LARGE) (touched p) second first)
-writes_same p x v (Raise c) (Raise d) first second = ap Raise (same_codes (not (knows p x)) (touched p == TX_VARIABLES) (not (knows p x)) (touched p == TX_VARIABLES) c d TX_TOO_LARGE first second)
+writes_same p x v (Raise c) (Raise d) first second =
+    ap Raise (same_codes (not (knows p x)) (touched p == TX_VARIABLES) (not (knows p x)) (touched p == TX_VARIABLES) c d TX_TOO_LARGE first
+    second)
 writes_same p x v (Value a) s first second = cc
 writes_same p x v Retry s first second = cc
 writes_same p x v (Start f a) s first second = cc
@@ -402,7 +421,8 @@ writes_same p x v (Raise c) (Value a) first second = cc
 writes_same p x v (Raise c) Retry first second = cc
 writes_same p x v (Raise c) (Start f a) first second = cc
 
-inside_same : (p : Progress) (ask : Ask) (r s : Reply) → LooksSame p ask r s → is_quiet_within p ask r ≡ true → is_quiet_within p ask s ≡ true → r ≡ s
+inside_same : (p : Progress) (ask : Ask) (r s : Reply) → LooksSame p ask r s → is_quiet_within p ask r ≡ true → is_quiet_within p ask s
+    ≡ true → r ≡ s
 inside_same p (Read x) r s look first second = reads_same p x r s look first second
 inside_same p (Write x v) r s look first second = writes_same p x v r s first second
 inside_same p Go r s look first second = go_only p r first ∙ sym (go_only p s second)
@@ -421,7 +441,8 @@ inside_same p (Print a) r s look first second = cc
 inside_same p Input r s look first second = cc
 inside_same p (TxEnd keep) r s look first second = cc
 
-quiet_same : (p : Progress) (o : Option Attempt) (ask : Ask) (r s : Reply) → ((a : Attempt) → o ≡ Some a → LooksSame p ask r s) → is_quiet o p ask r ≡ true → is_quiet o p ask s ≡ true → r ≡ s
+quiet_same : (p : Progress) (o : Option Attempt) (ask : Ask) (r s : Reply) → ((a : Attempt) → o ≡ Some a → LooksSame p ask r s)
+    → is_quiet o p ask r ≡ true → is_quiet o p ask s ≡ true → r ≡ s
 quiet_same p None ask r s look first second = outside_only p ask r first ∙ sym (outside_only p ask s second)
 quiet_same p (Some a) ask r s look first second = inside_same p ask r s (look a refl) first second
 
@@ -465,7 +486,8 @@ module _ (P : Bytecode) where
       cc
   same_first (Quiet s) (Quiet t) xs ys p m n q r one other more also es over too =
       ap Quiet (quiet_same p p.config.attempt (ask_of p.config.stage) s t looks (quietly s m one) (quietly t n other)) where
-        quietly : (v : Reply) (k : Progress) → told_one P (Quiet v) p ≡ Some k → is_quiet p.config.attempt p (ask_of p.config.stage) v ≡ true
+        quietly : (v : Reply) (k : Progress) → told_one P (Quiet v) p ≡ Some k → is_quiet p.config.attempt p (ask_of p.config.stage) v
+            ≡ true
         quietly v k is = (let u = told_of P (Quiet v) p k is in (when_true _ v u.reply u.gives).0)
 
         looks : (a : Attempt) → p.config.attempt ≡ Some a → LooksSame p (ask_of p.config.stage) s t
@@ -510,5 +532,6 @@ forced P p q r (x ∷ xs) (y ∷ ys) one other es over too made also =
     let second : told_one P x p ≡ Some b.mid = rw same b.first in
     let mids : a.mid ≡ b.mid = some_same (told_one P x p) a.mid b.mid a.first second in
     let rest : told P a.mid ys ≡ Some r = rw mids b.rest in
-    let tails = forced P a.mid q r xs ys a.rest rest (tail_entries x y xs ys same es) over too (tail_made x xs made) (tail_made y ys also) in
+    let tails = forced P a.mid q r xs ys a.rest rest (tail_entries x y xs ys same es) over too (tail_made x xs made) (tail_made y ys also)
+    in
     rw (same, tails) refl

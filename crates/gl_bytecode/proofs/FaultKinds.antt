@@ -71,7 +71,8 @@ of_place P F at = by_test (nat_lt at (length F.code)) where
   by_test true = of_option (instr_fault P F) (slice_get F.code at) (of_instr P F)
   by_test false =
       of_option (catch_fault F) (slice_get F.catches (at - length F.code))
-      (λ c. of_unless (nat_lt c.target (length F.code) && nat_le c.from c.to && nat_le c.to (length F.code)) BAD_JUMP (omega arith, omega arith))
+      (λ c. of_unless (nat_lt c.target (length F.code) && nat_le c.from c.to && nat_le c.to (length F.code)) BAD_JUMP
+      (omega arith, omega arith))
 
 of_some : (o : Option ℕ) (kind : ℕ) → o ≡ Some kind → IfSome o IsKind → IsKind kind
 of_some None kind e is = cc

@@ -54,7 +54,8 @@ pub all_from : {X : Type 0} (Q : X → Type 0) (xs : List X) → ((k : ℕ) (x :
 all_from Q [] each = tt
 all_from Q (x ∷ xs) each = (each 0 x refl, all_from Q xs (λ k y is. each (suc k) y is))
 
-pub all_with : {X : Type 0} (Q R S : X → Type 0) (xs : List X) → ((x : X) → Q x → R x → S x) → AllByRecursion Q xs → AllByRecursion R xs → AllByRecursion S xs
+pub all_with : {X : Type 0} (Q R S : X → Type 0) (xs : List X) → ((x : X) → Q x → R x → S x) → AllByRecursion Q xs → AllByRecursion R xs
+    → AllByRecursion S xs
 all_with Q R S [] join q r = tt
 all_with Q R S (x ∷ xs) join q r = (join x q.0 r.0, all_with Q R S xs join q.1 r.1)
 
@@ -118,19 +119,22 @@ successors_there F at (Either to) target next = (target, (next refl, tt))
 abbrev pub IsNamed : Bytecode → Function → Type 0
 IsNamed P F = (at : ℕ) → fault_at P F at ≡ None
 
-pub instr_right : (P : Bytecode) (F : Function) → IsNamed P F → (at : ℕ) (i : Instr) → slice_get F.code at ≡ Some i → instr_fault P F i ≡ None
+pub instr_right : (P : Bytecode) (F : Function) → IsNamed P F → (at : ℕ) (i : Instr) → slice_get F.code at ≡ Some i → instr_fault P F i
+    ≡ None
 instr_right P F named at i is =
     let within = slice_get_within F.code at i is in
     let passes : nat_lt at (length F.code) ≡ true = grind (arith, nat_tests) in
     (rw (passes, is) at (named at))
 
-pub catch_named : (P : Bytecode) (F : Function) → IsNamed P F → (k : ℕ) (c : Catch) → slice_get F.catches k ≡ Some c → catch_fault F c ≡ None
+pub catch_named : (P : Bytecode) (F : Function) → IsNamed P F → (k : ℕ) (c : Catch) → slice_get F.catches k ≡ Some c → catch_fault F c
+    ≡ None
 catch_named P F named k c is =
     let past : nat_lt (length F.code + k) (length F.code) ≡ false = grind (arith, nat_tests) in
     let back : (length F.code + k) - length F.code ≡ k = omega arith in
     (rw (past, back, is) at (named (length F.code + k)))
 
-pub catch_right : (P : Bytecode) (F : Function) → IsNamed P F → (k : ℕ) (c : Catch) → slice_get F.catches k ≡ Some c → c.target < length F.code
+pub catch_right : (P : Bytecode) (F : Function) → IsNamed P F → (k : ℕ) (c : Catch) → slice_get F.catches k ≡ Some c
+    → c.target < length F.code
 catch_right P F named k c is =
     let all = holds _ _ (catch_named P F named k c is) in
     let target = (both _ _ (both _ _ all).0).0 in
@@ -157,7 +161,8 @@ clipped_there F depth at within = (let passes : nat_lt at (length F.code) ≡ tr
 
 within_clip : (F : Function) (depth : ℕ → Option ℕ) (at n : ℕ) → clipped F depth at ≡ Some n → (at < length F.code) × (depth at ≡ Some n)
 within_clip F depth at n is = by_test (nat_lt at (length F.code)) refl is where
-  by_test : (b : Bool) → nat_lt at (length F.code) ≡ b → (if b then depth at else None) ≡ Some n → (at < length F.code) × (depth at ≡ Some n)
+  by_test : (b : Bool) → nat_lt at (length F.code) ≡ b → (if b then depth at else None) ≡ Some n → (at < length F.code)
+      × (depth at ≡ Some n)
   by_test true passes is = (less at (length F.code) passes, is)
   by_test false fails is = cc
 

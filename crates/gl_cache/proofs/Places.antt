@@ -24,16 +24,20 @@ shown_now st q is = (let e : (q.stamp == st) ≡ true = eq-eqb q.stamp st is in 
 
 shown_past : (st : ℕ) (q : Slot) → q.stamp < st → shown st q ≡ None
 shown_past st q less = by_test (q.stamp == st) refl where
-  by_test : (b : Bool) → (q.stamp == st) ≡ b → (if b then Some (let w : Word = record { value = q.value; dirty = q.dirty } in w) else None) ≡ None
+  by_test : (b : Bool) → (q.stamp == st) ≡ b → (if b then Some (let w : Word = record { value = q.value; dirty = q.dirty } in w) else None)
+      ≡ None
   by_test true e = absurd (let p : q.stamp ≡ st = eqb-true q.stamp st e in omega arith)
   by_test false e = refl
 
 -- where a place shows a changed word, that is its value
-pub shown_value : (st : ℕ) (q : Slot) (a : ℤ) → shown st q ≡ Some (record { value = a; dirty = true }) → shown st q ≡ Some (record { value = q.value; dirty = true })
+pub shown_value : (st : ℕ) (q : Slot) (a : ℤ) → shown st q ≡ Some (record { value = a; dirty = true }) → shown st q
+    ≡ Some (record { value = q.value; dirty = true })
 shown_value st q a is = by_test (q.stamp == st) is where
   by_test :
-      (b : Bool) → (if b then Some (let w : Word = record { value = q.value; dirty = q.dirty } in w) else None) ≡ Some (record { value = a; dirty = true }) →
-      (if b then Some (let w : Word = record { value = q.value; dirty = q.dirty } in w) else None) ≡ Some (record { value = q.value; dirty = true })
+      (b : Bool) → (if b then Some (let w : Word = record { value = q.value; dirty = q.dirty } in w) else None)
+      ≡ Some (record { value = a; dirty = true }) →
+      (if b then Some (let w : Word = record { value = q.value; dirty = q.dirty } in w) else None)
+      ≡ Some (record { value = q.value; dirty = true })
   by_test true e = (let w : (let v : Word = record { value = q.value; dirty = q.dirty } in v) ≡ record { value = a; dirty = true } = cc in
       let dirty : q.dirty ≡ true = ap (λ (v : Word). v.dirty) w in rw dirty refl)
   by_test false e = cc
@@ -41,10 +45,12 @@ shown_value st q a is = by_test (q.stamp == st) is where
 -- where each place has an earlier stamp, there is no word
 pub no_words_shown : (st : ℕ) (slots : List Slot) → length slots ≡ VARIABLES → All (λ q. q.stamp < st) slots → words_in st slots ≡ no_words
 no_words_shown st slots long past =
-    same_lists (words_in st slots) no_words (length-map slots (shown st) ∙ long ∙ sym (length-replicate {A = Option Word} VARIABLES None)) (λ k d less.
+    same_lists (words_in st slots) no_words (length-map slots (shown st) ∙ long ∙ sym (length-replicate {A = Option Word} VARIABLES None))
+    (λ k d less.
     (let within : k < length slots = (rw (length-map slots (shown st)) at less) in
     let near : k < VARIABLES = (rw long at within) in
-    get_or-map (shown st) slots k no_slot d within ∙ shown_past st (get_or slots k no_slot) (All-get_or (λ q. q.stamp < st) slots k no_slot within past)
+    get_or-map (shown st) slots k no_slot d within
+    ∙ shown_past st (get_or slots k no_slot) (All-get_or (λ q. q.stamp < st) slots k no_slot within past)
     ∙ sym (get_or-replicate {A = Option Word} VARIABLES k None d near)))
 
 abbrev nones : ℕ → Words
@@ -63,12 +69,17 @@ no_word_at x a is = (let t : ◌≡◌ {A = Option Word} None (Some (record { va
 
 -- places without a word, and no bit
 pub fresh_slots :
-    (st : ℕ) (slots : List Slot) (bits : List ℕ) → length slots ≡ VARIABLES → 0 < st → All (λ q. q.stamp < st) slots → ((x : ℕ) → HasBit bits x → ⊥) → AreSlots slots st bits
+    (st : ℕ) (slots : List Slot) (bits : List ℕ) → length slots ≡ VARIABLES → 0 < st → All (λ q. q.stamp < st) slots
+    → ((x : ℕ) → HasBit bits x → ⊥) → AreSlots slots st bits
 fresh_slots st slots bits long some past none = record {
   long = long;
   some = some;
   past = All-weaker (λ (q : Slot). q.stamp < st) (λ q. q.stamp ≤ st) (λ q less. (omega arith)) slots past;
-  changed = λ x. (λ h. absurd (none x h), λ e. (let is : IsChanged no_words x e.0 = rw (no_words_shown st slots long past) at e.1 in absurd (no_word_at x e.0 is)));
+  changed = λ x. (
+    λ h. absurd (none x h),
+    λ e. (let is : IsChanged no_words x e.0 = rw (no_words_shown st slots long past) at e.1
+        in absurd (no_word_at x e.0 is)),
+  );
 }
 
 word_same : (ws : Words) (x : ℕ) (w : Option Word) → x < length ws → word_at (set ws x w) x ≡ w
@@ -77,7 +88,8 @@ word_same ws x w within = get_or-set_same ws x w None within
 word_other : (ws : Words) (x y : ℕ) (w : Option Word) → y ≢ x → word_at (set ws x w) y ≡ word_at ws y
 word_other ws x y w other = get_or-set_other ws x y w None other
 
-module _ (slots : List Slot) (st : ℕ) (bits : List ℕ) (are : AreSlots slots st bits) (x : ℕ) (near : x < VARIABLES) (q : Slot) (past : q.stamp ≤ st) where
+module _ (slots : List Slot) (st : ℕ) (bits : List ℕ) (are : AreSlots slots st bits) (x : ℕ) (near : x < VARIABLES) (q : Slot)
+    (past : q.stamp ≤ st) where
   within : x < length (words_in st slots)
   within = rw (length-map slots (shown st), are.long) near
 
@@ -86,7 +98,8 @@ module _ (slots : List Slot) (st : ℕ) (bits : List ℕ) (are : AreSlots slots 
 
   -- a changed word in the place of that of x
   pub slots_changed :
-      (bits' : List ℕ) (a : ℤ) → shown st q ≡ Some (record { value = a; dirty = true }) → ((y : ℕ) → HasBit bits' y ↔ ((y ≡ x) ⊎ HasBit bits y)) → AreSlots (set slots x q) st bits'
+      (bits' : List ℕ) (a : ℤ) → shown st q ≡ Some (record { value = a; dirty = true })
+      → ((y : ℕ) → HasBit bits' y ↔ ((y ≡ x) ⊎ HasBit bits y)) → AreSlots (set slots x q) st bits'
   unfolding within moved
   slots_changed bits' a is bit = record {
     long = length-set slots x q ∙ are.long;
@@ -106,7 +119,8 @@ module _ (slots : List Slot) (st : ℕ) (bits : List ℕ) (are : AreSlots slots 
 
   -- one that was not changed
   pub slots_clean :
-      (bits' : List ℕ) → ((a : ℤ) → shown st q ≡ Some (record { value = a; dirty = true }) → ⊥) → ((y : ℕ) → HasBit bits' y ↔ ((y ≢ x) × HasBit bits y)) → AreSlots (set slots x q) st bits'
+      (bits' : List ℕ) → ((a : ℤ) → shown st q ≡ Some (record { value = a; dirty = true }) → ⊥)
+      → ((y : ℕ) → HasBit bits' y ↔ ((y ≢ x) × HasBit bits y)) → AreSlots (set slots x q) st bits'
   unfolding within moved
   slots_clean bits' clean bit = record {
     long = length-set slots x q ∙ are.long;
@@ -127,15 +141,18 @@ module _ (slots : List Slot) (st : ℕ) (bits : List ℕ) (are : AreSlots slots 
 -- a word that counts as unchanged
 pub unchanged : (st : ℕ) (q : Slot) → shown st (record { stamp = q.stamp; value = q.value; dirty = false }) ≡ clean_word (shown st q)
 unchanged st q = by_test (q.stamp == st) where
-  by_test : (b : Bool) → (if b then Some (let w : Word = record { value = q.value; dirty = false } in w) else None) ≡ clean_word (if b then Some (let w : Word = record { value = q.value; dirty = q.dirty } in w) else None)
+  by_test : (b : Bool) → (if b then Some (let w : Word = record { value = q.value; dirty = false } in w) else None)
+      ≡ clean_word (if b then Some (let w : Word = record { value = q.value; dirty = q.dirty } in w) else None)
   by_test true = refl
   by_test false = refl
 
 never_changed : (o : Option Word) (a : ℤ) → clean_word o ≡ Some (record { value = a; dirty = true }) → ⊥
 never_changed None a is = cc
-never_changed (Some w) a is = (let e : (record w { dirty = false }) ≡ record { value = a; dirty = true } = cc in let t : false ≡ true = ap (λ (v : Word). v.dirty) e in cc)
+never_changed (Some w) a is = (let e : (record w { dirty = false }) ≡ record { value = a; dirty = true } = cc in let t : false
+    ≡ true = ap (λ (v : Word). v.dirty) e in cc)
 
-pub clean_shows : (st : ℕ) (q : Slot) (a : ℤ) → shown st (record { stamp = q.stamp; value = q.value; dirty = false }) ≡ Some (record { value = a; dirty = true }) → ⊥
+pub clean_shows : (st : ℕ) (q : Slot) (a : ℤ) → shown st (record { stamp = q.stamp; value = q.value; dirty = false })
+    ≡ Some (record { value = a; dirty = true }) → ⊥
 clean_shows st q a is = never_changed (shown st q) a (sym (unchanged st q) ∙ is)
 
 -- ## Places that were emptied
@@ -144,9 +161,11 @@ long_none : (slots : List Slot) → slots ≡ replicate VARIABLES no_slot → le
 long_none slots is = ap length is ∙ length-replicate {A = Slot} VARIABLES no_slot
 
 past_none : (slots : List Slot) → slots ≡ replicate VARIABLES no_slot → All (λ q. q.stamp < 1) slots
-past_none slots is = All-same (λ (q : Slot). q.stamp < 1) slots (replicate VARIABLES no_slot) is (All-replicate (λ (q : Slot). q.stamp < 1) VARIABLES no_slot (omega arith))
+past_none slots is = All-same (λ (q : Slot). q.stamp < 1) slots (replicate VARIABLES no_slot) is
+    (All-replicate (λ (q : Slot). q.stamp < 1) VARIABLES no_slot (omega arith))
 
-pub wiped_slots : (slots : List Slot) (bits : List ℕ) → slots ≡ replicate VARIABLES no_slot → ((x : ℕ) → HasBit bits x → ⊥) → AreSlots slots 1 bits
+pub wiped_slots : (slots : List Slot) (bits : List ℕ) → slots ≡ replicate VARIABLES no_slot → ((x : ℕ) → HasBit bits x → ⊥)
+    → AreSlots slots 1 bits
 wiped_slots slots bits is none = fresh_slots 1 slots bits (long_none slots is) (omega arith) (past_none slots is) none
 
 pub wiped_words : (slots : List Slot) → slots ≡ replicate VARIABLES no_slot → words_in 1 slots ≡ no_words
@@ -156,7 +175,8 @@ wiped_words slots is = no_words_shown 1 slots (long_none slots is) (past_none sl
 later : (slots : List Slot) (st : ℕ) (bits : List ℕ) → AreSlots slots st bits → All (λ q. q.stamp < st + 1) slots
 later slots st bits are = All-weaker (λ (q : Slot). q.stamp ≤ st) (λ q. q.stamp < st + 1) (λ q less. (omega arith)) slots are.past
 
-pub later_slots : (slots : List Slot) (st : ℕ) (old bits : List ℕ) → AreSlots slots st old → ((x : ℕ) → HasBit bits x → ⊥) → AreSlots slots (st + 1) bits
+pub later_slots : (slots : List Slot) (st : ℕ) (old bits : List ℕ) → AreSlots slots st old → ((x : ℕ) → HasBit bits x → ⊥)
+    → AreSlots slots (st + 1) bits
 later_slots slots st old bits are none = fresh_slots (st + 1) slots bits are.long (omega arith) (later slots st old are) none
 
 pub later_words : (slots : List Slot) (st : ℕ) (old : List ℕ) → AreSlots slots st old → words_in (st + 1) slots ≡ no_words
@@ -164,26 +184,35 @@ later_words slots st old are = no_words_shown (st + 1) slots are.long (later slo
 
 -- ## A word that is put, cleaned, or found changed
 
-pub put_shows : (st : ℕ) (value : ℤ) (dirty : Bool) → shown st (record { stamp = st; value = value; dirty = dirty }) ≡ Some (record { value = value; dirty = dirty })
+pub put_shows : (st : ℕ) (value : ℤ) (dirty : Bool) → shown st (record { stamp = st; value = value; dirty = dirty })
+    ≡ Some (record { value = value; dirty = dirty })
 put_shows st value dirty = shown_now st (record { stamp = st; value = value; dirty = dirty }) refl
 
-pub put_clean : (st : ℕ) (value a : ℤ) → shown st (record { stamp = st; value = value; dirty = false }) ≡ Some (record { value = a; dirty = true }) → ⊥
+pub put_clean : (st : ℕ) (value a : ℤ) → shown st (record { stamp = st; value = value; dirty = false })
+    ≡ Some (record { value = a; dirty = true }) → ⊥
 put_clean st value a is =
-    let e : Some (let w : Word = record { value = value; dirty = false } in w) ≡ Some (record { value = a; dirty = true }) = sym (put_shows st value false) ∙ is in
+    let e : Some (let w : Word = record { value = value; dirty = false } in w)
+    ≡ Some (record { value = a; dirty = true }) = sym (put_shows st value false) ∙ is in
     let w : (let v : Word = record { value = value; dirty = false } in v) ≡ record { value = a; dirty = true } = cc in
     let t : false ≡ true = ap (λ (v : Word). v.dirty) w in
     cc
 
-pub put_words : (slots : List Slot) (st x : ℕ) (value : ℤ) (dirty : Bool) → words_in st (set slots x (record { stamp = st; value = value; dirty = dirty })) ≡ with_word x (record { value = value; dirty = dirty }) (words_in st slots)
+pub put_words : (slots : List Slot) (st x : ℕ) (value : ℤ) (dirty : Bool)
+    → words_in st (set slots x (record { stamp = st; value = value; dirty = dirty }))
+    ≡ with_word x (record { value = value; dirty = dirty }) (words_in st slots)
 put_words slots st x value dirty =
-    map-set (shown st) slots x (record { stamp = st; value = value; dirty = dirty }) ∙ ap (λ w. set (words_in st slots) x w) (put_shows st value dirty)
+    map-set (shown st) slots x (record { stamp = st; value = value; dirty = dirty })
+    ∙ ap (λ w. set (words_in st slots) x w) (put_shows st value dirty)
 
-pub clean_words : (slots : List Slot) (st x : ℕ) (q : Slot) → x < length slots → q ≡ get_or slots x q → words_in st (set slots x (record { stamp = q.stamp; value = q.value; dirty = false })) ≡ cleaned x (words_in st slots)
+pub clean_words : (slots : List Slot) (st x : ℕ) (q : Slot) → x < length slots → q ≡ get_or slots x q
+    → words_in st (set slots x (record { stamp = q.stamp; value = q.value; dirty = false })) ≡ cleaned x (words_in st slots)
 clean_words slots st x q within is =
     map-set (shown st) slots x (record { stamp = q.stamp; value = q.value; dirty = false })
-    ∙ ap (λ w. set (words_in st slots) x w) (unchanged st q ∙ ap (λ p. clean_word (shown st p)) is ∙ ap clean_word (sym (shows st slots x q within)))
+    ∙ ap (λ w. set (words_in st slots) x w) (unchanged st q ∙ ap (λ p. clean_word (shown st p)) is
+    ∙ ap clean_word (sym (shows st slots x q within)))
 
-pub changed_value : (slots : List Slot) (st x : ℕ) (q : Slot) (a : ℤ) → x < length slots → q ≡ get_or slots x q → IsChanged (words_in st slots) x a → IsChanged (words_in st slots) x q.value
+pub changed_value : (slots : List Slot) (st x : ℕ) (q : Slot) (a : ℤ) → x < length slots → q ≡ get_or slots x q
+    → IsChanged (words_in st slots) x a → IsChanged (words_in st slots) x q.value
 changed_value slots st x q a within is changed =
     let at : word_at (words_in st slots) x ≡ shown st q = shows st slots x q within ∙ ap (shown st) (sym is) in
     at ∙ shown_value st q a (sym at ∙ changed)
@@ -193,6 +222,7 @@ changed_near slots st x a long changed = elim (cases_lt x VARIABLES) [
   | inl near ↦ near
   | inr past ↦
       (let beyond : length (words_in st slots) ≤ x = rw (length-map slots (shown st), long) past in
-      let e : ◌≡◌ {A = Option Word} None (Some (record { value = a; dirty = true })) = sym (get_or_past (words_in st slots) x None beyond) ∙ changed in
+      let e : ◌≡◌ {A = Option Word} None (Some (record { value = a; dirty = true })) = sym (get_or_past (words_in st slots) x None beyond)
+      ∙ changed in
       cc)
 ]

@@ -36,7 +36,8 @@ module _ (words : List ℕ) (k : ℕ) (n : k / 64 < length words) where
   word = get_or words (k / 64) 0
 
   -- the words with another in the place of the bit k
-  bit_kept : (w : ℕ) → ((i : ℕ) → i < 64 → i ≢ k % 64 → bit_at w i ≡ bit_at word i) → (j : ℕ) → j ≢ k → bit_at (get_or (set words (k / 64) w) (j / 64) 0) (j % 64) ≡ bit_at (get_or words (j / 64) 0) (j % 64)
+  bit_kept : (w : ℕ) → ((i : ℕ) → i < 64 → i ≢ k % 64 → bit_at w i ≡ bit_at word i) → (j : ℕ) → j ≢ k
+      → bit_at (get_or (set words (k / 64) w) (j / 64) 0) (j % 64) ≡ bit_at (get_or words (j / 64) 0) (j % 64)
   unfolding word
   bit_kept w rest j ne = elim (same_or_other (j / 64) (k / 64)) [
     | inl same ↦
@@ -50,7 +51,8 @@ module _ (words : List ℕ) (k : ℕ) (n : k / 64 < length words) where
   bit_here w b is = rw (get_or-set_same words (k / 64) w 0 n) is
 
   -- with the bit k set
-  pub HasBit-with_bit : (j : ℕ) → HasBit (set words (k / 64) (bit_or (get_or words (k / 64) 0) (1 * 2 ^ (k % 64) % 2 ^ 64))) j ↔ ((j ≡ k) ⊎ HasBit words j)
+  pub HasBit-with_bit : (j : ℕ) → HasBit (set words (k / 64) (bit_or (get_or words (k / 64) 0) (1 * 2 ^ (k % 64) % 2 ^ 64))) j ↔ ((j ≡ k)
+      ⊎ HasBit words j)
   unfolding word HasBit
   HasBit-with_bit j =
       let w = bit_or (get_or words (k / 64) 0) (1 * 2 ^ (k % 64) % 2 ^ 64) in
@@ -63,15 +65,19 @@ module _ (words : List ℕ) (k : ℕ) (n : k / 64 < length words) where
       ]
 
   -- without the bit k
-  pub HasBit-without_bit : (j : ℕ) → HasBit (set words (k / 64) (bit_and (get_or words (k / 64) 0) (bit_not w64 (1 * 2 ^ (k % 64) % 2 ^ 64)))) j ↔ ((j ≢ k) × HasBit words j)
+  pub HasBit-without_bit : (j : ℕ) → HasBit
+      (set words (k / 64) (bit_and (get_or words (k / 64) 0) (bit_not w64 (1 * 2 ^ (k % 64) % 2 ^ 64)))) j ↔ ((j ≢ k) × HasBit words j)
   unfolding word HasBit
   HasBit-without_bit j =
       let w = bit_and (get_or words (k / 64) 0) (bit_not w64 (1 * 2 ^ (k % 64) % 2 ^ 64)) in
       let b : k % 64 < 64 = omega arith in
       elim (same_or_other j k) [
         | inl same ↦
-            (let gone = bit_here w 0 (bit_at_clear_same w64 (get_or words (k / 64) 0) (k % 64) b) in
-            (λ h. (let h' : bit_at (get_or (set words (k / 64) w) (k / 64) 0) (k % 64) ≡ 1 = (rw same at h) in let t : 0 ≡ 1 = sym gone ∙ h' in absurd (omega arith)), λ h. absurd (h.0 same)))
+            (let gone = bit_here w 0 (bit_at_clear_same w64 (get_or words (k / 64) 0) (k % 64) b) in (
+              λ h. (let h' : bit_at (get_or (set words (k / 64) w) (k / 64) 0) (k % 64) ≡ 1 = (rw same at h) in let t : 0 ≡ 1 = sym gone
+                  ∙ h' in absurd (omega arith)),
+              λ h. absurd (h.0 same),
+            ))
         | inr other ↦
             (let kept = bit_kept w (λ i within ne. bit_at_clear_other w64 (get_or words (k / 64) 0) (k % 64) b i within ne) j other in
             (λ h. (other, sym kept ∙ h), λ h. kept ∙ h.1))
@@ -79,7 +85,8 @@ module _ (words : List ℕ) (k : ℕ) (n : k / 64 < length words) where
 
 -- ## The least
 
-pub none_more : (words : List ℕ) (k : ℕ) → get_or words k 0 ≡ 0 → ((y : ℕ) → y < 64 * k → HasBit words y → ⊥) → (y : ℕ) → y < 64 * (k + 1) → HasBit words y → ⊥
+pub none_more : (words : List ℕ) (k : ℕ) → get_or words k 0 ≡ 0 → ((y : ℕ) → y < 64 * k → HasBit words y → ⊥) → (y : ℕ) → y < 64 * (k + 1)
+    → HasBit words y → ⊥
 unfolding HasBit
 none_more words k zero' none y below h = elim (same_or_other (y / 64) k) [
   | inl same ↦ zero_word (get_or words (y / 64) 0) (y % 64) (ap (λ i. get_or words i 0) same ∙ zero') h

@@ -33,14 +33,13 @@ pub count_more : (t : Tally) (xs : List Judged) (x : Judged) → fold one_line t
 count_more t [] x = refl
 count_more t (y ∷ xs) x = count_more (one_line t y) xs x
 
-pub none_given : (d : Detector) (j : SlowJudge) (t new : Tally) → new ≡ one_trace t → Follows [] d → FollowsPlainly [] j → AreGiven [] d j t new
-none_given d j t new count fast plain = record { lines = []; count = count; said = refl; right = λ k l e. absurd (cc); fast = fast; plain = plain }
-
 -- lines whose steps are a front of a clean trace are sound
-front_sound : (lines : List Line) (trace more : List Step) → steps_of lines ++ more ≡ trace → All IsStep trace → AreClean trace → AreSound lines
+front_sound : (lines : List Line) (trace more : List Step) → steps_of lines ++ more ≡ trace → All IsStep trace → AreClean trace
+    → AreSound lines
 front_sound lines trace more whole all clean = record {
   in_range = λ k l e.
-      let said : slice_get (steps_of lines) k ≡ Some (l.thread, l.item) = slice_get-map (λ (m : Line). (m.thread, m.item)) lines k ∙ ap (option_map (λ (m : Line). (m.thread, m.item))) e in
+      let said : slice_get (steps_of lines) k ≡ Some (l.thread, l.item) = slice_get-map (λ (m : Line). (m.thread, m.item)) lines k
+      ∙ ap (option_map (λ (m : Line). (m.thread, m.item))) e in
       in_trace k (l.thread, l.item) said;
   clean = λ k s e.
       let near = slice_get_within (steps_of lines) k s e in
@@ -56,19 +55,23 @@ front_sound lines trace more whole all clean = record {
         let at = there k s e in
         subst IsStep (get_or_from_slice_get trace k s s at) (All-get_or IsStep trace k s (slice_get_within trace k s at) all)
 
-module _ (trace : List Step) (all : All IsStep trace) (clean : AreClean trace) (k : ℕ) (r : Step) (less : k < length trace) (is : r ≡ get_or trace k r) (d d' : Detector) (j j' : SlowJudge) (t now now' : Tally) (given : AreGiven (take k trace) d j t now) (a b : Judged)
+module _ (trace : List Step) (all : All IsStep trace) (clean : AreClean trace) (k : ℕ) (r : Step) (less : k < length trace) (is : r
+    ≡ get_or trace k r) (d d' : Detector) (j j' : SlowJudge) (t now now' : Tally) (given : AreGiven (take k trace) d j t now) (a b : Judged)
     (fast : IsStepped r.0 r.1 a d d') (plain : IsPlainlyStepped r.0 r.1 b j j') where
   abbrev line : Judged → Line
   line judged = record { thread = r.0; item = r.1; judged = judged }
 
   said_more : (judged : Judged) → steps_of (given.lines ++ line judged ∷ []) ≡ take (k + 1) trace
-  said_more judged = steps_push given.lines (line judged) ∙ ap (λ ss. ss ++ r ∷ []) given.said ∙ ap (λ s. take k trace ++ s ∷ []) is ∙ sym (take_more trace k r less)
+  said_more judged = steps_push given.lines (line judged) ∙ ap (λ ss. ss ++ r ∷ []) given.said ∙ ap (λ s. take k trace ++ s ∷ []) is
+      ∙ sym (take_more trace k r less)
 
   sound : (judged : Judged) → AreSound (given.lines ++ line judged ∷ [])
-  sound judged = front_sound (given.lines ++ line judged ∷ []) trace (drop (k + 1) trace) (ap (λ ss. ss ++ drop (k + 1) trace) (said_more judged) ∙ take-append-drop (k + 1) trace) all clean
+  sound judged = front_sound (given.lines ++ line judged ∷ []) trace (drop (k + 1) trace)
+      (ap (λ ss. ss ++ drop (k + 1) trace) (said_more judged) ∙ take-append-drop (k + 1) trace) all clean
 
   pub same_said : a ≡ b
-  same_said = settled_law given.lines r.0 r.1 a b (sound a) (fast given.lines (sound a) given.right given.fast).0 (plain given.lines (sound b) given.right given.plain).0
+  same_said = settled_law given.lines r.0 r.1 a b (sound a) (fast given.lines (sound a) given.right given.fast).0
+      (plain given.lines (sound b) given.right given.plain).0
 
   pub given_more : now' ≡ one_line now a → AreGiven (take (k + 1) trace) d' j' t now'
   given_more more' = record {
@@ -78,9 +81,11 @@ module _ (trace : List Step) (all : All IsStep trace) (clean : AreClean trace) (
     said = said_more a;
     right = (fast given.lines (sound a) given.right given.fast).0;
     fast = (fast given.lines (sound a) given.right given.fast).1;
-    plain = subst (λ c. FollowsPlainly (given.lines ++ line c ∷ []) j') (sym same_said) (plain given.lines (sound b) given.right given.plain).1;
+    plain = subst (λ c. FollowsPlainly (given.lines ++ line c ∷ []) j') (sym same_said)
+        (plain given.lines (sound b) given.right given.plain).1;
   }
 
 -- all of a trace was given
-pub all_given : (trace : List Step) (k : ℕ) (d : Detector) (j : SlowJudge) (t now : Tally) → length trace ≤ k → AreGiven (take k trace) d j t now → (judged : List Judged) × AreJudged trace judged × (now ≡ counted t judged)
+pub all_given : (trace : List Step) (k : ℕ) (d : Detector) (j : SlowJudge) (t now : Tally) → length trace ≤ k
+    → AreGiven (take k trace) d j t now → (judged : List Judged) × AreJudged trace judged × (now ≡ counted t judged)
 all_given trace k d j t now past g = (map (λ l. l.judged) g.lines, (g.lines, g.said ∙ take_all k trace past, refl, g.right), g.count)

@@ -21,7 +21,11 @@ abbrev pub one_trace : Tally → Tally
 one_trace t = record t { traces = min (t.traces + 1) (2 ^ 64 - 1) }
 
 abbrev pub one_line : Tally → Judged → Tally
-one_line t judged = record t { lines = min (t.lines + 1) (2 ^ 64 - 1); raised = if is_raised judged then min (t.raised + 1) (2 ^ 64 - 1) else t.raised }
+one_line t judged = record t {
+  lines = min (t.lines + 1) (2 ^ 64 - 1);
+  raised = if is_raised judged then min (t.raised + 1) (2 ^ 64 - 1)
+      else t.raised;
+}
 
 -- a trace more, of whose lines this is said
 abbrev pub counted : Tally → List Judged → Tally

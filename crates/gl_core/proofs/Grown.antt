@@ -13,7 +13,13 @@ use Rattle.gl_core.specs.Stands.{IsEpochOf, AreMarksOf, LatestStands}
 use Rattle.gl_core.proofs.Marking.{zero_at}
 
 pub untouched_stands : (x : ℕ) → LatestStands x [] untouched
-untouched_stands x = record { writer = tt; last_write = (refl, refl); reads_long = refl; parts_long = refl; reads = λ t. (zero_at THREADS t, zero_at THREADS t) }
+untouched_stands x = record {
+  writer = tt;
+  last_write = (refl, refl);
+  reads_long = refl;
+  parts_long = refl;
+  reads = λ t. (zero_at THREADS t, zero_at THREADS t);
+}
 
 -- the marks of an epoch are those of its draw
 epoch_marks : (e : Epoch) (d : Draw) → IsEpochOf e d → AreMarksOf (plain_mark e) (commit_mark e) (Some d)
@@ -25,7 +31,13 @@ epoch_marks e d is = (
 module _ (x : ℕ) (ds : List Draw) (l : Marks) (s : LatestStands x ds l) (d : Draw) where
   -- a number is drawn for what is no performed access
   pub stays : is_write x d.what ≡ false → is_read x d.what ≡ false → LatestStands x (d ∷ ds) l
-  stays w r = record { writer = rw w s.writer; last_write = rw w s.last_write; reads_long = s.reads_long; parts_long = s.parts_long; reads = λ t. rw (w, r) (s.reads t) }
+  stays w r = record {
+    writer = rw w s.writer;
+    last_write = rw w s.last_write;
+    reads_long = s.reads_long;
+    parts_long = s.parts_long;
+    reads = λ t. rw (w, r) (s.reads t);
+  }
 
   module _ (near : d.thread < THREADS) (e : Epoch) (is : IsEpochOf e d) where
     there : e.thread < length l.reads
@@ -34,22 +46,35 @@ module _ (x : ℕ) (ds : List Draw) (l : Marks) (s : LatestStands x ds l) (d : D
     there_too : e.thread < length l.parts
     there_too = let n = s.parts_long in let t = is.thread in omega arith
 
-    by_read : (u : ℕ) → AreMarksOf (at (set l.reads e.thread (plain_mark e)) u) (at (set l.parts e.thread (commit_mark e)) u) (if d.thread == u then Some d else last_read x u ds)
+    by_read : (u : ℕ) → AreMarksOf (at (set l.reads e.thread (plain_mark e)) u) (at (set l.parts e.thread (commit_mark e)) u)
+        (if d.thread == u then Some d else last_read x u ds)
     by_read u = elim (ℕ_discrete d.thread u) [
       | yes same ↦
           (let b : (d.thread == u) ≡ true = eq-eqb d.thread u same in
-          let r : at (set l.reads e.thread (plain_mark e)) u ≡ plain_mark e = ap (at (set l.reads e.thread (plain_mark e))) (sym (is.thread ∙ same)) ∙ get_or-set_same l.reads e.thread (plain_mark e) 0 there in
-          let p : at (set l.parts e.thread (commit_mark e)) u ≡ commit_mark e = ap (at (set l.parts e.thread (commit_mark e))) (sym (is.thread ∙ same)) ∙ get_or-set_same l.parts e.thread (commit_mark e) 0 there_too in
+          let r : at (set l.reads e.thread (plain_mark e)) u
+          ≡ plain_mark e = ap (at (set l.reads e.thread (plain_mark e))) (sym (is.thread ∙ same))
+          ∙ get_or-set_same l.reads e.thread (plain_mark e) 0 there in
+          let p : at (set l.parts e.thread (commit_mark e)) u
+          ≡ commit_mark e = ap (at (set l.parts e.thread (commit_mark e))) (sym (is.thread ∙ same))
+          ∙ get_or-set_same l.parts e.thread (commit_mark e) 0 there_too in
           rw (b, r, p) (epoch_marks e d is))
       | no other ↦
           (let b : (d.thread == u) ≡ false = ne_eqb d.thread u other in
-          let r : at (set l.reads e.thread (plain_mark e)) u ≡ at l.reads u = get_or-set_other l.reads e.thread u (plain_mark e) 0 (λ z. other (sym is.thread ∙ sym z)) in
-          let p : at (set l.parts e.thread (commit_mark e)) u ≡ at l.parts u = get_or-set_other l.parts e.thread u (commit_mark e) 0 (λ z. other (sym is.thread ∙ sym z)) in
+          let r : at (set l.reads e.thread (plain_mark e)) u
+          ≡ at l.reads u = get_or-set_other l.reads e.thread u (plain_mark e) 0 (λ z. other (sym is.thread ∙ sym z)) in
+          let p : at (set l.parts e.thread (commit_mark e)) u
+          ≡ at l.parts u = get_or-set_other l.parts e.thread u (commit_mark e) 0 (λ z. other (sym is.thread ∙ sym z)) in
           rw (b, r, p) (s.reads u))
     ]
 
     pub noted_stands : (w : Bool) → is_write x d.what ≡ w → is_read x d.what ≡ not w → LatestStands x (d ∷ ds) (noted w e l)
-    noted_stands true iw ir = record { writer = rw iw is.thread; last_write = rw iw (epoch_marks e d is); reads_long = refl; parts_long = refl; reads = λ u. rw iw (zero_at THREADS u, zero_at THREADS u) }
+    noted_stands true iw ir = record {
+      writer = rw iw is.thread;
+      last_write = rw iw (epoch_marks e d is);
+      reads_long = refl;
+      parts_long = refl;
+      reads = λ u. rw iw (zero_at THREADS u, zero_at THREADS u);
+    }
     noted_stands false iw ir = record {
       writer = rw iw s.writer;
       last_write = rw iw s.last_write;

@@ -57,16 +57,19 @@ pub marks_at : (known : ℕ → ℕ) (u : ℕ) (ms : List ℕ) → marks_fail kn
 marks_at known u [] e = absurd (cc)
 marks_at known u (m ∷ ms) e = elim (or_cases (nat_lt (known u) m) (marks_fail known (u + 1) ms) e) [
   | inl a ↦ (0, (let z : u + 0 ≡ u = omega arith in subst (λ k. nat_lt (known k) m ≡ true) (sym z) a))
-  | inr b ↦ (let r = marks_at known (u + 1) ms b in (suc r.0, (let z : u + 1 + r.0 ≡ u + suc r.0 = omega arith in subst (λ k. nat_lt (known k) (at ms r.0) ≡ true) z r.1)))
+  | inr b ↦ (let r = marks_at known (u + 1) ms b
+      in (suc r.0, (let z : u + 1 + r.0 ≡ u + suc r.0 = omega arith in subst (λ k. nat_lt (known k) (at ms r.0) ≡ true) z r.1)))
 ]
 
 -- or none does
 pub marks_none : (known : ℕ → ℕ) (u : ℕ) (ms : List ℕ) → marks_fail known u ms ≡ false → (t : ℕ) → nat_lt (known (u + t)) (at ms t) ≡ false
 marks_none known u [] e t = none_unknown (known (u + t)) 0 refl
-marks_none known u (m ∷ ms) e zero = let z : u + 0 ≡ u = omega arith in subst (λ k. nat_lt (known k) m ≡ false) (sym z) (or_none (nat_lt (known u) m) (marks_fail known (u + 1) ms) e).0
+marks_none known u (m ∷ ms) e zero = let z : u + 0 ≡ u = omega arith
+    in subst (λ k. nat_lt (known k) m ≡ false) (sym z) (or_none (nat_lt (known u) m) (marks_fail known (u + 1) ms) e).0
 marks_none known u (m ∷ ms) e (suc t) =
     let z : u + 1 + t ≡ u + suc t = omega arith in
-    subst (λ k. nat_lt (known k) (at ms t) ≡ false) z (marks_none known (u + 1) ms (or_none (nat_lt (known u) m) (marks_fail known (u + 1) ms) e).1 t)
+    subst (λ k. nat_lt (known k) (at ms t) ≡ false) z
+    (marks_none known (u + 1) ms (or_none (nat_lt (known u) m) (marks_fail known (u + 1) ms) e).1 t)
 
 first_place : (known : ℕ → ℕ) (ms : List ℕ) (b : Bool) (t : ℕ) → nat_lt (known (0 + t)) (at ms t) ≡ b → nat_lt (known t) (at ms t) ≡ b
 first_place known ms b t e = let z : 0 + t ≡ t = omega arith in subst (λ k. nat_lt (known k) (at ms t) ≡ b) z e
@@ -78,7 +81,8 @@ pub no_mark : (known : ℕ → ℕ) (ms : List ℕ) → marks_fail known 0 ms �
 no_mark known ms e t = first_place known ms false t (marks_none known 0 ms e t)
 
 -- where one thread alone may have a mark, its mark decides
-pub only_mark : (known : ℕ → ℕ) (ms : List ℕ) (r : ℕ) → ((u : ℕ) → (u ≡ r → ⊥) → at ms u ≡ 0) → nat_lt (known r) (at ms r) ≡ marks_fail known 0 ms
+pub only_mark : (known : ℕ → ℕ) (ms : List ℕ) (r : ℕ) → ((u : ℕ) → (u ≡ r → ⊥) → at ms u ≡ 0) → nat_lt (known r) (at ms r)
+    ≡ marks_fail known 0 ms
 only_mark known ms r alone = by (marks_fail known 0 ms) refl
   where
     by : (b : Bool) → marks_fail known 0 ms ≡ b → nat_lt (known r) (at ms r) ≡ b

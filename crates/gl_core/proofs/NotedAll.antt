@@ -16,19 +16,22 @@ set_twice (x ∷ xs) (suc i) a = ap (λ ys. x ∷ ys) (set_twice xs i a)
 noted_twice : (w : Bool) (e : Epoch) (l : Marks) → noted w e (noted w e l) ≡ noted w e l
 noted_twice true e l = refl
 noted_twice false e l =
-    ap (λ reads. record l { reads = reads; parts = set (set l.parts e.thread (commit_mark e)) e.thread (commit_mark e) }) (set_twice l.reads e.thread (plain_mark e))
+    ap (λ reads. record l { reads = reads; parts = set (set l.parts e.thread (commit_mark e)) e.thread (commit_mark e) })
+    (set_twice l.reads e.thread (plain_mark e))
     ∙ ap (λ parts. record l { reads = set l.reads e.thread (plain_mark e); parts = parts }) (set_twice l.parts e.thread (commit_mark e))
 
 abbrev Part : List ℕ → List ℕ → Epoch → List Marks → ℕ → Marks
 Part xs writes e latests y = if is_in y xs then noted (is_in y writes) e (latest_of latests y) else latest_of latests y
 
-module _ (items writes : List ℕ) (i : ℕ) (e : Epoch) (now new : List Marks) (n : i < length items) (w : Bool) (told : w ≡ is_in (get_or items i 0) writes)
+module _ (items writes : List ℕ) (i : ℕ) (e : Epoch) (now new : List Marks) (n : i < length items) (w : Bool) (told : w
+    ≡ is_in (get_or items i 0) writes)
     (is : (y : ℕ) → latest_of new y ≡ (if y == get_or items i 0 then noted w e (latest_of now y) else latest_of now y)) where
   split : drop i items ≡ get_or items i 0 ∷ drop (i + 1) items
   split = rw add-one (drop-cons items i 0 n)
 
   here : (y : ℕ) → y ≡ get_or items i 0 → latest_of new y ≡ noted (is_in y writes) e (latest_of now y)
-  here y same = is y ∙ ap (λ b. if b then noted w e (latest_of now y) else latest_of now y) (eq-eqb y (get_or items i 0) same) ∙ ap (λ b. noted b e (latest_of now y)) (told ∙ ap (λ z. is_in z writes) (sym same))
+  here y same = is y ∙ ap (λ b. if b then noted w e (latest_of now y) else latest_of now y) (eq-eqb y (get_or items i 0) same)
+      ∙ ap (λ b. noted b e (latest_of now y)) (told ∙ ap (λ z. is_in z writes) (sym same))
 
   there : (y : ℕ) → (y ≡ get_or items i 0 → ⊥) → latest_of new y ≡ latest_of now y
   there y other = is y ∙ ap (λ b. if b then noted w e (latest_of now y) else latest_of now y) (ne_eqb y (get_or items i 0) other)
@@ -36,24 +39,32 @@ module _ (items writes : List ℕ) (i : ℕ) (e : Epoch) (now new : List Marks) 
   pub noted_on : (y : ℕ) → Part (drop (i + 1) items) writes e new y ≡ Part (drop i items) writes e now y
   noted_on y = elim (ℕ_discrete y (get_or items i 0)) [
     | yes same ↦
-        (let b : Part (drop i items) writes e now y ≡ noted (is_in y writes) e (latest_of now y) = rw (split, eq-eqb y (get_or items i 0) same) refl in
+        (let b : Part (drop i items) writes e now y
+        ≡ noted (is_in y writes) e (latest_of now y) = rw (split, eq-eqb y (get_or items i 0) same) refl in
         by (is_in y (drop (i + 1) items)) (latest_of new y) (here y same) ∙ sym b)
     | no other ↦ rw (split, ne_eqb y (get_or items i 0) other, there y other) refl
   ]
     where
-      by : (b : Bool) (l : Marks) → l ≡ noted (is_in y writes) e (latest_of now y) → (if b then noted (is_in y writes) e l else l) ≡ noted (is_in y writes) e (latest_of now y)
+      by : (b : Bool) (l : Marks) → l ≡ noted (is_in y writes) e (latest_of now y) → (if b then noted (is_in y writes) e l else l)
+          ≡ noted (is_in y writes) e (latest_of now y)
       by true l h = ap (noted (is_in y writes) e) h ∙ noted_twice (is_in y writes) e (latest_of now y)
       by false l h = h
 
 -- so are its clocks raised
-module _ (items : List ℕ) (i : ℕ) (n : i < length items) (by : ℕ → ℕ) (old new : ℕ → ℕ → ℕ) (joined : (j u : ℕ) → new j u ≡ (if j == get_or items i 0 then max (old j u) (by u) else old j u)) where
-  pub raised_on : (x u : ℕ) → (if is_in x (drop (i + 1) items) then max (new x u) (by u) else new x u) ≡ (if is_in x (drop i items) then max (old x u) (by u) else old x u)
+module _ (items : List ℕ) (i : ℕ) (n : i < length items) (by : ℕ → ℕ) (old new : ℕ → ℕ → ℕ) (joined : (j u : ℕ) → new j u
+    ≡ (if j == get_or items i 0 then max (old j u) (by u) else old j u)) where
+  pub raised_on : (x u : ℕ) → (if is_in x (drop (i + 1) items) then max (new x u) (by u) else new x u)
+      ≡ (if is_in x (drop i items) then max (old x u) (by u) else old x u)
   raised_on x u = elim (ℕ_discrete x (get_or items i 0)) [
     | yes same ↦
-        (let a : new x u ≡ max (old x u) (by u) = joined x u ∙ ap (λ b. if b then max (old x u) (by u) else old x u) (eq-eqb x (get_or items i 0) same) in
-        let b : (if is_in x (drop i items) then max (old x u) (by u) else old x u) ≡ max (old x u) (by u) = rw (parts, eq-eqb x (get_or items i 0) same) refl in
+        (let a : new x u ≡ max (old x u) (by u) = joined x u
+        ∙ ap (λ b. if b then max (old x u) (by u) else old x u) (eq-eqb x (get_or items i 0) same) in
+        let b : (if is_in x (drop i items) then max (old x u) (by u) else old x u)
+        ≡ max (old x u) (by u) = rw (parts, eq-eqb x (get_or items i 0) same) refl in
         both (is_in x (drop (i + 1) items)) (new x u) a ∙ sym b)
-    | no other ↦ (let a : new x u ≡ old x u = joined x u ∙ ap (λ b. if b then max (old x u) (by u) else old x u) (ne_eqb x (get_or items i 0) other) in rw (parts, ne_eqb x (get_or items i 0) other, a) refl)
+    | no other ↦ (let a : new x u ≡ old x u = joined x u
+        ∙ ap (λ b. if b then max (old x u) (by u) else old x u) (ne_eqb x (get_or items i 0) other)
+        in rw (parts, ne_eqb x (get_or items i 0) other, a) refl)
   ]
     where
       parts : drop i items ≡ get_or items i 0 ∷ drop (i + 1) items

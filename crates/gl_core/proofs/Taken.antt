@@ -12,32 +12,41 @@ use Rattle.gl_core.specs.Cells.{cell}
 use Rattle.gl_core.specs.TablesView.{clocks_in}
 use Rattle.gl_core.proofs.Marking.{zero_at}
 
-module _ (h : List Stamp) (s : Stamp) (C C1 C2 : Clocks) (n : ℕ) (same : (y : Element) (u : ℕ) → C y u ≡ clocks h y u) (long : n ≡ length h) (known by own : ℕ → ℕ)
-    (k : (u : ℕ) → known u ≡ taken C s u) (b : (u : ℕ) → by u ≡ (if u == s.thread then n + 1 else known u)) (r : (y : Element) (u : ℕ) → C1 y u ≡ (if is_released s.event y then max (C y u) (by u) else C y u))
-    (q : (u : ℕ) → own u ≡ (if u == s.thread then n + 2 else by u)) (p : (y : Element) (u : ℕ) → C2 y u ≡ (if is_thread s.thread y then own u else C1 y u)) where
+module _ (h : List Stamp) (s : Stamp) (C C1 C2 : Clocks) (n : ℕ) (same : (y : Element) (u : ℕ) → C y u ≡ clocks h y u) (long : n
+    ≡ length h) (known by own : ℕ → ℕ)
+    (k : (u : ℕ) → known u ≡ taken C s u) (b : (u : ℕ) → by u ≡ (if u == s.thread then n + 1 else known u)) (r : (y : Element) (u : ℕ)
+    → C1 y u ≡ (if is_released s.event y then max (C y u) (by u) else C y u))
+    (q : (u : ℕ) → own u ≡ (if u == s.thread then n + 2 else by u)) (p : (y : Element) (u : ℕ) → C2 y u
+    ≡ (if is_thread s.thread y then own u else C1 y u)) where
   by_is : (u : ℕ) → by u ≡ handed C n s u
   by_is u = b u ∙ ap (λ z. if u == s.thread then n + 1 else z) (k u)
 
   own_is : (u : ℕ) → own u ≡ kept C n s u
-  own_is u = q u ∙ ap (λ z. if u == s.thread then n + 2 else z) (b u) ∙ here (u == s.thread) ∙ ap (λ z. if u == s.thread then n + 2 else z) (k u)
+  own_is u = q u ∙ ap (λ z. if u == s.thread then n + 2 else z) (b u) ∙ here (u == s.thread)
+      ∙ ap (λ z. if u == s.thread then n + 2 else z) (k u)
     where
       here : (c : Bool) → (if c then n + 2 else (if c then n + 1 else known u)) ≡ (if c then n + 2 else known u)
       here true = refl
       here false = refl
 
   after_is : (y : Element) (u : ℕ) → C2 y u ≡ after_event C n s y u
-  after_is y u = p y u ∙ ap (λ z. if is_thread s.thread y then z else C1 y u) (own_is u) ∙ ap (λ z. if is_thread s.thread y then kept C n s u else z) (r y u ∙ ap (λ z. if is_released s.event y then max (C y u) z else C y u) (by_is u))
+  after_is y u = p y u ∙ ap (λ z. if is_thread s.thread y then z else C1 y u) (own_is u)
+      ∙ ap (λ z. if is_thread s.thread y then kept C n s u else z) (r y u
+      ∙ ap (λ z. if is_released s.event y then max (C y u) z else C y u) (by_is u))
 
   pub moved_on : (y : Element) (u : ℕ) → C2 y u ≡ clocks (h ++ s ∷ []) y u
   moved_on y u =
       let eq : C ≡ clocks h = (λ i z v. same z v i) in
-      after_is y u ∙ ap (λ (D : Clocks). after_event D n s y u) eq ∙ ap (λ m. after_event (clocks h) m s y u) long ∙ ap (λ (D : Clocks). D y u) (sym (clocks_push h s))
+      after_is y u ∙ ap (λ (D : Clocks). after_event D n s y u) eq ∙ ap (λ m. after_event (clocks h) m s y u) long
+      ∙ ap (λ (D : Clocks). D y u) (sym (clocks_push h s))
 
 pub one_longer : (h : List Stamp) (s : Stamp) (n m : ℕ) → n ≡ length h → m ≡ n → m + 1 ≡ length (h ++ s ∷ [])
 one_longer h s n m e f = omega (arith, length_push h s)
 
 -- nothing is known at the start
-pub first_known : (s : Tables) → ((t u : ℕ) → clocks_in s (Thread t) u ≡ 0) → ((o u : ℕ) → clocks_in s (Monitor o) u ≡ 0) → ((v u : ℕ) → clocks_in s (Volatile v) u ≡ 0) → ((x u : ℕ) → clocks_in s (Var x) u ≡ 0) → (y : Element) (u : ℕ) → clocks_in s y u ≡ clocks [] y u
+pub first_known : (s : Tables) → ((t u : ℕ) → clocks_in s (Thread t) u ≡ 0) → ((o u : ℕ) → clocks_in s (Monitor o) u ≡ 0)
+    → ((v u : ℕ) → clocks_in s (Volatile v) u ≡ 0) → ((x u : ℕ) → clocks_in s (Var x) u ≡ 0) → (y : Element) (u : ℕ) → clocks_in s y u
+    ≡ clocks [] y u
 first_known s a b c d (Thread t) u = a t u
 first_known s a b c d Tx u = refl
 first_known s a b c d (Monitor o) u = b o u

@@ -25,6 +25,7 @@ is_commit (Some xs) = true
 -- over draws of which all was said rightly, a next access is racy exactly where what is kept fails by what its thread knows
 abbrev pub EpochsTell : Type 0
 EpochsTell =
-    (setting : Setting) (h : List Stamp) (now : State) → Allows setting h now → (u : ℕ) → now.threads u ≡ Running → (x : ℕ) (ds : List Draw) → DrawsHold h x ds →
+    (setting : Setting) (h : List Stamp) (now : State) → Allows setting h now → (u : ℕ) → now.threads u ≡ Running
+    → (x : ℕ) (ds : List Draw) → DrawsHold h x ds →
     (l : Marks) → LatestStands x ds l → (v : Option (List ℕ)) (write : Bool) (f : Entry) → IsNextOn x v f → (write ≡ true) ↔ Writes f x →
     (latest_fails (known_next h u v) (is_commit v) write l ≡ true) ↔ IsRacyNext h x ds u v f

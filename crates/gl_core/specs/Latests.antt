@@ -27,7 +27,13 @@ part_fails known writes latests y = latest_fails known true (is_in y writes) (la
 
 -- an access is the last write, and drops the reads, or its thread's last read
 abbrev pub noted : Bool → Epoch → Marks → Marks
-noted true e l = record { writer = e.thread; written = plain_mark e; committed = commit_mark e; reads = replicate THREADS 0; parts = replicate THREADS 0 }
+noted true e l = record {
+  writer = e.thread;
+  written = plain_mark e;
+  committed = commit_mark e;
+  reads = replicate THREADS 0;
+  parts = replicate THREADS 0;
+}
 noted false e l = record l { reads = slice_set l.reads e.thread (plain_mark e); parts = slice_set l.parts e.thread (commit_mark e) }
 
 -- a plain access of a thread that knows so much of itself
@@ -37,5 +43,6 @@ plain_epoch t own = record { thread = t; mark = own; commit = false }
 -- a plain access is raised where what is kept fails, and noted where it does not
 abbrev pub PlainDone : (ℕ → ℕ) → Marks → ℕ → ℕ → Bool → Judged → Marks → Type 0
 PlainDone known old t x write NoAccess new = ⊥
-PlainDone known old t x write Performed new = (latest_fails known false write old ≡ false) × (new ≡ noted write (plain_epoch t (known t)) old)
+PlainDone known old t x write Performed new = (latest_fails known false write old ≡ false)
+    × (new ≡ noted write (plain_epoch t (known t)) old)
 PlainDone known old t x write (Raised var) new = (var ≡ x) × (latest_fails known false write old ≡ true) × (new ≡ old)

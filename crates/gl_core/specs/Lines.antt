@@ -22,7 +22,8 @@ abbrev pub CommitDone : (ℕ → ℕ) → List Marks → ℕ → ℕ → List �
 CommitDone known old t n variables writes NoAccess new = ⊥
 CommitDone known old t n variables writes Performed new =
     (find (part_fails known writes old) variables ≡ None) ×
-    ((y : ℕ) → latest_of new y ≡ (if is_in y variables then noted (is_in y writes) (commit_epoch t n) (latest_of old y) else latest_of old y))
+    ((y : ℕ) → latest_of new y ≡ (if is_in y variables then noted (is_in y writes) (commit_epoch t n) (latest_of old y)
+    else latest_of old y))
 CommitDone known old t n variables writes (Raised x) new = (find (part_fails known writes old) variables ≡ Some x) × (new ≡ old)
 
 -- and the clocks go on by it

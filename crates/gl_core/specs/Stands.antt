@@ -17,7 +17,8 @@ pub record IsEpochOf (e : Epoch) (d : Draw) : Type 0 where
 abbrev pub AreMarksOf : ℕ → ℕ → Option Draw → Type 0
 AreMarksOf plain commit None = (plain ≡ 0) × (commit ≡ 0)
 AreMarksOf plain commit (Some d) =
-    (plain ≡ (if is_some (variables_in d.what) then 0 else tick (access_of d) + 1)) × (commit ≡ (if is_some (variables_in d.what) then tick (access_of d) + 1 else 0))
+    (plain ≡ (if is_some (variables_in d.what) then 0 else tick (access_of d) + 1))
+    × (commit ≡ (if is_some (variables_in d.what) then tick (access_of d) + 1 else 0))
 
 abbrev pub IsWriterOf : ℕ → Option Draw → Type 0
 IsWriterOf t None = Unit {0}

@@ -14,7 +14,9 @@ use Rattle.gl_laws.proofs.NextLaw.{plain_not}
 use Rattle.gl_draws.specs.Verdicts.{Precedes}
 
 -- d is an entry that is no event, in the block of the event at q; c is another, whose access is a
-module _ (R : Lists) (h : List Stamp) (is_list : IsEventList h R) (rise : PositionsRise R) (c : Place) (a : Access) (stood : StandsFor R c a) (d : Place) (f : Entry) (here : EntryAt R d f) (no_event : (p : ℕ) → position_of f ≡ Some p → ⊥) (q : ℕ) (of_d : IsBlockOf R d q) where
+module _ (R : Lists) (h : List Stamp) (is_list : IsEventList h R) (rise : PositionsRise R) (c : Place) (a : Access)
+    (stood : StandsFor R c a) (d : Place) (f : Entry) (here : EntryAt R d f) (no_event : (p : ℕ) → position_of f ≡ Some p → ⊥) (q : ℕ)
+    (of_d : IsBlockOf R d q) where
   -- what comes before by steps comes before the block of the entry
   pub by_steps_precedes : c.thread ≢ d.thread → TransitiveClosure (OrdersDirectly R) c d → Precedes h a d.thread q
   by_steps_precedes apart k = elim (chain_reaches R h is_list rise c a stood k) [ inl lt ↦ absurd (apart lt.0) | inr u ↦ from u ]
@@ -25,7 +27,10 @@ module _ (R : Lists) (h : List Stamp) (is_list : IsEventList h R) (rise : Positi
         event = u.event;
         here = is_list.listed u.place u.position u.event u.made;
         own = event_thread u.made ∙ u.own;
-        within = elim (up_to R h is_list rise u.place (record { thread = d.thread; index = of_d.index }) u.position q u.event of_d.event u.made of_d.made u.own (of_d.last u.place.index u.position u.event (moved (same_place u.place (record { thread = d.thread; index = u.place.index }) u.own refl) u.made) u.before)) [ inl same ↦ (let e' : u.position ≡ q = same in omega arith) | inr lt ↦ (let l : u.position < q = lt in omega arith) ];
+        within = elim (up_to R h is_list rise u.place (record { thread = d.thread; index = of_d.index }) u.position q u.event of_d.event
+            u.made of_d.made u.own (of_d.last u.place.index u.position u.event
+            (moved (same_place u.place (record { thread = d.thread; index = u.place.index }) u.own refl) u.made) u.before))
+            [ inl same ↦ (let e' : u.position ≡ q = same in omega arith) | inr lt ↦ (let l : u.position < q = lt in omega arith) ];
         reached = u.reached;
       }
 
@@ -49,10 +54,12 @@ module _ (R : Lists) (h : List Stamp) (is_list : IsEventList h R) (rise : Positi
       lt = elim (cases_lt b.0.index d.index) [
         | inl less ↦ less
         | inr ge ↦ absurd (elim (eq-or-lt_of_le ge) [
-          | inl same ↦ no_event p.position (rw (same_entry R b.0 b.1.entry f b.1.there (subst (λ z. EntryAt R z f) (sym (same_place b.0 d t (sym same))) here)) at b.1.position)
+          | inl same ↦ no_event p.position (rw (same_entry R b.0 b.1.entry f b.1.there
+              (subst (λ z. EntryAt R z f) (sym (same_place b.0 d t (sym same))) here)) at b.1.position)
           | inr less ↦
               (let w = of_d.within in
-              let r : q < p.position = rise (record { thread = d.thread; index = of_d.index }) b.0 q p.position of_d.event p.event of_d.made b.1 (sym t, omega arith) in
+              let r : q < p.position = rise (record { thread = d.thread; index = of_d.index }) b.0 q p.position of_d.event p.event
+              of_d.made b.1 (sym t, omega arith) in
               let v = p.within in omega arith)
         ])
       ]

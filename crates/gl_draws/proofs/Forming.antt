@@ -16,7 +16,8 @@ use Rattle.gl_draws.proofs.Pushes.{at_kept, at_cases, at_within}
 use Rattle.gl_draws.specs.Cached.{IsLastValue}
 use Rattle.gl_draws.specs.Forming.{events_by, IsFormed, MayStore}
 
-right_kept : (es : List Entry) (e : Entry) (i x k : ℕ) (write : Bool) → i ≤ length es → HasRight es i x k write → HasRight (es ++ e ∷ []) i x k write
+right_kept : (es : List Entry) (e : Entry) (i x k : ℕ) (write : Bool) → i ≤ length es → HasRight es i x k write
+    → HasRight (es ++ e ∷ []) i x k write
 right_kept es e i x k write le r = record {
   index = r.index;
   entry = r.entry;
@@ -25,18 +26,28 @@ right_kept es e i x k write le r = record {
   by_write = r.by_write;
   gives = r.gives;
   enough = r.enough;
-  no_event = λ j f at lt up. elim (at_cases es e f j at) [ inl old ↦ r.no_event j f old lt up | inr new ↦ absurd (let n = new.0 in omega arith) ];
-  latest = λ j m f w at lt up g. elim (at_cases es e f j at) [ inl old ↦ r.latest j m f w old lt up g | inr new ↦ absurd (let n = new.0 in omega arith) ];
+  no_event = λ j f at lt up. elim (at_cases es e f j at) [
+    | inl old ↦ r.no_event j f old lt up
+    | inr new ↦ absurd (let n = new.0 in omega arith)
+  ];
+  latest = λ j m f w at lt up g. elim (at_cases es e f j at) [
+    | inl old ↦ r.latest j m f w old lt up g
+    | inr new ↦ absurd (let n = new.0 in omega arith)
+  ];
 }
 
-value_kept : (es : List Entry) (e : Entry) (i x : ℕ) (value : ℤ) → i ≤ length es → IsLastValue es i x value → IsLastValue (es ++ e ∷ []) i x value
+value_kept : (es : List Entry) (e : Entry) (i x : ℕ) (value : ℤ) → i ≤ length es → IsLastValue es i x value
+    → IsLastValue (es ++ e ∷ []) i x value
 value_kept es e i x value le r = record {
   index = r.index;
   entry = r.entry;
   there = at_kept es (e ∷ []) r.index r.entry r.there;
   before = r.before;
   has = r.has;
-  latest = λ j f v at lt up g. elim (at_cases es e f j at) [ inl old ↦ r.latest j f v old lt up g | inr new ↦ absurd (let n = new.0 in omega arith) ];
+  latest = λ j f v at lt up g. elim (at_cases es e f j at) [
+    | inl old ↦ r.latest j f v old lt up g
+    | inr new ↦ absurd (let n = new.0 in omega arith)
+  ];
 }
 
 is_trim : (e f : Entry) → f ≡ e → (IsTrim f → ⊥) → IsTrim e → ⊥
@@ -44,30 +55,50 @@ is_trim e f same not t = not (subst IsTrim (sym same) t)
 
 pub formed_push : (t : ℕ) (es : List Entry) (e : Entry) → MayStore t es e → IsFormed t es → IsFormed t (es ++ e ∷ [])
 formed_push t es e may k = record {
-  well_formed = λ i f at. elim (at_cases es e f i at) [ inl old ↦ k.well_formed i f old | inr new ↦ subst (EntryForm t) (sym new.1) may.well_formed ];
+  well_formed = λ i f at. elim (at_cases es e f i at) [
+    | inl old ↦ k.well_formed i f old
+    | inr new ↦ subst (EntryForm t) (sym new.1) may.well_formed
+  ];
   begins = λ i f at not all. elim (at_cases es e f i at) [
     | inl old ↦ k.begins i f old not (λ j g a lt. all j g (at_kept es (e ∷ []) j g a) lt)
-    | inr new ↦ subst IsBegin (sym new.1) (may.begins (is_trim e f new.1 not) (λ j g a. all j g (at_kept es (e ∷ []) j g a) (let n = new.0 in let w = at_within es j g a in omega arith)))
+    | inr new ↦ subst IsBegin (sym new.1) (may.begins (is_trim e f new.1 not)
+        (λ j g a. all j g (at_kept es (e ∷ []) j g a) (let n = new.0 in let w = at_within es j g a in omega arith)))
   ];
   lows_rise = λ i j low high a b lt. elim (at_cases es e (Trim high) j b) [
-    | inl old ↦ elim (at_cases es e (Trim low) i a) [ inl old' ↦ k.lows_rise i j low high old' old lt | inr new ↦ absurd (let n = new.0 in let w = at_within es j (Trim high) old in omega arith) ]
-    | inr new ↦ elim (at_cases es e (Trim low) i a) [ inl old' ↦ may.lows i low high old' (sym new.1) | inr new' ↦ absurd (let n = new.0 in let m = new'.0 in omega arith) ]
+    | inl old ↦ elim (at_cases es e (Trim low) i a) [
+      | inl old' ↦ k.lows_rise i j low high old' old lt
+      | inr new ↦ absurd (let n = new.0 in let w = at_within es j (Trim high) old in omega arith)
+    ]
+    | inr new ↦ elim (at_cases es e (Trim low) i a) [
+      | inl old' ↦ may.lows i low high old' (sym new.1)
+      | inr new' ↦ absurd (let n = new.0 in let m = new'.0 in omega arith)
+    ]
   ];
   over_after_end = λ i f g a b. elim (at_cases es e g (i + 1) b) [
-    | inl old ↦ elim (at_cases es e f i a) [ inl old' ↦ k.over_after_end i f g old' old | inr new ↦ absurd (let n = new.0 in let w = at_within es (i + 1) g old in omega arith) ]
+    | inl old ↦ elim (at_cases es e f i a) [
+      | inl old' ↦ k.over_after_end i f g old' old
+      | inr new ↦ absurd (let n = new.0 in let w = at_within es (i + 1) g old in omega arith)
+    ]
     | inr new ↦ elim (at_cases es e f i a) [
       | inl old' ↦ subst (λ z. IsEnd f ↔ IsOver z) (sym new.1) (may.after_end i f old' (sym new.0))
       | inr new' ↦ absurd (let n = new.0 in let m = new'.0 in omega arith)
     ]
   ];
-  nothing_after = λ i f a over. elim (at_cases es e f i a) [ inl old ↦ absurd (may.open_still i f old over) | inr new ↦ (let n = new.0 in omega (arith, length-append es (e ∷ []))) ];
+  nothing_after = λ i f a over. elim (at_cases es e f i a) [
+    | inl old ↦ absurd (may.open_still i f old over)
+    | inr new ↦ (let n = new.0 in omega (arith, length-append es (e ∷ [])))
+  ];
   repeats = λ i x n value a. elim (at_cases es e (Plain x n true false value false) i a) [
-    | inl old ↦ value_kept es e i x value (let w = at_within es i (Plain x n true false value false) old in omega arith) (k.repeats i x n value old)
-    | inr new ↦ subst (λ z. IsLastValue (es ++ e ∷ []) z x value) (sym new.0) (value_kept es e (length es) x value (omega arith) (may.repeats x n value (sym new.1)))
+    | inl old ↦ value_kept es e i x value (let w = at_within es i (Plain x n true false value false) old in omega arith)
+        (k.repeats i x n value old)
+    | inr new ↦ subst (λ z. IsLastValue (es ++ e ∷ []) z x value) (sym new.0)
+        (value_kept es e (length es) x value (omega arith) (may.repeats x n value (sym new.1)))
   ];
   cached = λ i x n write value a. elim (at_cases es e (Plain x n true write value false) i a) [
-    | inl old ↦ right_kept es e i x n write (let w = at_within es i (Plain x n true write value false) old in omega arith) (k.cached i x n write value old)
-    | inr new ↦ subst (λ z. HasRight (es ++ e ∷ []) z x n write) (sym new.0) (right_kept es e (length es) x n write (omega arith) (may.cached x n write value (sym new.1)))
+    | inl old ↦ right_kept es e i x n write (let w = at_within es i (Plain x n true write value false) old in omega arith)
+        (k.cached i x n write value old)
+    | inr new ↦ subst (λ z. HasRight (es ++ e ∷ []) z x n write) (sym new.0)
+        (right_kept es e (length es) x n write (omega arith) (may.cached x n write value (sym new.1)))
   ];
 }
 
@@ -89,7 +120,8 @@ pub by_own : (t : ℕ) (xs : List Stamp) (x : Stamp) → x.thread ≡ t → even
 by_own t [] x e = let b : (x.thread == t) ≡ true = eq-eqb x.thread t e in rw b refl
 by_own t (y ∷ xs) x e = here (ℕ_discrete y.thread t) (by_own t xs x e)
   where
-    here : Dec (y.thread ≡ t) → events_by t (xs ++ x ∷ []) ≡ suc (events_by t xs) → events_by t (y ∷ xs ++ x ∷ []) ≡ suc (events_by t (y ∷ xs))
+    here : Dec (y.thread ≡ t) → events_by t (xs ++ x ∷ []) ≡ suc (events_by t xs) → events_by t (y ∷ xs ++ x ∷ [])
+        ≡ suc (events_by t (y ∷ xs))
     here (yes s) r = let b : (y.thread == t) ≡ true = eq-eqb y.thread t s in rw b (ap suc r)
     here (no s) r = let b : (y.thread == t) ≡ false = ne_eqb y.thread t s in rw b r
 
@@ -136,14 +168,18 @@ total_all P n (d ∷ ds) f all = total_in n d ds (f d (All-head P d ds all)) ∙
 
 total_most : (n m : ℕ) (ds : List Stamp) → ((t : ℕ) → events_by t ds ≤ m) → total n ds ≤ n * m
 total_most zero m ds few = omega arith
-total_most (suc n) m ds few = let r = total_most n m ds few in let f = few n in let s : suc n * m ≡ m + n * m = grind (arith, Rattle.std.proofs.Common.suc-mul) in omega arith
+total_most (suc n) m ds few = let r = total_most n m ds few in let f = few n in let s : suc n * m
+    ≡ m + n * m = grind (arith, Rattle.std.proofs.Common.suc-mul) in omega arith
 
-pub log_bound : (P : Stamp → Type 0) (n m : ℕ) (ds : List Stamp) → ((d : Stamp) → P d → d.thread < n) → All P ds → ((t : ℕ) → events_by t ds ≤ m) → length ds ≤ n * m
+pub log_bound : (P : Stamp → Type 0) (n m : ℕ) (ds : List Stamp) → ((d : Stamp) → P d → d.thread < n) → All P ds
+    → ((t : ℕ) → events_by t ds ≤ m) → length ds ≤ n * m
 log_bound P n m ds f all few = let a = total_all P n ds f all in let b = total_most n m ds few in omega arith
 
 -- a list without End has no Over
-pub none_over : (t : ℕ) (es : List Entry) → IsFormed t es → ((i : ℕ) (e : Entry) → At es i e → IsEnd e → ⊥) → (i : ℕ) (e : Entry) → At es i e → IsOver e → ⊥
-none_over t es k open_list zero e at over = begin_over e over (k.begins zero e at (λ trim. trim_over e trim over) (λ j f a lt. absurd (omega arith)))
+pub none_over : (t : ℕ) (es : List Entry) → IsFormed t es → ((i : ℕ) (e : Entry) → At es i e → IsEnd e → ⊥) → (i : ℕ) (e : Entry)
+    → At es i e → IsOver e → ⊥
+none_over t es k open_list zero e at over =
+    begin_over e over (k.begins zero e at (λ trim. trim_over e trim over) (λ j f a lt. absurd (omega arith)))
   where
     trim_over : (e : Entry) → IsTrim e → IsOver e → ⊥
     trim_over (Sync a b c) t o = t
@@ -172,8 +208,10 @@ none_over t es k open_list (suc i) e at over =
     entry_there (x ∷ xs) (suc i) near = entry_there xs i (omega arith)
 
 -- an entry that a running thread may store next
-pub store_running : (t p : ℕ) (es : List Entry) (e : Entry) → IsFormed t es → last_position es ≡ Some p → ((i : ℕ) (f : Entry) → At es i f → IsEnd f → ⊥) → EntryForm t e → (IsTrim e → ⊥) → (IsOver e → ⊥)
-    → ((x k : ℕ) (write : Bool) (value : _) → e ≡ Plain x k true write value false → HasRight es (length es) x k write) → ((x k : ℕ) (value : _) → e ≡ Plain x k true false value false → IsLastValue es (length es) x value) → MayStore t es e
+pub store_running : (t p : ℕ) (es : List Entry) (e : Entry) → IsFormed t es → last_position es ≡ Some p
+    → ((i : ℕ) (f : Entry) → At es i f → IsEnd f → ⊥) → EntryForm t e → (IsTrim e → ⊥) → (IsOver e → ⊥)
+    → ((x k : ℕ) (write : Bool) (value : _) → e ≡ Plain x k true write value false → HasRight es (length es) x k write)
+    → ((x k : ℕ) (value : _) → e ≡ Plain x k true false value false → IsLastValue es (length es) x value) → MayStore t es e
 store_running t p es e k last open_list formed no_trim no_over cached repeats = record {
   repeats = repeats;
   well_formed = formed;

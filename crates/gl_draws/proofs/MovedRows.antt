@@ -12,14 +12,16 @@ use Rattle.gl_draws.specs.Moved.{AreMoved, IsRowMoved}
 use Rattle.gl_draws.proofs.MovedInfos.{unmoved, moved_trans, fails_moved, info_moved}
 
 module _ (setting : Setting) (h : List Stamp) where
-  of_moved : (write : Bool) (old new : Option Info) (d : Option Draw) → AreMoved h old new → InfoOf setting h write old d → InfoOf setting h write new d
+  of_moved : (write : Bool) (old new : Option Info) (d : Option Draw) → AreMoved h old new → InfoOf setting h write old d
+      → InfoOf setting h write new d
   of_moved write None None d m f = f
   of_moved write None (Some i) d m f = absurd m
   of_moved write (Some i) None d m f = absurd m
   of_moved write (Some i) (Some j) None m f = f
   of_moved write (Some i) (Some j) (Some d) m f = info_moved setting h i j (access_of d) write m f
 
-  pub row_moved : (x : ℕ) (ds : List Draw) (old new : Row) → IsRowMoved h old new → RowStands setting h x ds old → RowStands setting h x ds new
+  pub row_moved : (x : ℕ) (ds : List Draw) (old new : Row) → IsRowMoved h old new → RowStands setting h x ds old
+      → RowStands setting h x ds new
   row_moved x ds old new m s = record {
     word = m.value ∙ s.word;
     last_write = of_moved true old.last_write new.last_write (last_write x ds) m.last_write s.last_write;
@@ -55,27 +57,36 @@ module _ (h : List Stamp) where
   option_within (Some k) (Some j) m i e = let same : j ≡ i = cc in subst (λ (z : Info). z.pos ≤ length h) same m.within
 
   pub moved_within : (a b : Row) → IsRowMoved h a b → IsWithin b (length h)
-  moved_within a b m = record { last_write = option_within a.last_write b.last_write m.last_write; reads = λ t. option_within (read_of a.reads t) (read_of b.reads t) (m.reads t) }
+  moved_within a b m = record {
+    last_write = option_within a.last_write b.last_write m.last_write;
+    reads = λ t. option_within (read_of a.reads t) (read_of b.reads t) (m.reads t);
+  }
 
-  option_back : (a b : Option Info) (u : ℕ) (v : Option (List ℕ)) → AreMoved h a b → ((i : Info) × (b ≡ Some i) × Fails h i u v) → ((i : Info) × (a ≡ Some i) × Fails h i u v)
+  option_back : (a b : Option Info) (u : ℕ) (v : Option (List ℕ)) → AreMoved h a b → ((i : Info) × (b ≡ Some i) × Fails h i u v)
+      → ((i : Info) × (a ≡ Some i) × Fails h i u v)
   option_back None None u v m w = absurd (let e = w.1 in cc)
   option_back None (Some j) u v m w = absurd m
   option_back (Some i) None u v m w = absurd m
-  option_back (Some i) (Some j) u v m w = let same : w.0 ≡ j = (let e = w.1 in cc) in (i, refl, (fails_moved h i j u v m).0 (subst (λ k. Fails h k u v) same w.2))
+  option_back (Some i) (Some j) u v m w = let same : w.0 ≡ j = (let e = w.1 in cc)
+      in (i, refl, (fails_moved h i j u v m).0 (subst (λ k. Fails h k u v) same w.2))
 
-  option_on : (a b : Option Info) (u : ℕ) (v : Option (List ℕ)) → AreMoved h a b → ((i : Info) × (a ≡ Some i) × Fails h i u v) → ((i : Info) × (b ≡ Some i) × Fails h i u v)
+  option_on : (a b : Option Info) (u : ℕ) (v : Option (List ℕ)) → AreMoved h a b → ((i : Info) × (a ≡ Some i) × Fails h i u v)
+      → ((i : Info) × (b ≡ Some i) × Fails h i u v)
   option_on None None u v m w = absurd (let e = w.1 in cc)
   option_on None (Some j) u v m w = absurd m
   option_on (Some i) None u v m w = absurd m
-  option_on (Some i) (Some j) u v m w = let same : w.0 ≡ i = (let e = w.1 in cc) in (j, refl, (fails_moved h i j u v m).1 (subst (λ k. Fails h k u v) same w.2))
+  option_on (Some i) (Some j) u v m w = let same : w.0 ≡ i = (let e = w.1 in cc)
+      in (j, refl, (fails_moved h i j u v m).1 (subst (λ k. Fails h k u v) same w.2))
 
   pub some_fails_moved : (a b : Row) (q : Question) → IsRowMoved h a b → SomeFails h b q ↔ SomeFails h a q
   some_fails_moved a b q m = (back, on)
     where
       back : SomeFails h b q → SomeFails h a q
       back (inl w) = inl (option_back a.last_write b.last_write q.thread q.commit m.last_write w)
-      back (inr w) = let k = option_back (read_of a.reads w.1.0) (read_of b.reads w.1.0) q.thread q.commit (m.reads w.1.0) (w.1.1, w.1.2, w.1.3) in inr (w.0, (w.1.0, k.0, k.1, k.2))
+      back (inr w) = let k = option_back (read_of a.reads w.1.0) (read_of b.reads w.1.0) q.thread q.commit (m.reads w.1.0)
+          (w.1.1, w.1.2, w.1.3) in inr (w.0, (w.1.0, k.0, k.1, k.2))
 
       on : SomeFails h a q → SomeFails h b q
       on (inl w) = inl (option_on a.last_write b.last_write q.thread q.commit m.last_write w)
-      on (inr w) = let k = option_on (read_of a.reads w.1.0) (read_of b.reads w.1.0) q.thread q.commit (m.reads w.1.0) (w.1.1, w.1.2, w.1.3) in inr (w.0, (w.1.0, k.0, k.1, k.2))
+      on (inr w) = let k = option_on (read_of a.reads w.1.0) (read_of b.reads w.1.0) q.thread q.commit (m.reads w.1.0)
+          (w.1.1, w.1.2, w.1.3) in inr (w.0, (w.1.0, k.0, k.1, k.2))

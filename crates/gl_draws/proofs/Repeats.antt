@@ -24,10 +24,15 @@ module _ (x : ℕ) (vs : List ℤ) where
   pub record IsAfter (ds : List Draw) (k : ℕ) (a b : Draw) : Type 0 where
     pub same : IsSame x vs a b
     pub at : DrawAt ds k b
-    pub how : ((a ≡ b) × ((n : ℕ) (d : Draw) → last_write x ds ≡ Some d → DrawAt ds n d → ((i : ℕ) → DrawAt ds i d → i ≡ n) → k ≢ n)) ⊎ ((a ≡ with_repeats vs b) × (last_write x ds ≡ Some b))
+    pub how : ((a ≡ b) × ((n : ℕ) (d : Draw) → last_write x ds ≡ Some d → DrawAt ds n d → ((i : ℕ) → DrawAt ds i d → i ≡ n) → k ≢ n))
+        ⊎ ((a ≡ with_repeats vs b) × (last_write x ds ≡ Some b))
 
   same_all : (a b : Draw) → a ≡ b → IsSame x vs a b
-  same_all a b e = record { thread = ap (λ (z : Draw). z.thread) e; block = ap (λ (z : Draw). z.block) e; what = ap (λ (z : Draw). z.what) e }
+  same_all a b e = record {
+    thread = ap (λ (z : Draw). z.thread) e;
+    block = ap (λ (z : Draw). z.block) e;
+    what = ap (λ (z : Draw). z.what) e;
+  }
 
   write_now : (d : Draw) (ds : List Draw) → is_write x d.what ≡ true → last_write x (d ∷ ds) ≡ Some d
   write_now d ds e = rw e refl
@@ -50,9 +55,21 @@ module _ (x : ℕ) (vs : List ℤ) where
   draw_back [] k a at = absurd at
   draw_back (d ∷ ds) k a at = here (is_write x d.what) refl (λ q. draw_back ds k a q)
     where
-      here : (w : Bool) → is_write x d.what ≡ w → (DrawAt (repeated x vs ds) k a → (b : Draw) × IsAfter ds k a b) → (b : Draw) × IsAfter (d ∷ ds) k a b
+      here : (w : Bool) → is_write x d.what ≡ w → (DrawAt (repeated x vs ds) k a → (b : Draw) × IsAfter ds k a b) → (b : Draw)
+          × IsAfter (d ∷ ds) k a b
       here true w rec = elim (subst (λ l. DrawAt l k a) (at_write x vs d ds w) at) [
-        | inl new ↦ (d, record { same = record { thread = ap (λ (z : Draw). z.thread) new.1; block = ap (λ (z : Draw). z.block) new.1; what = ap (λ (z : Draw). z.what) new.1 }; at = inl (new.0, refl); how = inr (new.1, write_now d ds w) })
+        | inl new ↦ (
+          d,
+          record {
+            same = record {
+              thread = ap (λ (z : Draw). z.thread) new.1;
+              block = ap (λ (z : Draw). z.block) new.1;
+              what = ap (λ (z : Draw). z.what) new.1;
+            };
+            at = inl (new.0, refl);
+            how = inr (new.1, write_now d ds w);
+          },
+        )
         | inr old ↦ (
           a,
           record {
@@ -107,13 +124,27 @@ module _ (x : ℕ) (vs : List ℤ) where
   draw_on [] k b at = absurd at
   draw_on (d ∷ ds) k b at = here (is_write x d.what) refl (λ q. draw_on ds k b q)
     where
-      here : (w : Bool) → is_write x d.what ≡ w → (DrawAt ds k b → (a : Draw) × DrawAt (repeated x vs ds) k a × IsSame x vs a b) → (a : Draw) × DrawAt (repeated x vs (d ∷ ds)) k a × IsSame x vs a b
+      here : (w : Bool) → is_write x d.what ≡ w → (DrawAt ds k b → (a : Draw) × DrawAt (repeated x vs ds) k a × IsSame x vs a b)
+          → (a : Draw) × DrawAt (repeated x vs (d ∷ ds)) k a × IsSame x vs a b
       here true w rec = elim at [
-        | inl new ↦ (with_repeats vs d, subst (λ l. DrawAt l k (with_repeats vs d)) (sym (at_write x vs d ds w)) (inl (new.0, refl)), record { thread = sym (ap (λ (z : Draw). z.thread) new.1); block = sym (ap (λ (z : Draw). z.block) new.1); what = sym (ap (λ (z : Draw). z.what) new.1) })
+        | inl new ↦ (
+          with_repeats vs d,
+          subst (λ l. DrawAt l k (with_repeats vs d)) (sym (at_write x vs d ds w)) (inl (new.0, refl)),
+          record {
+            thread = sym (ap (λ (z : Draw). z.thread) new.1);
+            block = sym (ap (λ (z : Draw). z.block) new.1);
+            what = sym (ap (λ (z : Draw). z.what) new.1);
+          },
+        )
         | inr old ↦ (b, subst (λ l. DrawAt l k b) (sym (at_write x vs d ds w)) (inr old), same_all b b refl)
       ]
       here false w rec = elim at [
-        | inl new ↦ (b, subst (λ l. DrawAt l k b) (sym (past x vs d ds w)) (inl (new.0 ∙ sym (repeated_long x vs ds), new.1)), same_all b b refl)
+        | inl new ↦ (
+          b,
+          subst (λ l. DrawAt l k b) (sym (past x vs d ds w)) (inl (new.0 ∙ sym (repeated_long x vs ds), new.1)),
+          same_all b b
+              refl,
+        )
         | inr old ↦ (let r = rec old in (r.0, subst (λ l. DrawAt l k r.0) (sym (past x vs d ds w)) (inr r.1), r.2))
       ]
 
@@ -121,17 +152,20 @@ module _ (x : ℕ) (vs : List ℤ) where
   repeated_count t [] = refl
   repeated_count t (d ∷ ds) = here (is_write x d.what) refl (repeated_count t ds)
     where
-      cons : (a b : Draw) (cs bs : List Draw) → a.thread ≡ b.thread → count_by t cs ≡ count_by t bs → count_by t (a ∷ cs) ≡ count_by t (b ∷ bs)
+      cons : (a b : Draw) (cs bs : List Draw) → a.thread ≡ b.thread → count_by t cs ≡ count_by t bs → count_by t (a ∷ cs)
+          ≡ count_by t (b ∷ bs)
       cons a b cs bs e q = elim (ℕ_discrete a.thread t) [
         | yes is ↦ count_own t a cs is ∙ ap suc q ∙ sym (count_own t b bs (sym e ∙ is))
         | no ne ↦ count_other t a cs ne ∙ q ∙ sym (count_other t b bs (λ z. ne (e ∙ z)))
       ]
 
-      here : (w : Bool) → is_write x d.what ≡ w → count_by t (repeated x vs ds) ≡ count_by t ds → count_by t (repeated x vs (d ∷ ds)) ≡ count_by t (d ∷ ds)
+      here : (w : Bool) → is_write x d.what ≡ w → count_by t (repeated x vs ds) ≡ count_by t ds → count_by t (repeated x vs (d ∷ ds))
+          ≡ count_by t (d ∷ ds)
       here true w rec = ap (count_by t) (at_write x vs d ds w) ∙ cons (with_repeats vs d) d ds ds refl refl
       here false w rec = ap (count_by t) (past x vs d ds w) ∙ cons d d (repeated x vs ds) ds refl rec
 
-  next_on : (h : List Stamp) (ds : List Draw) (t : ℕ) (o : Option (List ℕ)) (f : Entry) → IsRacyNext h x ds t o f → IsRacyNext h x (repeated x vs ds) t o f
+  next_on : (h : List Stamp) (ds : List Draw) (t : ℕ) (o : Option (List ℕ)) (f : Entry) → IsRacyNext h x ds t o f
+      → IsRacyNext h x (repeated x vs ds) t o f
   next_on h ds t o f r = let m = among_on x vs ds r.earlier r.among in let s = m.2 in record {
     earlier = m.0;
     entry = r.entry;
@@ -143,7 +177,8 @@ module _ (x : ℕ) (vs : List ℤ) where
     unordered = λ q. r.unordered (subst (λ a. HappensBeforeNext h a t o) (sym (same_access x vs r.earlier m.0 s)) q);
   }
 
-  next_off : (h : List Stamp) (ds : List Draw) (t : ℕ) (o : Option (List ℕ)) (f : Entry) → IsRacyNext h x (repeated x vs ds) t o f → IsRacyNext h x ds t o f
+  next_off : (h : List Stamp) (ds : List Draw) (t : ℕ) (o : Option (List ℕ)) (f : Entry) → IsRacyNext h x (repeated x vs ds) t o f
+      → IsRacyNext h x ds t o f
   next_off h ds t o f r = let m = among_back x vs ds r.earlier r.among in let s = m.2 in record {
     earlier = m.0;
     entry = r.entry;
@@ -155,7 +190,9 @@ module _ (x : ℕ) (vs : List ℤ) where
     unordered = λ q. r.unordered (subst (λ a. HappensBeforeNext h a t o) (sym (same_access x vs r.earlier m.0 s)) q);
   }
 
-  refused_right : (h : List Stamp) (until : ℕ → ℕ) (ds : List Draw) (t p : ℕ) (w : What) → ((e : Entry) → w ≡ Entered e → IsPerformed e → ⊥) → RefusalRight h until x ds t p w → RefusalRight h until x (repeated x vs ds) t p w
+  refused_right : (h : List Stamp) (until : ℕ → ℕ) (ds : List Draw) (t p : ℕ) (w : What)
+      → ((e : Entry) → w ≡ Entered e → IsPerformed e → ⊥) → RefusalRight h until x ds t p w
+      → RefusalRight h until x (repeated x vs ds) t p w
   refused_right h until ds t p (Entered (Abort tx (Raised var))) none r =
       subst (λ n. IsRefusedRightly h x (repeated x vs ds) t p tx var (until n)) (sym (repeated_long x vs ds)) (record {
         within = r.within;
@@ -163,7 +200,8 @@ module _ (x : ℕ) (vs : List ℤ) where
         upto = r.upto;
         named = λ e. next_on (take (until (length ds)) h) ds t (Some (variables_of tx)) (Abort tx (Raised var)) (r.named e);
         least = λ lt q. r.least lt (next_off (take (until (length ds)) h) ds t (Some (variables_of tx)) (Abort tx (Raised var)) q);
-        behind = λ a among is. let m = among_back x vs ds a among in subst (λ z. z < until (length ds)) (sym m.2.block) (r.behind m.0 m.1 (subst IsCommitWhat m.2.what is));
+        behind = λ a among is. let m = among_back x vs ds a among
+            in subst (λ z. z < until (length ds)) (sym m.2.block) (r.behind m.0 m.1 (subst IsCommitWhat m.2.what is));
       })
   refused_right h until ds t p (Entered (Commit at tx)) none r = absurd (none (Commit at tx) refl tt)
   refused_right h until ds t p (Entered (Rattle.gl_model.specs.Entries.Sync a b c)) none r = tt
@@ -174,14 +212,21 @@ module _ (x : ℕ) (vs : List ℤ) where
   refused_right h until ds t p (Looked v) none r = tt
   refused_right h until ds t p Open none r = tt
 
-  pub refusals_repeated : (h : List Stamp) (until : ℕ → ℕ) (ds : List Draw) → IsCalm x ds → RefusalsHold h until x ds → RefusalsHold h until x (repeated x vs ds)
+  pub refusals_repeated : (h : List Stamp) (until : ℕ → ℕ) (ds : List Draw) → IsCalm x ds → RefusalsHold h until x ds
+      → RefusalsHold h until x (repeated x vs ds)
   refusals_repeated h until [] calm all = absurd calm
   refusals_repeated h until (d ∷ ds) (inl w) all = subst (λ l. RefusalsHold h until x l) (sym (at_write x vs d ds w)) (all.0, all.1)
-  refusals_repeated h until (d ∷ ds) (inr c) all = subst (λ l. RefusalsHold h until x l) (sym (past x vs d ds c.0)) (refused_right h until ds d.thread d.block d.what c.1 all.0, refusals_repeated h until ds c.2 all.1)
+  refusals_repeated h until (d ∷ ds) (inr c) all =
+      subst (λ l. RefusalsHold h until x l) (sym (past x vs d ds c.0))
+      (refused_right h until ds d.thread d.block d.what c.1 all.0, refusals_repeated h until ds c.2 all.1)
 
-  kept_same : (es : List Entry) (drawn : List Drawn) (y k : ℕ) (a b : Draw) → IsSame x vs a b → IsKept es drawn y k b → IsKept es drawn y k a
-  kept_same es drawn y k a b s (in_list i e at dr is blk) = in_list i e at dr (subst (λ w. IsFor w e y k) (sym s.what) is) (subst (λ p. IsInBlock a.what es i p) (sym s.block) (subst (λ w. IsInBlock w es i b.block) (sym s.what) blk))
-  kept_same es drawn y k a b s (in_flight look c is) = in_flight look c (subst (λ w. Rattle.gl_draws.specs.Ties.IsStill w look) (sym s.what) is)
+  kept_same : (es : List Entry) (drawn : List Drawn) (y k : ℕ) (a b : Draw) → IsSame x vs a b → IsKept es drawn y k b
+      → IsKept es drawn y k a
+  kept_same es drawn y k a b s (in_list i e at dr is blk) =
+      in_list i e at dr (subst (λ w. IsFor w e y k) (sym s.what) is)
+      (subst (λ p. IsInBlock a.what es i p) (sym s.block) (subst (λ w. IsInBlock w es i b.block) (sym s.what) blk))
+  kept_same es drawn y k a b s (in_flight look c is) =
+      in_flight look c (subst (λ w. Rattle.gl_draws.specs.Ties.IsStill w look) (sym s.what) is)
 
   module _ (draws : ℕ → List Draw) where
     abbrev pub again : ℕ → List Draw
@@ -195,19 +240,22 @@ module _ (x : ℕ) (vs : List ℤ) where
 
     pub again_back : (y k : ℕ) (a : Draw) → DrawAt (again y) k a → (b : Draw) × DrawAt (draws y) k b × IsSame x vs a b
     again_back y k a at = elim (ℕ_discrete y x) [
-      | yes e ↦ (let r = draw_back (draws x) k a (subst (λ l. DrawAt l k a) (ap again e ∙ again_here) at) in (r.0, subst (λ z. DrawAt (draws z) k r.0) (sym e) r.1.at, r.1.same))
+      | yes e ↦ (let r = draw_back (draws x) k a (subst (λ l. DrawAt l k a) (ap again e ∙ again_here) at)
+          in (r.0, subst (λ z. DrawAt (draws z) k r.0) (sym e) r.1.at, r.1.same))
       | no ne ↦ (a, subst (λ l. DrawAt l k a) (again_else y ne) at, same_all a a refl)
     ]
 
     pub again_on : (y k : ℕ) (b : Draw) → DrawAt (draws y) k b → (a : Draw) × DrawAt (again y) k a × IsSame x vs a b
     again_on y k b at = elim (ℕ_discrete y x) [
-      | yes e ↦ (let r = draw_on (draws x) k b (subst (λ z. DrawAt (draws z) k b) e at) in (r.0, subst (λ l. DrawAt l k r.0) (sym (ap again e ∙ again_here)) r.1, r.2))
+      | yes e ↦ (let r = draw_on (draws x) k b (subst (λ z. DrawAt (draws z) k b) e at)
+          in (r.0, subst (λ l. DrawAt l k r.0) (sym (ap again e ∙ again_here)) r.1, r.2))
       | no ne ↦ (b, subst (λ l. DrawAt l k b) (sym (again_else y ne)) at, same_all b b refl)
     ]
 
     pub again_count : (t y : ℕ) → count_by t (again y) ≡ count_by t (draws y)
     again_count t y = elim (ℕ_discrete y x) [
-      | yes e ↦ ap (λ z. count_by t (again z)) e ∙ ap (count_by t) again_here ∙ repeated_count t (draws x) ∙ ap (λ z. count_by t (draws z)) (sym e)
+      | yes e ↦ ap (λ z. count_by t (again z)) e ∙ ap (count_by t) again_here ∙ repeated_count t (draws x)
+          ∙ ap (λ z. count_by t (draws z)) (sym e)
       | no ne ↦ ap (count_by t) (again_else y ne)
     ]
 
@@ -226,14 +274,17 @@ module _ (x : ℕ) (vs : List ℤ) where
 
     pub again_among : (y : ℕ) (a : Draw) → Among (again y) a → (b : Draw) × Among (draws y) b × IsSame x vs a b
     again_among y a among = elim (ℕ_discrete y x) [
-      | yes e ↦ (let r = among_back x vs (draws x) a (subst (λ l. Among l a) (ap again e ∙ again_here) among) in (r.0, subst (λ z. Among (draws z) r.0) (sym e) r.1, r.2))
+      | yes e ↦ (let r = among_back x vs (draws x) a (subst (λ l. Among l a) (ap again e ∙ again_here) among)
+          in (r.0, subst (λ z. Among (draws z) r.0) (sym e) r.1, r.2))
       | no ne ↦ (a, subst (λ l. Among l a) (again_else y ne) among, same_all a a refl)
     ]
 
     pub again_drawn : (t : ℕ) (es : List Entry) (drawn : List Drawn) → AreDrawn draws t es drawn → AreDrawn again t es drawn
     again_drawn t es drawn f = record {
       kept = λ y k a at own. let r = again_back y k a at in kept_same es drawn y k a r.0 r.2 (f.kept y k r.0 r.1 (sym r.2.thread ∙ own));
-      made = λ y k i e at dr. let m = f.made y k i e at dr in let r = again_on y k m.0 m.1 in (r.0, r.1, r.2.thread ∙ m.2, kept_same es drawn y k r.0 m.0 r.2 m.3, subst (λ w. IsFor w e y k) (sym r.2.what) m.4);
-      in_flight = λ o c. let m = f.in_flight o c in let r = again_on o.var o.nth m.0 m.1 in (r.0, r.1, r.2.thread ∙ m.2, subst (λ w. Rattle.gl_draws.specs.Ties.IsStill w o.look) (sym r.2.what) m.3);
+      made = λ y k i e at dr. let m = f.made y k i e at dr in let r = again_on y k m.0 m.1
+          in (r.0, r.1, r.2.thread ∙ m.2, kept_same es drawn y k r.0 m.0 r.2 m.3, subst (λ w. IsFor w e y k) (sym r.2.what) m.4);
+      in_flight = λ o c. let m = f.in_flight o c in let r = again_on o.var o.nth m.0 m.1
+          in (r.0, r.1, r.2.thread ∙ m.2, subst (λ w. Rattle.gl_draws.specs.Ties.IsStill w o.look) (sym r.2.what) m.3);
       rise = f.rise;
     }

@@ -7,7 +7,8 @@ use Rattle.gl_draws.specs.Resolved.{resolved}
 use Rattle.gl_draws.specs.Ties.{count_by}
 use Rattle.gl_draws.proofs.DrawCounts.{count_own, count_other}
 
-module _ (draws : ℕ → List Draw) (t p : ℕ) (ys : List ℕ) (d : Draw) (own : d.thread ≡ t) (heads : (y : ℕ) → is_in y ys ≡ true → (ds : List Draw) × (draws y ≡ draw t p Open ∷ ds)) where
+module _ (draws : ℕ → List Draw) (t p : ℕ) (ys : List ℕ) (d : Draw) (own : d.thread ≡ t) (heads : (y : ℕ) → is_in y ys ≡ true
+    → (ds : List Draw) × (draws y ≡ draw t p Open ∷ ds)) where
   -- on one of them the head changes
   pub resolved_in : (y : ℕ) → is_in y ys ≡ true → (ds : List Draw) → draws y ≡ draw t p Open ∷ ds → resolved draws ys d y ≡ d ∷ ds
   resolved_in y c ds is = rw (c, is) refl
@@ -27,7 +28,8 @@ module _ (draws : ℕ → List Draw) (t p : ℕ) (ys : List ℕ) (d : Draw) (own
           let a = resolved_in y c r.0 r.1 in
           elim (ℕ_discrete t u) [
             | yes e ↦ ap (count_by u) a ∙ count_own u d r.0 (own ∙ e) ∙ sym (ap (count_by u) r.1 ∙ count_own u (draw t p Open) r.0 e)
-            | no ne ↦ ap (count_by u) a ∙ count_other u d r.0 (λ e. ne (sym own ∙ e)) ∙ sym (ap (count_by u) r.1 ∙ count_other u (draw t p Open) r.0 ne)
+            | no ne ↦ ap (count_by u) a ∙ count_other u d r.0 (λ e. ne (sym own ∙ e))
+                ∙ sym (ap (count_by u) r.1 ∙ count_other u (draw t p Open) r.0 ne)
           ]
 
   -- and so has each variable

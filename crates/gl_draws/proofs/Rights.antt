@@ -22,7 +22,8 @@ use Rattle.gl_draws.proofs.RepeatLaw.{none_behind}
 use Rattle.gl_draws.proofs.RaceLaw.{entry_of_write}
 
 -- the last write has the greatest number
-top_write : (x : ℕ) (ds : List Draw) (w : Draw) → last_write x ds ≡ Some w → (n : ℕ) × DrawAt ds n w × ((j : ℕ) (b : Draw) → DrawAt ds j b → is_write x b.what ≡ true → j ≤ n)
+top_write : (x : ℕ) (ds : List Draw) (w : Draw) → last_write x ds ≡ Some w → (n : ℕ) × DrawAt ds n w
+    × ((j : ℕ) (b : Draw) → DrawAt ds j b → is_write x b.what ≡ true → j ≤ n)
 top_write x [] w e = absurd (cc)
 top_write x (d ∷ ds) w e = here (is_write x d.what) refl (λ q. top_write x ds w q)
   where
@@ -30,24 +31,39 @@ top_write x (d ∷ ds) w e = here (is_write x d.what) refl (λ q. top_write x ds
     top j b (inl a) = let z = a.0 in omega arith
     top j b (inr a) = let l = draw_below ds j b a in omega arith
 
-    here : (q : Bool) → is_write x d.what ≡ q → (last_write x ds ≡ Some w → (n : ℕ) × DrawAt ds n w × ((j : ℕ) (b : Draw) → DrawAt ds j b → is_write x b.what ≡ true → j ≤ n)) → (n : ℕ) × DrawAt (d ∷ ds) n w × ((j : ℕ) (b : Draw) → DrawAt (d ∷ ds) j b → is_write x b.what ≡ true → j ≤ n)
+    here : (q : Bool) → is_write x d.what ≡ q
+        → (last_write x ds ≡ Some w → (n : ℕ) × DrawAt ds n w × ((j : ℕ) (b : Draw) → DrawAt ds j b → is_write x b.what ≡ true → j ≤ n))
+        → (n : ℕ) × DrawAt (d ∷ ds) n w × ((j : ℕ) (b : Draw) → DrawAt (d ∷ ds) j b → is_write x b.what ≡ true → j ≤ n)
     here true q rec = let z : Some d ≡ Some w = rw q at e in let same : w ≡ d = cc in (length ds, inl (refl, same), λ j b a i. top j b a)
     here false q rec =
         let z : last_write x ds ≡ Some w = rw q at e in
-        let r = rec z in
-        (r.0, inr r.1, λ j b a i. elim a [ inl n ↦ absurd (let y : is_write x d.what ≡ true = subst (λ (k : Draw). is_write x k.what ≡ true) n.1 i in let c : true ≡ false = sym y ∙ q in cc) | inr n ↦ r.2 j b n i ])
+        let r = rec z in (
+          r.0,
+          inr r.1,
+          λ j b a i. elim a [
+            | inl n ↦
+                absurd (let y : is_write x d.what ≡ true = subst (λ (k : Draw). is_write x k.what ≡ true) n.1 i in let c : true
+                ≡ false = sym y
+                ∙ q in cc)
+            | inr n ↦ r.2 j b n i
+          ],
+        )
 
 -- the last event of a list, behind whose front there is none
-no_later : (es : List Entry) (n : ℕ) → ((j : ℕ) (e : Entry) → At es j e → n ≤ j → position_of e ≡ None) → last_position es ≡ last_position (take n es)
+no_later : (es : List Entry) (n : ℕ) → ((j : ℕ) (e : Entry) → At es j e → n ≤ j → position_of e ≡ None) → last_position es
+    ≡ last_position (take n es)
 no_later [] zero none = refl
 no_later [] (suc n) none = refl
-no_later (e ∷ es) zero none = ap (λ o. or_else o (position_of e)) (no_later es zero (λ j f at le. none (suc j) f at (omega arith))) ∙ none zero e refl (omega arith)
+no_later (e ∷ es) zero none = ap (λ o. or_else o (position_of e)) (no_later es zero (λ j f at le. none (suc j) f at (omega arith)))
+    ∙ none zero e refl (omega arith)
 no_later (e ∷ es) (suc n) none = ap (λ o. or_else o (position_of e)) (no_later es n (λ j f at le. none (suc j) f at (omega arith)))
 
 some_same : (a c : Entry) → Some a ≡ Some c → a ≡ c
 some_same a c e = cc
 
-module _ (log : List Stamp) (draws : ℕ → List Draw) (t : ℕ) (es : List Entry) (drawn : List Drawn) (x k : ℕ) (events : AreEvents log t es) (d : AreDrawn draws t es drawn) (all : DrawsHold log x (draws x)) (r : HasRight es (length es) x k true) (var nth : ℕ) (value : ℤ) (is : r.entry ≡ Plain x k false true value false) where
+module _ (log : List Stamp) (draws : ℕ → List Draw) (t : ℕ) (es : List Entry) (drawn : List Drawn) (x k : ℕ) (events : AreEvents log t es)
+    (d : AreDrawn draws t es drawn) (all : DrawsHold log x (draws x)) (r : HasRight es (length es) x k true) (var nth : ℕ) (value : ℤ)
+    (is : r.entry ≡ Plain x k false true value false) where
   pub its : (g : Draw) × DrawAt (draws x) k g × (g.thread ≡ t) × IsKept es drawn x k g × IsFor g.what r.entry x k
   its = d.made x k r.index r.entry r.there (subst (λ z. Draws z x k) (sym is) (inr (refl, refl, refl)))
 
@@ -62,9 +78,11 @@ module _ (log : List Stamp) (draws : ℕ → List Draw) (t : ℕ) (es : List Ent
   block_is = by its.3
     where
       by : IsKept es drawn x k its.0 → last_position es ≡ Some its.0.block
-      by (in_flight look c still) = absurd (let z : IsStill (Entered (Plain x k false true value false)) look = subst (λ w. IsStill w look) what_is still in z)
+      by (in_flight look c still) = absurd (let z : IsStill (Entered (Plain x k false true value false)) look =
+          subst (λ w. IsStill w look) what_is still in z)
       by (in_list i g at dr is_for block) =
-          let b : IsInBlock (Entered (Plain x k false true value false)) es i its.0.block = subst (λ w. IsInBlock w es i its.0.block) what_is block in
+          let b : IsInBlock (Entered (Plain x k false true value false)) es i its.0.block =
+          subst (λ w. IsInBlock w es i its.0.block) what_is block in
           let same : r.index ≡ i = index i g at is_for in
           let b' : BlockAt es r.index its.0.block = subst (λ z. BlockAt es z its.0.block) (sym same) b in
           no_later es (suc r.index) (λ j e a le. r.no_event j e a (omega arith) (at_within es j e a)) ∙ b'
@@ -77,8 +95,10 @@ module _ (log : List Stamp) (draws : ℕ → List Draw) (t : ℕ) (es : List Ent
               elim (ℕ_discrete r.index i) [
                 | yes e ↦ e
                 | no ne ↦ elim (native.Mathlib.Decide.dec_le r.index i) [
-                  | yes le ↦ absurd (let lt : r.index < i = omega arith in let z = d.rise x k k r.index i r.entry g r.there at lt de dg in omega arith)
-                  | no gt ↦ absurd (let lt : i < r.index = omega arith in let z = d.rise x k k i r.index g r.entry at r.there lt dg de in omega arith)
+                  | yes le ↦ absurd (let lt : r.index < i = omega arith in let z = d.rise x k k r.index i r.entry g r.there at lt de dg
+                      in omega arith)
+                  | no gt ↦ absurd (let lt : i < r.index = omega arith in let z = d.rise x k k i r.index g r.entry at r.there lt dg de
+                      in omega arith)
                 ]
               ]
 
@@ -94,21 +114,25 @@ module _ (log : List Stamp) (draws : ℕ → List Draw) (t : ℕ) (es : List Ent
       entered (Looked v) i look s = cc
       entered Open i look s = cc
 
-      gives : (g : Entry) (v : What) → v ≡ w.what → IsFor v g x n → is_write x v ≡ true → Draws g x n → (position_of g ≡ None → ⊥) ⊎ GivesRight g x n true
+      gives : (g : Entry) (v : What) → v ≡ w.what → IsFor v g x n → is_write x v ≡ true → Draws g x n → (position_of g ≡ None → ⊥)
+          ⊎ GivesRight g x n true
       gives (Plain y m c true z false) v e f i dr = inr (plain (Plain y m c true z false) dr)
         where
           plain : (g : Entry) → Draws (Plain y m c true z false) x n → GivesRight (Plain y m c true z false) x n true
           plain g (inl l) = absurd l
           plain g (inr q) = (q.0, refl, q.1, q.2, refl)
-      gives (Plain y m c true z true) (Entered e') e f i dr = absurd (let q : writes_var x (Plain y m c true z true) ≡ true = subst (λ a. writes_var x a ≡ true) f.0 i in cc)
-      gives (Plain y m c false z a) (Entered e') e f i dr = absurd (let q : writes_var x (Plain y m c false z a) ≡ true = subst (λ b. writes_var x b ≡ true) f.0 i in cc)
+      gives (Plain y m c true z true) (Entered e') e f i dr =
+          absurd (let q : writes_var x (Plain y m c true z true) ≡ true = subst (λ a. writes_var x a ≡ true) f.0 i in cc)
+      gives (Plain y m c false z a) (Entered e') e f i dr =
+          absurd (let q : writes_var x (Plain y m c false z a) ≡ true = subst (λ b. writes_var x b ≡ true) f.0 i in cc)
       gives (Commit p tx) v e f i dr = inl (λ q. cc)
       gives (Sync a b c) v e f i dr = absurd (none dr)
         where
           none : Draws (Sync a b c) x n → ⊥
           none (inl l) = l
           none (inr l) = l
-      gives (Abort tx why) (Entered e') e f i dr = absurd (let q : writes_var x (Abort tx why) ≡ true = subst (λ b. writes_var x b ≡ true) f.0 i in cc)
+      gives (Abort tx why) (Entered e') e f i dr =
+          absurd (let q : writes_var x (Abort tx why) ≡ true = subst (λ b. writes_var x b ≡ true) f.0 i in cc)
       gives (Trim a) v e f i dr = absurd (none dr)
         where
           none : Draws (Trim a) x n → ⊥
@@ -161,7 +185,8 @@ module _ (log : List Stamp) (draws : ℕ → List Draw) (t : ℕ) (es : List Ent
                 | yes own ↦ own_later top.0 c.0 top.1 own c.2.writes (omega arith)
                 | no other ↦
                     (let w = entry_of_write x (length c.1) c.0.what c.2.holds.named c.2.writes in
-                    none_behind log x its.0 c.0 c.1 (Plain x k false true value false) w.0 c.2.holds among what_is refl tt (refl, refl) (ap Rattle.gl_draws.specs.Draws.variables_in what_is) upto w.1 w.2.0 (λ same. other (sym same ∙ its.2)))
+                    none_behind log x its.0 c.0 c.1 (Plain x k false true value false) w.0 c.2.holds among what_is refl tt (refl, refl)
+                    (ap Rattle.gl_draws.specs.Draws.variables_in what_is) upto w.1 w.2.0 (λ same. other (sym same ∙ its.2)))
               ])
             ])
       ]
@@ -193,7 +218,8 @@ module _ (log : List Stamp) (draws : ℕ → List Draw) (t : ℕ) (es : List Ent
               | yes e ↦
                   (let z : r.entry ≡ h = some_same r.entry h (sym r.there ∙ ap (slice_get es) (sym e) ∙ at') in
                   number (subst (λ y. Draws y x n) (sym z ∙ is) dr))
-              | no ne ↦ (let lt' : i < r.index = omega arith in let z = d.rise x n k i r.index h r.entry at' r.there lt' dr de in omega arith)
+              | no ne ↦ (let lt' : i < r.index = omega arith in let z = d.rise x n k i r.index h r.entry at' r.there lt' dr de
+                  in omega arith)
             ]
             | no gt ↦ elim (gives h p' dr) [
               | inl event ↦ event (r.no_event i h at' (omega arith) (at_within es i h at'))
@@ -205,20 +231,28 @@ module _ (log : List Stamp) (draws : ℕ → List Draw) (t : ℕ) (es : List Ent
           number (inl l) = l
           number (inr l) = let y = l.2 in omega arith
 
-  calm_from : (ds : List Draw) → ((n : ℕ) (a : Draw) → DrawAt ds n a → DrawAt (draws x) n a) → DrawsHold log x ds → DrawAt ds k its.0 → IsCalm x ds
+  calm_from : (ds : List Draw) → ((n : ℕ) (a : Draw) → DrawAt ds n a → DrawAt (draws x) n a) → DrawsHold log x ds → DrawAt ds k its.0
+      → IsCalm x ds
   calm_from [] sub holds at = at
   calm_from (e ∷ ds) sub holds at = by (is_write x e.what) refl (λ q. calm_from ds (λ n a c. sub n a (inr c)) holds.1 q)
     where
       by : (q : Bool) → is_write x e.what ≡ q → (DrawAt ds k its.0 → IsCalm x ds) → IsCalm x (e ∷ ds)
       by true w rec = inl w
       by false w rec =
-          let behind : DrawAt ds k its.0 = elim at [ inl n ↦ absurd (let z : is_write x e.what ≡ true = subst (λ (a : Draw). is_write x a.what ≡ true) n.1 writes in let c : true ≡ false = sym z ∙ w in cc) | inr c ↦ c ] in
+          let behind : DrawAt ds k its.0 = elim at [
+            | inl n ↦
+                absurd (let z : is_write x e.what ≡ true = subst (λ (a : Draw). is_write x a.what ≡ true) n.1 writes in let c : true
+                ≡ false = sym z ∙ w in cc)
+            | inr c ↦ c
+          ] in
           let lt = draw_below ds k its.0 behind in
           inr (
             w,
             (λ g made performed. elim (ℕ_discrete e.thread t) [
               | yes own ↦ own_performed (length ds) e g (sub (length ds) e (inl (refl, refl))) own made performed lt
-              | no other ↦ none_behind log x its.0 e ds (Plain x k false true value false) g holds.0 (draw_among ds k its.0 behind) what_is refl tt (refl, refl) (ap Rattle.gl_draws.specs.Draws.variables_in what_is) upto made performed (λ same. other (sym same ∙ its.2))
+              | no other ↦ none_behind log x its.0 e ds (Plain x k false true value false) g holds.0 (draw_among ds k its.0 behind) what_is
+                  refl tt (refl, refl) (ap Rattle.gl_draws.specs.Draws.variables_in what_is) upto made performed
+                  (λ same. other (sym same ∙ its.2))
             ]),
             rec behind,
           )

@@ -6,10 +6,12 @@ use Rattle.gl_model.specs.Rising.{with_one, with_all}
 use Rattle.gl_model.specs.Trace.{is_in}
 
 -- what a list is mapped to
-contains_at : {A B : Type 0} (f : A → B) (xs : List A) (z : B) (k : ℕ) → k < length (map f xs) → get_or (map f xs) k z ≡ z → (a : A) × Contains xs a × (f a ≡ z)
+contains_at : {A B : Type 0} (f : A → B) (xs : List A) (z : B) (k : ℕ) → k < length (map f xs) → get_or (map f xs) k z ≡ z → (a : A)
+    × Contains xs a × (f a ≡ z)
 contains_at f [] z k n e = absurd (omega arith)
 contains_at f (x ∷ xs) z zero n e = (x, (zero, omega arith, refl), e)
-contains_at f (x ∷ xs) z (suc k) n e = let r = contains_at f xs z k (omega arith) e in let m = r.1.1 in (r.0, (suc r.1.0, omega arith, r.1.2), r.2)
+contains_at f (x ∷ xs) z (suc k) n e = let r = contains_at f xs z k (omega arith) e in let m = r.1.1
+    in (r.0, (suc r.1.0, omega arith, r.1.2), r.2)
 
 pub contains_map : {A B : Type 0} (f : A → B) (xs : List A) (z : B) → Contains (map f xs) z → (a : A) × Contains xs a × (f a ≡ z)
 contains_map f xs z c = contains_at f xs z c.0 c.1 c.2
@@ -42,7 +44,8 @@ is_in-one z x [] = refl
 is_in-one z x (y ∷ ys) = here (x == y) refl (nat_lt x y) (is_in-one z x ys)
   where
     here : (b : Bool) → (x == y) ≡ b → (c : Bool) → is_in z (with_one x ys) ≡ (if z == x then true else is_in z ys) →
-        is_in z (if b then y ∷ ys else if c then x ∷ (y ∷ ys) else y ∷ with_one x ys) ≡ (if z == x then true else if z == y then true else is_in z ys)
+        is_in z (if b then y ∷ ys else if c then x ∷ (y ∷ ys) else y ∷ with_one x ys)
+        ≡ (if z == x then true else if z == y then true else is_in z ys)
     here true e c rec = let same : x ≡ y = eqb-true x y e in rw same (twice (z == y) (is_in z ys))
     here false e true rec = refl
     here false e false rec = ap (λ r. if z == y then true else r) rec ∙ swapped (z == y) (z == x) (is_in z ys)
@@ -55,7 +58,8 @@ joined false false r = refl
 
 is_in-all : (z : ℕ) (xs ys : List ℕ) → is_in z (with_all xs ys) ≡ (if is_in z xs then true else is_in z ys)
 is_in-all z [] ys = refl
-is_in-all z (x ∷ xs) ys = is_in-all z xs (with_one x ys) ∙ ap (λ r. if is_in z xs then true else r) (is_in-one z x ys) ∙ joined (z == x) (is_in z xs) (is_in z ys)
+is_in-all z (x ∷ xs) ys = is_in-all z xs (with_one x ys) ∙ ap (λ r. if is_in z xs then true else r) (is_in-one z x ys)
+    ∙ joined (z == x) (is_in z xs) (is_in z ys)
 
 exchanged : (a b : Bool) → (if a then true else b) ≡ (if b then true else a)
 exchanged true true = refl

@@ -45,5 +45,7 @@ IsAddedAs setting h h' R d (Some xs) = ((h' ≡ h) × IsNextRefused R d xs) ⊎ 
 -- in any record to which an entry of a running thread was added it is racy exactly where it is so as the next access before it
 abbrev pub AddedIsRacy : Type 0
 AddedIsRacy =
-    (setting : Setting) (h h' : List Stamp) (now : State) → Allows setting h now → (R : Lists) (ds ds' : ℕ → List Draw) (d : Place) → now.threads d.thread ≡ Running →
-    (e : Entry) (v : Option (List ℕ)) (y m : ℕ) → IsAdded h h' R ds ds' d e y m → IsAddedAs setting h h' R d v → IsRacy R d y ↔ IsRacyNext h y (ds y) d.thread v e
+    (setting : Setting) (h h' : List Stamp) (now : State) → Allows setting h now → (R : Lists) (ds ds' : ℕ → List Draw) (d : Place)
+    → now.threads d.thread ≡ Running →
+    (e : Entry) (v : Option (List ℕ)) (y m : ℕ) → IsAdded h h' R ds ds' d e y m → IsAddedAs setting h h' R d v
+    → IsRacy R d y ↔ IsRacyNext h y (ds y) d.thread v e

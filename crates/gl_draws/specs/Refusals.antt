@@ -57,4 +57,5 @@ RefusalsHold log until x ds = EachDraw (RefusalHolds log until x) ds
 
 -- all variables of a refused attempt were judged over the same events, and the one that it names is among them
 abbrev pub AreJudgedOnce : (ℕ → ℕ → ℕ) → List Entry → Type 0
-AreJudgedOnce until es = (i : ℕ) (tx : Tx) (var : ℕ) → At es i (Abort tx (Raised var)) → (n : ℕ) × ((x k : ℕ) → Contains tx.numbers (record { var = x; nth = k }) → until x k ≡ n) × (is_in var (variables_of tx) ≡ true)
+AreJudgedOnce until es = (i : ℕ) (tx : Tx) (var : ℕ) → At es i (Abort tx (Raised var)) → (n : ℕ)
+    × ((x k : ℕ) → Contains tx.numbers (record { var = x; nth = k }) → until x k ≡ n) × (is_in var (variables_of tx) ≡ true)

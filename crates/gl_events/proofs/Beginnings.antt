@@ -37,15 +37,18 @@ owned_depth : (u t d k : ℕ) → Owned u d ≡ Owned t k → d ≡ k
 owned_depth u t d k e = cc
 
 -- one thread changed
-threads_good : (setting : Setting) (s : State) (g : ℕ) (x : ThreadState) → IsGood setting s → ((f : ℕ) (v : ℤ) → x ≡ Forked f v → MayStart setting f × (g ≡ 0 → v ≡ pos 0))
+threads_good : (setting : Setting) (s : State) (g : ℕ) (x : ThreadState) → IsGood setting s
+    → ((f : ℕ) (v : ℤ) → x ≡ Forked f v → MayStart setting f × (g ≡ 0 → v ≡ pos 0))
     → (t f : ℕ) (v : ℤ) → with_at s.threads g x t ≡ Forked f v → MayStart setting f × (t ≡ 0 → v ≡ pos 0)
 threads_good setting s g x good here t f v is = elim (ℕ_discrete t g) [
-  | yes e ↦ let r = here f v (sym (with_here s.threads g x) ∙ subst (λ z. with_at s.threads g x z ≡ Forked f v) e is) in (r.0, λ z. r.1 (sym e ∙ z))
+  | yes e ↦ let r = here f v (sym (with_here s.threads g x) ∙ subst (λ z. with_at s.threads g x z ≡ Forked f v) e is)
+      in (r.0, λ z. r.1 (sym e ∙ z))
   | no ne ↦ good.forked t f v (sym (with_else s.threads g t x ne) ∙ is)
 ]
 
 -- one monitor changed
-monitors_good : (setting : Setting) (s : State) (g : ℕ) (m : MonitorState) → IsGood setting s → ((u d : ℕ) → m ≡ Owned u d → 0 < d) → (o u d : ℕ) → with_at s.monitors g m o ≡ Owned u d → 0 < d
+monitors_good : (setting : Setting) (s : State) (g : ℕ) (m : MonitorState) → IsGood setting s → ((u d : ℕ) → m ≡ Owned u d → 0 < d)
+    → (o u d : ℕ) → with_at s.monitors g m o ≡ Owned u d → 0 < d
 monitors_good setting s g m good here o u d is = elim (ℕ_discrete o g) [
   | yes e ↦ here u d (sym (with_here s.monitors g m) ∙ subst (λ z. with_at s.monitors g m z ≡ Owned u d) e is)
   | no ne ↦ good.entered o u d (sym (with_else s.monitors g o m ne) ∙ is)
@@ -58,40 +61,59 @@ entered_deep a (Owned w k) m e u d is = let j = owned_depth w u (k + 1) d (ap (�
 left_deep : (a k : ℕ) (u d : ℕ) → left_once a k ≡ Owned u d → 0 < d
 left_deep a zero u d is = absurd (cc)
 left_deep a (suc k) u d is =
-    let z : left_once a (suc k) ≡ Owned a (suc k) = ap (λ b. if b then Free else Owned a (suc k)) (ne_eqb (suc k) 0 (λ e. absurd (omega arith))) in
+    let z : left_once a (suc k) ≡ Owned a (suc k) =
+    ap (λ b. if b then Free else Owned a (suc k)) (ne_eqb (suc k) 0 (λ e. absurd (omega arith))) in
     let j = owned_depth a u (suc k) d (sym z ∙ is) in
     omega arith
 
-good_of : (setting : Setting) (s new : State) → IsGood setting s → ((t f : ℕ) (v : ℤ) → new.threads t ≡ Forked f v → MayStart setting f × (t ≡ 0 → v ≡ pos 0)) → new.monitors ≡ s.monitors → IsGood setting new
-good_of setting s new good threads same = record { forked = threads; entered = λ o u d is. good.entered o u d (sym (ap (λ (m : ℕ → MonitorState). m o) same) ∙ is) }
-
-same_threads : (setting : Setting) (s new : State) → IsGood setting s → new.threads ≡ s.threads → (t f : ℕ) (v : ℤ) → new.threads t ≡ Forked f v → MayStart setting f × (t ≡ 0 → v ≡ pos 0)
-same_threads setting s new good same t f v is = good.forked t f v (sym (ap (λ (m : ℕ → ThreadState). m t) same) ∙ is)
-
-effect_good : (setting : Setting) (s new : State) (a : ℕ) (event : Event) (value : ℤ) → IsGood setting s → Effect setting s a event value new → IsGood setting new
+effect_good : (setting : Setting) (s new : State) (a : ℕ) (event : Event) (value : ℤ) → IsGood setting s
+    → Effect setting s a event value new → IsGood setting new
 effect_good setting s new a (Commit xs) value good e = subst (IsGood setting) (sym e) good
-effect_good setting s new a (Does (Begin f)) value good e = subst (IsGood setting) (sym e) (record { forked = threads_good setting s a Running good (λ f v is. absurd (cc)); entered = good.entered })
-effect_good setting s new a (Does End) value good e = subst (IsGood setting) (sym e) (record { forked = threads_good setting s a Ended good (λ f v is. absurd (cc)); entered = good.entered })
-effect_good setting s new a (Does (Acq g)) value good e = subst (IsGood setting) (sym e.2) (record { forked = good.forked; entered = monitors_good setting s g e.0 good (entered_deep a (s.monitors g) e.0 e.1) })
-effect_good setting s new a (Does (Rel g)) value good e = subst (IsGood setting) (sym e.2) (record { forked = good.forked; entered = monitors_good setting s g (left_once a e.0) good (left_deep a e.0) })
+effect_good setting s new a (Does (Begin f)) value good e =
+    subst (IsGood setting) (sym e) (record {
+      forked = threads_good setting s a Running good (λ f v is. absurd (cc));
+      entered = good.entered;
+    })
+effect_good setting s new a (Does End) value good e =
+    subst (IsGood setting) (sym e) (record { forked = threads_good setting s a Ended good (λ f v is. absurd (cc)); entered = good.entered })
+effect_good setting s new a (Does (Acq g)) value good e =
+    subst (IsGood setting) (sym e.2) (record {
+      forked = good.forked;
+      entered = monitors_good setting s g e.0 good (entered_deep a (s.monitors g) e.0 e.1);
+    })
+effect_good setting s new a (Does (Rel g)) value good e =
+    subst (IsGood setting) (sym e.2) (record {
+      forked = good.forked;
+      entered = monitors_good setting s g (left_once a e.0) good (left_deep a e.0);
+    })
 effect_good setting s new a (Does (VRead v)) value good e = subst (IsGood setting) (sym e.1) good
-effect_good setting s new a (Does (VWrite v)) value good e = subst (IsGood setting) (sym e) (record { forked = good.forked; entered = good.entered })
+effect_good setting s new a (Does (VWrite v)) value good e =
+    subst (IsGood setting) (sym e) (record { forked = good.forked; entered = good.entered })
 effect_good setting s new a (Does (Fork u f)) value good e = subst (IsGood setting) (sym e.1)
-    (record { forked = threads_good setting s u (Forked f value) good (λ g w is. (subst (MayStart setting) (forked_same f g value w is).0 (inr e.0.3), λ z. absurd (let some = e.0.0 in omega arith))); entered = good.entered })
+    (record {
+      forked = threads_good setting s u (Forked f value) good
+          (λ g w is. (subst (MayStart setting) (forked_same f g value w is).0 (inr e.0.3), λ z. absurd (let some = e.0.0 in omega arith)));
+      entered = good.entered;
+    })
 effect_good setting s new a (Does (Join u)) value good e = subst (IsGood setting) (sym e.1) good
-effect_good setting s new a (Does (Alloc c)) value good e = subst (IsGood setting) (sym e.4) (record { forked = good.forked; entered = good.entered })
-effect_good setting s new a (Does Print) value good e = subst (IsGood setting) (sym e) (record { forked = good.forked; entered = good.entered })
-effect_good setting s new a (Does Input) value good e = subst (IsGood setting) (sym e.1) (record { forked = good.forked; entered = good.entered })
+effect_good setting s new a (Does (Alloc c)) value good e =
+    subst (IsGood setting) (sym e.4) (record { forked = good.forked; entered = good.entered })
+effect_good setting s new a (Does Print) value good e =
+    subst (IsGood setting) (sym e) (record { forked = good.forked; entered = good.entered })
+effect_good setting s new a (Does Input) value good e =
+    subst (IsGood setting) (sym e.1) (record { forked = good.forked; entered = good.entered })
 effect_good setting s new a (Does (Fail k)) value good e = subst (IsGood setting) (sym e.1) good
 
 run_good : (setting : Setting) (s now : State) (log : List Stamp) → IsGood setting s → Run setting s log now → IsGood setting now
 run_good setting s now [] good run = subst (IsGood setting) (sym run) good
-run_good setting s now (x ∷ log) good run = run_good setting run.1 now log (effect_good setting s run.1 x.thread x.event run.0 good run.2.effect) run.3
+run_good setting s now (x ∷ log) good run =
+    run_good setting run.1 now log (effect_good setting s run.1 x.thread x.event run.0 good run.2.effect) run.3
 
 start_good : (setting : Setting) → IsGood setting (start setting)
 start_good setting = record {
   forked = λ t f v is. elim (ℕ_discrete t 0) [
-    | yes e ↦ let r = forked_same setting.main f (pos 0) v (sym (with_here (λ _. NeverForked) 0 (Forked setting.main (pos 0))) ∙ subst (λ z. (start setting).threads z ≡ Forked f v) e is) in (inl (sym r.0), λ _. sym r.1)
+    | yes e ↦ let r = forked_same setting.main f (pos 0) v (sym (with_here (λ _. NeverForked) 0 (Forked setting.main (pos 0)))
+        ∙ subst (λ z. (start setting).threads z ≡ Forked f v) e is) in (inl (sym r.0), λ _. sym r.1)
     | no ne ↦ absurd (let z : NeverForked ≡ Forked f v = sym (with_else (λ _. NeverForked) 0 t (Forked setting.main (pos 0)) ne) ∙ is in cc)
   ];
   entered = λ o u d is. absurd (cc);
@@ -101,10 +123,12 @@ state_good : (setting : Setting) (v : View) (l : ListView) → (told : StateTold
 state_good setting v l told = run_good setting (start setting) told.now told.log (start_good setting) told.allowed
 
 -- a thread that was forked begins with main or with a function that may be forked
-pub starts_with : (setting : Setting) (v : View) (l : ListView) (t f : ℕ) (value : ℤ) → StateTold setting v l → stage_of l t ≡ stage.Forked f value → MayStart setting f
+pub starts_with : (setting : Setting) (v : View) (l : ListView) (t f : ℕ) (value : ℤ) → StateTold setting v l → stage_of l t
+    ≡ stage.Forked f value → MayStart setting f
 starts_with setting v l t f value told is = ((state_good setting v l told).forked t f value (told.is.threads t ∙ ap thread_state is)).0
 
-pub sound : (setting : Setting) (v : View) (l : ListView) (t : ℕ) → StateTold setting v l → ((f : ℕ) → MayStart setting f → f < FUNCTIONS) → IsSound setting t l
+pub sound : (setting : Setting) (v : View) (l : ListView) (t : ℕ) → StateTold setting v l → ((f : ℕ) → MayStart setting f → f < FUNCTIONS)
+    → IsSound setting t l
 sound setting v l t told near =
     let good = state_good setting v l told in record {
       forked = λ f value is. let r = good.forked t f value (told.is.threads t ∙ ap thread_state is) in (near f r.0, r.1);
@@ -113,7 +137,8 @@ sound setting v l t told near =
     }
 
 -- main and the functions that may be forked are ones that there are
-pub start_near : (setting : Setting) (main : ℕ) → main ≡ setting.main → main < FUNCTIONS → ((f : ℕ) → Contains setting.forkable f → f < FUNCTIONS) → (f : ℕ) → MayStart setting f → f < FUNCTIONS
+pub start_near : (setting : Setting) (main : ℕ) → main ≡ setting.main → main < FUNCTIONS
+    → ((f : ℕ) → Contains setting.forkable f → f < FUNCTIONS) → (f : ℕ) → MayStart setting f → f < FUNCTIONS
 start_near setting main is near forkable f (inl e) = subst (λ n. n < FUNCTIONS) (is ∙ sym e) near
 start_near setting main is near forkable f (inr has) = forkable f has
 

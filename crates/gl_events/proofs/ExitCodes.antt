@@ -29,14 +29,16 @@ told_level : (setting : Setting) (p : PassView) (l : ListView) → StateTold set
 told_level setting p l told o d near =
     let same : shelf_of p ≡ told.shelf = first_shelf (shelf_of p) told.shelf told.one in
     let k : AreEvents told.log p.own.id p.own.mine = subst (λ (s : Shelf). AreEvents told.log s.thread s.marked) (sym same) told.own in
-    subst (λ m. (m ≡ Owned p.own.id d) ↔ ((slice_index_or (levels_of p.own.mine) o 0 ≡ d) × (0 < d))) (told.is.monitors o) (levels_tell setting told.log told.now p.own.id p.own.mine told.allowed k o d near)
+    subst (λ m. (m ≡ Owned p.own.id d) ↔ ((slice_index_or (levels_of p.own.mine) o 0 ≡ d) × (0 < d))) (told.is.monitors o)
+    (levels_tell setting told.log told.now p.own.id p.own.mine told.allowed k o d near)
 
 owned_as : (m : Option (ℕ × ℕ)) (t d : ℕ) → monitor_state m ≡ Owned t d → m ≡ Some (t, d)
 owned_as None t d e = absurd (let w : Free ≡ Owned t d = e in cc)
 owned_as (Some o) t d e = let a : o.0 ≡ t = cc in let b : o.1 ≡ d = cc in (λ i. Some (a i, b i))
 
 -- it leaves the monitor, which it is in
-left_code : (setting : Setting) (p : PassView) (l : ListView) (o : ℕ) → StateTold setting (view_of p) l → MayAct setting p.own.id l (Rel o) (pos 0) → (if slice_index_or (levels_of p.own.mine) o 0 == 0 then not_owner else 0) ≡ 0
+left_code : (setting : Setting) (p : PassView) (l : ListView) (o : ℕ) → StateTold setting (view_of p) l
+    → MayAct setting p.own.id l (Rel o) (pos 0) → (if slice_index_or (levels_of p.own.mine) o 0 == 0 then not_owner else 0) ≡ 0
 left_code setting p l o told may =
     let d = may.2.0 in
     let level = (told_level setting p l told o (d + 1) may.0).0 (ap monitor_state may.2.1) in
@@ -51,30 +53,41 @@ outside setting t o l (inr (inr (inr (inl w)))) = absurd (let e = w.0 in omega a
 outside setting t o l (inr (inr (inr (inr w)))) = absurd (let e = w.0 in omega arith)
 
 -- it fails, since it is not in the monitor
-failed_code : (setting : Setting) (p : PassView) (l : ListView) (o : ℕ) → o < MONITORS → StateTold setting (view_of p) l → MayAct setting p.own.id l (Fail not_owner) (pos o) → (if slice_index_or (levels_of p.own.mine) o 0 == 0 then not_owner else 0) ≡ not_owner
+failed_code : (setting : Setting) (p : PassView) (l : ListView) (o : ℕ) → o < MONITORS → StateTold setting (view_of p) l
+    → MayAct setting p.own.id l (Fail not_owner) (pos o) → (if slice_index_or (levels_of p.own.mine) o 0 == 0 then not_owner else 0)
+    ≡ not_owner
 failed_code setting p l o near told may = by (slice_index_or (levels_of p.own.mine) o 0) refl
   where
-    by : (n : ℕ) → slice_index_or (levels_of p.own.mine) o 0 ≡ n → (if slice_index_or (levels_of p.own.mine) o 0 == 0 then not_owner else 0) ≡ not_owner
+    by : (n : ℕ) → slice_index_or (levels_of p.own.mine) o 0 ≡ n
+        → (if slice_index_or (levels_of p.own.mine) o 0 == 0 then not_owner else 0) ≡ not_owner
     by zero is = ap (λ (b : Bool). if b then not_owner else 0) (eq-eqb (slice_index_or (levels_of p.own.mine) o 0) 0 is)
     by (suc n) is =
         let owned = (told_level setting p l told o (suc n) near).1 (is, omega arith) in
         absurd (outside setting p.own.id o l may (suc n) (owned_as (monitor_of l o) p.own.id (suc n) owned))
 
 code_left : (o : ℕ) (d : Done) → d.code ≡ 0 → (act_of (call.Exit o) d ≡ Rel o) × (value_of (call.Exit o) d ≡ pos 0)
-code_left o d e = let b = eq-eqb d.code 0 e in (ap (λ (c : Bool). if c then Rel o else Fail not_owner) b, ap (λ (c : Bool). if c then pos 0 else pos o) b)
+code_left o d e = let b = eq-eqb d.code 0 e
+    in (ap (λ (c : Bool). if c then Rel o else Fail not_owner) b, ap (λ (c : Bool). if c then pos 0 else pos o) b)
 
 code_failed : (o : ℕ) (d : Done) → d.code ≡ not_owner → (act_of (call.Exit o) d ≡ Fail not_owner) × (value_of (call.Exit o) d ≡ pos o)
-code_failed o d e = let b = ne_eqb d.code 0 (λ z. absurd (omega arith)) in (ap (λ (c : Bool). if c then Rel o else Fail not_owner) b, ap (λ (c : Bool). if c then pos 0 else pos o) b)
+code_failed o d e = let b = ne_eqb d.code 0 (λ z. absurd (omega arith))
+    in (ap (λ (c : Bool). if c then Rel o else Fail not_owner) b, ap (λ (c : Bool). if c then pos 0 else pos o) b)
 
 -- the code of what was done
-pub exit_code : (z : TableView) (p q : PassView) (o : ℕ) (d : Done) → o < MONITORS → HasCode (call.Exit o) d → IsDone z p q (act_of (call.Exit o) d) (value_of (call.Exit o) d) d → d.code ≡ (if slice_index_or (levels_of p.own.mine) o 0 == 0 then not_owner else 0)
+pub exit_code : (z : TableView) (p q : PassView) (o : ℕ) (d : Done) → o < MONITORS → HasCode (call.Exit o) d
+    → IsDone z p q (act_of (call.Exit o) d) (value_of (call.Exit o) d) d → d.code
+    ≡ (if slice_index_or (levels_of p.own.mine) o 0 == 0 then not_owner else 0)
 exit_code z p q o d near (inl e) is =
     let a = code_left o d e in
-    let may : MayAct z.key.setting p.own.id is.state (Rel o) (pos 0) = subst (λ v. MayAct z.key.setting p.own.id is.state (Rel o) v) a.1 (subst (λ x. MayAct z.key.setting p.own.id is.state x (value_of (call.Exit o) d)) a.0 is.may) in
+    let may : MayAct z.key.setting p.own.id is.state (Rel o) (pos 0) =
+    subst (λ v. MayAct z.key.setting p.own.id is.state (Rel o) v) a.1
+    (subst (λ x. MayAct z.key.setting p.own.id is.state x (value_of (call.Exit o) d)) a.0 is.may) in
     e ∙ sym (left_code z.key.setting p is.state o is.looked.told may)
 exit_code z p q o d near (inr e) is =
     let a = code_failed o d e in
-    let may : MayAct z.key.setting p.own.id is.state (Fail not_owner) (pos o) = subst (λ v. MayAct z.key.setting p.own.id is.state (Fail not_owner) v) a.1 (subst (λ x. MayAct z.key.setting p.own.id is.state x (value_of (call.Exit o) d)) a.0 is.may) in
+    let may : MayAct z.key.setting p.own.id is.state (Fail not_owner) (pos o) =
+    subst (λ v. MayAct z.key.setting p.own.id is.state (Fail not_owner) v) a.1
+    (subst (λ x. MayAct z.key.setting p.own.id is.state x (value_of (call.Exit o) d)) a.0 is.may) in
     e ∙ sym (failed_code z.key.setting p is.state o near is.looked.told may)
 
 module _ {A E : Type 0} where

@@ -46,13 +46,15 @@ begun_stays life (x ∷ es) e = begun_stays (life_after life x) es (begun_after 
 
 begun_not : (life : Life) (es : List Entry) → has_begun life ≡ true → life_from life es ≡ Unbegun → ⊥
 unfolding has_begun
-begun_not life es e none = let a : has_begun (life_from life es) ≡ true = begun_stays life es e in let c : has_begun (life_from life es) ≡ false = ap has_begun none in absurd (cc)
+begun_not life es e none = let a : has_begun (life_from life es) ≡ true = begun_stays life es e in let c : has_begun (life_from life es)
+    ≡ false = ap has_begun none in absurd (cc)
 
 some_same : (a c : Entry) → Some a ≡ Some c → a ≡ c
 some_same a c e = cc
 
 -- an entry behind which a list has not begun is neither End nor Over
-first_none : (x : Entry) (es : List Entry) → life_from (life_after Unbegun x) es ≡ Unbegun → (life_after Unbegun x ≡ Unbegun) × (IsEnd x → ⊥) × (IsOver x → ⊥)
+first_none : (x : Entry) (es : List Entry) → life_from (life_after Unbegun x) es ≡ Unbegun → (life_after Unbegun x ≡ Unbegun)
+    × (IsEnd x → ⊥) × (IsOver x → ⊥)
 unfolding has_begun
 first_none (Sync at act value) es e = absurd (begun_not (life_act act) es (act_begins act) e)
 first_none (Commit at tx) es e = absurd (begun_not Running es refl e)
@@ -63,11 +65,13 @@ first_none (Over ending) es e = absurd (begun_not Closed es refl e)
 
 pub none_ended : (es : List Entry) → life_of es ≡ Unbegun → (i : ℕ) (e : Entry) → At es i e → (IsEnd e → ⊥) × (IsOver e → ⊥)
 none_ended [] u i e at = absurd (cc)
-none_ended (x ∷ es) u zero e at = let f = first_none x es u in let same = some_same x e at in (subst (λ z. IsEnd z → ⊥) same f.1, subst (λ z. IsOver z → ⊥) same f.2)
+none_ended (x ∷ es) u zero e at = let f = first_none x es u in let same = some_same x e at
+    in (subst (λ z. IsEnd z → ⊥) same f.1, subst (λ z. IsOver z → ⊥) same f.2)
 none_ended (x ∷ es) u (suc i) e at = none_ended es (ap (λ l. life_from l es) (sym (first_none x es u).0) ∙ u) i e at
 
 -- the first event may be stored where the list has not begun
-pub begins_store : (t : ℕ) (es : List Entry) (n f : ℕ) (value : _) → life_of es ≡ Unbegun → EntryForm t (Sync n (Begin f) value) → MayStore t es (Sync n (Begin f) value)
+pub begins_store : (t : ℕ) (es : List Entry) (n f : ℕ) (value : _) → life_of es ≡ Unbegun → EntryForm t (Sync n (Begin f) value)
+    → MayStore t es (Sync n (Begin f) value)
 begins_store t es n f value u form = record {
   well_formed = form;
   begins = λ _ _. tt;

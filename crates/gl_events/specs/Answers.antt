@@ -70,7 +70,8 @@ IsCause c z p q (stop.Blocked owner) = IsRefused c z p q (stop.Blocked owner) ×
 IsCause c z p q (stop.NotEnded thread) = IsRefused c z p q (stop.NotEnded thread) × (q.seen ≡ p.seen)
 IsCause c z p q (stop.NotForked live) = IsRefused c z p q (stop.NotForked live) × (q.seen ≡ p.seen)
 IsCause c z p q (stop.RingFull low tail) =
-    (l : ListView) × Looked z p q l (Hold 0 low ∷ []) × ((s : Stop) → Refuses c p.own.id l s → ⊥) × (q.seen ≡ tail) × (p.seen ≤ tail) × (HasRoomAt z low tail → ⊥)
+    (l : ListView) × Looked z p q l (Hold 0 low ∷ []) × ((s : Stop) → Refuses c p.own.id l s → ⊥) × (q.seen ≡ tail) × (p.seen ≤ tail)
+    × (HasRoomAt z low tail → ⊥)
 
 -- after a stop the pass knows what it knew, and has the room that it had
 abbrev pub IsStop : Call → TableView → PassView → PassView → Stop → Type 0
@@ -90,7 +91,8 @@ pub record IsDone (z : TableView) (p q : PassView) (act : Act) (value : ℤ) (d 
   pub step : IsStepOf z.key.setting p act value
   -- from each state of the machine that the taken state stands for, it is one to a state that this one stands for
   pub next : ListView
-  pub moves : (now : State) → IsStateOf state now → (new : State) × Step z.key.setting now (record { thread = p.own.id; event = Does act }) value new × IsStateOf next new
+  pub moves : (now : State) → IsStateOf state now → (new : State)
+      × Step z.key.setting now (record { thread = p.own.id; event = Does act }) value new × IsStateOf next new
   pub answer : d ≡ done_of d.at act value
   pub seen : q.seen ≡ suc d.at
   pub known : q.known ≡ p.known ++ (d.at, record { thread = p.own.id; event = Does act }) ∷ []

@@ -27,7 +27,8 @@ sound : (all : List Step) (n : ℕ) (lines : List Line) → IsTrace all → step
 sound all n lines is same = record {
   in_range = λ k l at.
       let s : Step = (l.thread, l.item) in
-      let here : slice_get (steps_of lines) k ≡ Some s = slice_get-map (λ (l : Line). (l.thread, l.item)) lines k ∙ ap (option_map (λ (l : Line). (l.thread, l.item))) at in
+      let here : slice_get (steps_of lines) k ≡ Some s = slice_get-map (λ (l : Line). (l.thread, l.item)) lines k
+      ∙ ap (option_map (λ (l : Line). (l.thread, l.item))) at in
       step_at all is.range k s (whole k s (sym (ap (λ ss. slice_get ss k) same) ∙ here));
   clean = λ k s at.
       let here : slice_get (take n all) k ≡ Some s = sym (ap (λ ss. slice_get ss k) same) ∙ at in
@@ -40,5 +41,6 @@ sound all n lines is same = record {
     whole : (k : ℕ) (s : Step) → slice_get (take n all) k ≡ Some s → slice_get all k ≡ Some s
     whole k s at = ap (λ ss. slice_get ss k) (sym (take-append-drop n all)) ∙ get_kept (take n all) (drop n all) k s at
 
-pub front_sound : (all : List Step) (n : ℕ) (js : List Judged) → IsTrace all → length js ≡ length (take n all) → AreSound (lines_of (take n all) js)
+pub front_sound : (all : List Step) (n : ℕ) (js : List Judged) → IsTrace all → length js ≡ length (take n all)
+    → AreSound (lines_of (take n all) js)
 front_sound all n js is count = sound all n (lines_of (take n all) js) is (steps_same (take n all) js count)

@@ -15,7 +15,8 @@ mapped : {A B : Type 0} (f : A → B) (o : Option A) (b : B) → option_map f o 
 mapped f None b e = absurd (cc)
 mapped f (Some a) b e = (a, refl, let same : Some (f a) ≡ Some b = e in cc)
 
-pub map_at : {A B : Type 0} (f : A → B) (xs : List A) (i : ℕ) (b : B) → slice_get (map f xs) i ≡ Some b → (a : A) × (slice_get xs i ≡ Some a) × (f a ≡ b)
+pub map_at : {A B : Type 0} (f : A → B) (xs : List A) (i : ℕ) (b : B) → slice_get (map f xs) i ≡ Some b → (a : A)
+    × (slice_get xs i ≡ Some a) × (f a ≡ b)
 map_at f xs i b e = mapped f (slice_get xs i) b (sym (slice_get-map f xs i) ∙ e)
 
 pub map_there : {A B : Type 0} (f : A → B) (xs : List A) (i : ℕ) (a : A) → slice_get xs i ≡ Some a → slice_get (map f xs) i ≡ Some (f a)
@@ -39,9 +40,16 @@ module _ (kept : List Kept) (test : Told → Bool) (j : ℕ) where
         ap (λ (z : Kept). test z.told) (sym same) ∙ fails)
   ]
 
-  pub first_found : (n : ℕ) (k : Kept) → j < n → slice_get kept n ≡ Some k → test k.told ≡ true → NoneUpTo n → IsFirstBehind test (told_of kept) j (Some k.told)
-  first_found n k behind there passes none =
-      (n, behind, map_there told kept n k there, passes, λ h q after before at. (let m = map_at told kept h q at in ap test (sym m.2) ∙ none h m.0 after before m.1))
+  pub first_found : (n : ℕ) (k : Kept) → j < n → slice_get kept n ≡ Some k → test k.told ≡ true → NoneUpTo n
+      → IsFirstBehind test (told_of kept) j (Some k.told)
+  first_found n k behind there passes none = (
+    n,
+    behind,
+    map_there told kept n k there,
+    passes,
+    λ h q after before at. (let m = map_at told kept h q at in ap test (sym m.2)
+        ∙ none h m.0 after before m.1),
+  )
 
   pub none_found : (n : ℕ) → length kept ≤ n → NoneUpTo n → IsFirstBehind test (told_of kept) j None
   none_found n all none = λ h q after at.
@@ -50,7 +58,8 @@ module _ (kept : List Kept) (test : Told → Bool) (j : ℕ) where
       ap test (sym m.2) ∙ none h m.0 after (omega arith) m.1
 
 module _ (kept : List Kept) (t known i : ℕ) where
-  pub passed_no : (k : Kept) → slice_get kept i ≡ Some k → (b : Bool) → IsTrue b ↔ ((k.told.thread ≡ t) × (k.own ≤ known)) → b ≡ false → IsPassed kept t known i → ⊥
+  pub passed_no : (k : Kept) → slice_get kept i ≡ Some k → (b : Bool) → IsTrue b ↔ ((k.told.thread ≡ t) × (k.own ≤ known)) → b ≡ false
+      → IsPassed kept t known i → ⊥
   passed_no k there b test fails (q, here, is) =
       let same : q ≡ k = cc in
       let yes = test.1 (subst (λ (z : Kept). (z.told.thread ≡ t) × (z.own ≤ known)) same is) in
@@ -60,7 +69,8 @@ module _ (kept : List Kept) (t known i : ℕ) where
   passed_near (q, here, is) = slice_get_within kept i q here
 
 -- what lines that were taken say
-pub steps_near : (kept : List Kept) → ((i : ℕ) (k : Kept) → slice_get kept i ≡ Some k → IsLineItem k.told.item) → (i : ℕ) (s : Step) → slice_get (map step_of (told_of kept)) i ≡ Some s → IsLineItem s.1
+pub steps_near : (kept : List Kept) → ((i : ℕ) (k : Kept) → slice_get kept i ≡ Some k → IsLineItem k.told.item) → (i : ℕ) (s : Step)
+    → slice_get (map step_of (told_of kept)) i ≡ Some s → IsLineItem s.1
 steps_near kept all i s at =
     let m = map_at step_of (told_of kept) i s at in
     let n = map_at told kept i m.0 m.1 in

@@ -18,8 +18,19 @@ pub last_new : (P : ℕ → Type 0) (n : ℕ) → P n → IsLastBelow P (n + 1) 
 last_new P n p = (omega arith, p, λ i less near q. omega arith)
 
 pub last_on : (P : ℕ → Type 0) (n : ℕ) (o : Option ℕ) → (P n → ⊥) → IsLastBelow P n o → IsLastBelow P (n + 1) o
-last_on P n None never last = λ i near p. elim (cases_lt i n) [ inl below ↦ last i below p | inr over ↦ (let same : i ≡ n = omega arith in never (subst P same p)) ]
-last_on P n (Some j) never last = (let a = last.0 in omega arith, last.1, λ i less near p. elim (cases_lt i n) [ inl below ↦ last.2 i less below p | inr over ↦ (let same : i ≡ n = omega arith in never (subst P same p)) ])
+last_on P n None never last = λ i near p. elim (cases_lt i n) [
+  | inl below ↦ last i below p
+  | inr over ↦ (let same : i ≡ n = omega arith in never (subst P same p))
+]
+last_on P n (Some j) never last = (
+  let a = last.0
+      in omega arith,
+  last.1,
+  λ i less near p. elim (cases_lt i n) [
+    | inl below ↦ last.2 i less below p
+    | inr over ↦ (let same : i ≡ n = omega arith in never (subst P same p))
+  ],
+)
 
 pub last_all : (P : ℕ → Type 0) (n : ℕ) (o : Option ℕ) → ((i : ℕ) → P i → i < n) → IsLastBelow P n o → IsLastOf P o
 last_all P n None near last = λ i p. last i (near i p) p
@@ -39,14 +50,19 @@ counts_same P Q same n c (not_one m d counts never) = not_one m d (counts_same P
 pub counts_some : (P : ℕ → Type 0) (n c : ℕ) → Counts P n c → (j : ℕ) → j < n → P j → 0 < c
 counts_some P n c none_yet j near p = absurd (omega arith)
 counts_some P n c (one_more m d counts q) j near p = omega arith
-counts_some P n c (not_one m d counts never) j near p = elim (cases_lt j m) [ inl below ↦ counts_some P m d counts j below p | inr over ↦ absurd (let same : j ≡ m = omega arith in never (subst P same p)) ]
+counts_some P n c (not_one m d counts never) j near p =
+    elim (cases_lt j m) [
+      | inl below ↦ counts_some P m d counts j below p
+      | inr over ↦ absurd (let same : j ≡ m = omega arith in never (subst P same p))
+    ]
 
 -- a line at its place
 pub known_at : {A : Type 0} (kept : List A) (i : ℕ) (k : A) → i < length kept → k ≡ get_or kept i k → slice_get kept i ≡ Some k
 known_at kept i k near is = slice_get-get_or kept i k near ∙ ap Some (sym is)
 
 module _ (kept : List Kept) (next : Told) (x : ℕ) (known : List ℕ) (i : ℕ) where
-  pub unknown_no : (k : Kept) → slice_get kept i ≡ Some k → (b : Bool) → IsTrue b ↔ (Conflicts k.told next x × (at known k.told.thread < k.mark)) → b ≡ false → IsUnknown kept next x known i → ⊥
+  pub unknown_no : (k : Kept) → slice_get kept i ≡ Some k → (b : Bool)
+      → IsTrue b ↔ (Conflicts k.told next x × (at known k.told.thread < k.mark)) → b ≡ false → IsUnknown kept next x known i → ⊥
   unknown_no k there b test no' (q, here, is) =
       let same : q ≡ k = cc in
       let yes = test.1 (subst (λ (z : Kept). Conflicts z.told next x × (at known z.told.thread < z.mark)) same is) in
@@ -63,6 +79,7 @@ last_there P (Some j) some last = refl
 pub count_there : (P : ℕ → Type 0) (n c : ℕ) (o : Option ℕ) → ((i : ℕ) → P i → i < n) → (i : ℕ) × P i → Counts P n c → 0 < c
 count_there P n c o near some counts = counts_some P n c counts some.0 (near some.0 some.1) some.1
 
-pub last_told_same : (P Q : ℕ → Type 0) (before : List Told) (o : Option Told) → ((i : ℕ) → P i ↔ Q i) → IsLastTold P before o → IsLastTold Q before o
+pub last_told_same : (P Q : ℕ → Type 0) (before : List Told) (o : Option Told) → ((i : ℕ) → P i ↔ Q i) → IsLastTold P before o
+    → IsLastTold Q before o
 last_told_same P Q before None same last = last_same P Q None same last
 last_told_same P Q before (Some k) same last = (last.0, last.1, last_same P Q (Some last.0) same last.2)

@@ -19,9 +19,22 @@ use Rattle.gl_explain.specs.Texts.{explanation_text}
 abbrev raised : Told → Bool
 raised k = is_race k.judged
 
-races_push : (done : List Told) (t : Told) (b : Bool) → raised t ≡ b → (more : List Told) × (races_of (done ++ t ∷ []) ≡ races_of done ++ more) × (b ≡ true → more ≡ t ∷ []) × (b ≡ false → more ≡ [])
-races_push done t true is = (t ∷ [], filter-append raised done (t ∷ []) ∙ ap (λ ls. races_of done ++ ls) (rw is refl), λ e. refl, λ e. absurd (cc))
-races_push done t false is = ([], filter-append raised done (t ∷ []) ∙ ap (λ ls. races_of done ++ ls) (rw is refl), λ e. absurd (cc), λ e. refl)
+races_push : (done : List Told) (t : Told) (b : Bool) → raised t ≡ b → (more : List Told)
+    × (races_of (done ++ t ∷ []) ≡ races_of done ++ more) × (b ≡ true → more ≡ t ∷ []) × (b ≡ false → more ≡ [])
+races_push done t true is = (
+  t ∷ [],
+  filter-append raised done (t ∷ [])
+      ∙ ap (λ ls. races_of done ++ ls) (rw is refl),
+  λ e. refl,
+  λ e. absurd (cc),
+)
+races_push done t false is = (
+  [],
+  filter-append raised done (t ∷ [])
+      ∙ ap (λ ls. races_of done ++ ls) (rw is refl),
+  λ e. absurd (cc),
+  λ e. refl,
+)
 
 get_cases : {A : Type 0} (xs : List A) (x : A) (i : ℕ) (y : A) → slice_get (xs ++ x ∷ []) i ≡ Some y → (slice_get xs i ≡ Some y) ⊎ (x ≡ y)
 get_cases [] x zero y e = inr (let same : Some x ≡ Some y = e in let is : x ≡ y = cc in is)
@@ -30,29 +43,23 @@ get_cases (z ∷ xs) x zero y e = inl e
 get_cases (z ∷ xs) x (suc i) y e = get_cases xs x i y e
 
 abbrev Each : List Told → List Explanation → Type 0
-Each told es = (i : ℕ) (e : Explanation) → slice_get es i ≡ Some e → (before : List Told) × (behind : List Told) × (told ≡ before ++ e.at ∷ behind) × IsExplained before e
+Each told es = (i : ℕ) (e : Explanation) → slice_get es i ≡ Some e → (before : List Told) × (behind : List Told)
+    × (told ≡ before ++ e.at ∷ behind) × IsExplained before e
 
 each_more : (done : List Told) (t : Told) (es : List Explanation) → Each done es → Each (done ++ t ∷ []) es
 each_more done t es each i e there =
     let w = each i e there in
     (w.0, w.1 ++ t ∷ [], ap (λ ls. ls ++ t ∷ []) w.2 ∙ append_assoc w.0 (e.at ∷ w.1) (t ∷ []), w.3)
 
-pub written_same : (done : List Told) (t : Told) (bytes : List ℕ) → is_race t.judged ≡ false → IsWritten done bytes → IsWritten (done ++ t ∷ []) bytes
-written_same done t bytes fine w =
-    let r = races_push done t false fine in
-    record {
-      explained = w.explained;
-      are = record { all = w.are.all ∙ sym (r.1 ∙ ap (λ ls. races_of done ++ ls) (r.3 refl) ∙ append-nil (races_of done)); each = each_more done t w.explained w.are.each };
-      text = w.text;
-    }
-
-pub written_more : (done : List Told) (t : Told) (e : Explanation) (bytes : List ℕ) → is_race t.judged ≡ true → e.at ≡ t → IsExplained done e → IsWritten done bytes → IsWritten (done ++ t ∷ []) (bytes ++ explanation_text e)
+pub written_more : (done : List Told) (t : Told) (e : Explanation) (bytes : List ℕ) → is_race t.judged ≡ true → e.at ≡ t
+    → IsExplained done e → IsWritten done bytes → IsWritten (done ++ t ∷ []) (bytes ++ explanation_text e)
 written_more done t e bytes race here is w =
     let r = races_push done t true race in
     record {
       explained = w.explained ++ e ∷ [];
       are = record {
-        all = map-append (λ (x : Explanation). x.at) w.explained (e ∷ []) ∙ ap (λ ls. ls ++ e.at ∷ []) w.are.all ∙ ap (λ (k : Told). races_of done ++ k ∷ []) here ∙ sym (r.1 ∙ ap (λ ls. races_of done ++ ls) (r.2 refl));
+        all = map-append (λ (x : Explanation). x.at) w.explained (e ∷ []) ∙ ap (λ ls. ls ++ e.at ∷ []) w.are.all
+            ∙ ap (λ (k : Told). races_of done ++ k ∷ []) here ∙ sym (r.1 ∙ ap (λ ls. races_of done ++ ls) (r.2 refl));
         each = λ i x there. elim (get_cases w.explained e i x there) [
           | inl old ↦ each_more done t w.explained w.are.each i x old
           | inr new ↦
@@ -60,7 +67,9 @@ written_more done t e bytes race here is w =
               (done, [], ap (λ (k : Told). done ++ k ∷ []) at, subst (IsExplained done) new is))
         ];
       };
-      text = ap (λ bs. bs ++ explanation_text e) w.text ∙ sym (flat_map-append explanation_text w.explained (e ∷ []) ∙ ap (λ bs. flat_map explanation_text w.explained ++ bs) (append-nil (explanation_text e)));
+      text = ap (λ bs. bs ++ explanation_text e) w.text
+          ∙ sym (flat_map-append explanation_text w.explained (e ∷ [])
+          ∙ ap (λ bs. flat_map explanation_text w.explained ++ bs) (append-nil (explanation_text e)));
     }
 
 pub more_on_ok : {T E : Type 0} (P Q : Type 0) (r : Result T E) → (P → Q) → OnOk r P → OnOk r Q
@@ -74,5 +83,6 @@ none_written = record { explained = []; are = record { all = refl; each = λ i e
 pub races_kept : (kept : List Kept) → count_by (λ k. is_race k.told.judged) kept ≡ races_in (told_of kept)
 races_kept [] = refl
 races_kept (k ∷ ks) =
-    sum_by-append (λ q. cond (is_race q.told.judged) 1 0) (k ∷ []) ks ∙ ap (λ n. count_by (λ q. is_race q.told.judged) (k ∷ []) + n) (races_kept ks) ∙
+    sum_by-append (λ q. cond (is_race q.told.judged) 1 0) (k ∷ []) ks
+    ∙ ap (λ n. count_by (λ q. is_race q.told.judged) (k ∷ []) + n) (races_kept ks) ∙
     sym (sum_by-append (λ q. cond (is_race q.judged) 1 0) (k.told ∷ []) (told_of ks))

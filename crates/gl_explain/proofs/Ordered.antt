@@ -24,7 +24,8 @@ use Rattle.gl_explain.proofs.Behind.{map_at, map_there, told}
 use Rattle.gl_explain.specs.Marks.{AreKept, plain_behind, Tells}
 use Rattle.gl_explain.proofs.Taken.{thread_runs}
 
-module _ (kept : List Kept) (next : Told) (sound : AreSound (lines_of (told_of kept) ++ line_of next ∷ [])) (are : AreKept (lines_of (told_of kept)) kept)
+module _ (kept : List Kept) (next : Told) (sound : AreSound (lines_of (told_of kept) ++ line_of next ∷ []))
+    (are : AreKept (lines_of (told_of kept)) kept)
     (known : List ℕ) (is : (u : ℕ) → at known u ≡ known_next (history (lines_of (told_of kept))) next.thread (commit_of next.item) u) where
   abbrev before : List Told
   before = told_of kept
@@ -35,13 +36,18 @@ module _ (kept : List Kept) (next : Told) (sound : AreSound (lines_of (told_of k
   front : (i : ℕ) → take i lines ≡ lines_of (take i before)
   front i = take-map line_of i before
 
-  by_law : (a : Access) → IsAccessOf (history lines) a → (v : Option (List ℕ)) → (tick a < known_next (history lines) next.thread v a.thread) ↔ HappensBeforeNext (history lines) a next.thread v
-  by_law a there None = let n = thread_runs lines (line_of next) sound in (list_law trace_setting (history lines) n.0 n.1.0.allowed a there next.thread n.1.1).0
-  by_law a there (Some xs) = let n = thread_runs lines (line_of next) sound in (list_law trace_setting (history lines) n.0 n.1.0.allowed a there next.thread n.1.1).1 xs
+  by_law : (a : Access) → IsAccessOf (history lines) a → (v : Option (List ℕ))
+      → (tick a < known_next (history lines) next.thread v a.thread) ↔ HappensBeforeNext (history lines) a next.thread v
+  by_law a there None = let n = thread_runs lines (line_of next) sound
+      in (list_law trace_setting (history lines) n.0 n.1.0.allowed a there next.thread n.1.1).0
+  by_law a there (Some xs) = let n = thread_runs lines (line_of next) sound
+      in (list_law trace_setting (history lines) n.0 n.1.0.allowed a there next.thread n.1.1).1 xs
 
   -- a clock that has passed an access
-  ordered : (a : Access) → IsAccessOf (history lines) a → (tick a < at known a.thread) ↔ HappensBeforeNext (history lines) a next.thread (commit_of next.item)
-  ordered a there = subst (λ n. (tick a < n) ↔ HappensBeforeNext (history lines) a next.thread (commit_of next.item)) (sym (is a.thread)) (by_law a there (commit_of next.item))
+  ordered : (a : Access) → IsAccessOf (history lines) a
+      → (tick a < at known a.thread) ↔ HappensBeforeNext (history lines) a next.thread (commit_of next.item)
+  ordered a there = subst (λ n. (tick a < n) ↔ HappensBeforeNext (history lines) a next.thread (commit_of next.item)) (sym (is a.thread))
+      (by_law a there (commit_of next.item))
 
   pub culprits : (x i : ℕ) → IsUnknown kept next x known i ↔ IsCulprit before next x i
   culprits x i = (
@@ -54,7 +60,9 @@ module _ (kept : List Kept) (next : Told) (sound : AreSound (lines_of (told_of k
           told = k.told;
           there = map_there told kept i k w.1;
           conflicts = w.2.0;
-          unordered = λ hb. (let less = w.2.1 in let passed = law.1 (subst (λ ls. HappensBeforeNext (history lines) (access_at ls (line_of k.told)) next.thread (commit_of next.item)) (sym (front i)) hb) in omega arith);
+          unordered = λ hb. (let less = w.2.1 in let passed =
+              law.1 (subst (λ ls. HappensBeforeNext (history lines) (access_at ls (line_of k.told)) next.thread (commit_of next.item))
+              (sym (front i)) hb) in omega arith);
         }),
     λ c. (let m = map_at told kept i c.told c.there in
         let k = m.0 in
@@ -65,7 +73,10 @@ module _ (kept : List Kept) (next : Told) (sound : AreSound (lines_of (told_of k
         let a : Access = access_at (take i lines) (line_of k.told) in
         let law = ordered a (placed.access conflicts.performed) in
         let unknown : at known k.told.thread < k.mark = elim (cases_lt (tick a) (at known k.told.thread)) [
-          | inl passed ↦ absurd (c.unordered (subst (λ ls. HappensBeforeNext (history lines) (access_at ls (line_of c.told)) next.thread (commit_of next.item)) (front i) (subst (λ t. HappensBeforeNext (history lines) (access_at (take i lines) (line_of t)) next.thread (commit_of next.item)) m.2 (law.0 passed))))
+          | inl passed ↦ absurd (c.unordered (subst
+              (λ ls. HappensBeforeNext (history lines) (access_at ls (line_of c.told)) next.thread (commit_of next.item)) (front i)
+              (subst (λ t. HappensBeforeNext (history lines) (access_at (take i lines) (line_of t)) next.thread (commit_of next.item)) m.2
+              (law.0 passed))))
           | inr over ↦ omega arith
         ] in
         (k, m.1, (conflicts, unknown))),
@@ -84,7 +95,9 @@ module _ (kept : List Kept) (next : Told) (sound : AreSound (lines_of (told_of k
           told = k.told;
           there = map_there told kept i k w.1;
           own = w.2.0;
-          ordered = subst (λ u. HappensBeforeNext (history lines) (plain_behind (lines_of (take i before)) u) next.thread (commit_of next.item)) w.2.0 (subst (λ ls. HappensBeforeNext (history lines) (plain_behind ls k.told.thread) next.thread (commit_of next.item)) (front i) hb);
+          ordered = subst (λ u. HappensBeforeNext (history lines) (plain_behind (lines_of (take i before)) u) next.thread
+              (commit_of next.item)) w.2.0 (subst (λ ls. HappensBeforeNext (history lines) (plain_behind ls k.told.thread) next.thread
+              (commit_of next.item)) (front i) hb);
         }),
     λ c. (let m = map_at told kept i c.told c.there in
         let k = m.0 in
@@ -92,8 +105,11 @@ module _ (kept : List Kept) (next : Told) (sound : AreSound (lines_of (told_of k
         let placed = are.placed i k m.1 in
         let own = marked.own in
         let mine : k.told.thread ≡ t = ap (λ (z : Told). z.thread) m.2 ∙ c.own in
-        let hb = subst (λ u. HappensBeforeNext (history lines) (plain_behind (lines_of (take i before)) u) next.thread (commit_of next.item)) (sym mine) c.ordered in
-        let passed = (ordered (plain_behind (take i lines) k.told.thread) placed.plain).1 (subst (λ ls. HappensBeforeNext (history lines) (plain_behind ls k.told.thread) next.thread (commit_of next.item)) (sym (front i)) hb) in
+        let hb = subst (λ u. HappensBeforeNext (history lines) (plain_behind (lines_of (take i before)) u) next.thread
+        (commit_of next.item)) (sym mine) c.ordered in
+        let passed = (ordered (plain_behind (take i lines) k.told.thread) placed.plain).1
+        (subst (λ ls. HappensBeforeNext (history lines) (plain_behind ls k.told.thread) next.thread (commit_of next.item))
+        (sym (front i)) hb) in
         let P : ℕ → Type 0 = λ u. k.own ≤ at known u in
         (k, m.1, (mine, subst P mine (omega arith)))),
   )

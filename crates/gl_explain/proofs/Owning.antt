@@ -36,7 +36,10 @@ in_one x y (suc k, near, at) = absurd (omega arith)
 in_push : (xs : List ℕ) (x y : ℕ) → Contains (xs ++ x ∷ []) y ↔ (Contains xs y ⊎ (y ≡ x))
 in_push xs x y = (
   λ c. elim (Contains-append_cases xs (x ∷ []) y c) [ inl a ↦ inl a | inr b ↦ inr (in_one x y b) ],
-  λ w. elim w [ inl a ↦ Contains-append_left xs (x ∷ []) y a | inr e ↦ Contains-append_right xs (x ∷ []) y (subst (Contains (x ∷ [])) (sym e) (0, omega arith, refl)) ],
+  λ w. elim w [
+    | inl a ↦ Contains-append_left xs (x ∷ []) y a
+    | inr e ↦ Contains-append_right xs (x ∷ []) y (subst (Contains (x ∷ [])) (sym e) (0, omega arith, refl))
+  ],
 )
 
 rises_push : (xs : List ℕ) (x : ℕ) → ((y : ℕ) → Contains xs y → y < x) → Rises xs → Rises (xs ++ x ∷ [])
@@ -50,19 +53,23 @@ module _ (holders : List Hold) (t : ℕ) where
   pub none_owned : AreOwnedBelow holders t 0 []
   none_owned = record { rises = tt; each = λ m. (λ c. absurd (in_none m c), λ w. let n = w.0 in absurd (omega arith)) }
 
-  pub one_owned : (n : ℕ) (monitors : List ℕ) → is_held_by t (slice_index_or holders n None) ≡ true → AreOwnedBelow holders t n monitors → AreOwnedBelow holders t (n + 1) (monitors ++ n ∷ [])
+  pub one_owned : (n : ℕ) (monitors : List ℕ) → is_held_by t (slice_index_or holders n None) ≡ true → AreOwnedBelow holders t n monitors
+      → AreOwnedBelow holders t (n + 1) (monitors ++ n ∷ [])
   one_owned n monitors held o = record {
     rises = rises_push monitors n (λ y c. ((o.each y).0 c).0) o.rises;
     each = λ m. (
       λ c. elim ((in_push monitors n m).0 c) [
         | inl before ↦ (let w = (o.each m).0 before in let l = w.0 in (omega arith, w.1))
-        | inr here ↦ (let P : ℕ → Type 0 = λ z. is_held_by t (slice_index_or holders z None) ≡ true in (omega arith, subst P (sym here) held))
+        | inr here ↦ (let P : ℕ → Type 0 = λ z. is_held_by t (slice_index_or holders z None) ≡ true
+            in (omega arith, subst P (sym here) held))
       ],
-      λ w. (in_push monitors n m).1 (let l = w.0 in elim (cases_lt m n) [ inl below ↦ inl ((o.each m).1 (below, w.1)) | inr over ↦ inr (omega arith) ]),
+      λ w. (in_push monitors n m).1 (let l = w.0
+          in elim (cases_lt m n) [ inl below ↦ inl ((o.each m).1 (below, w.1)) | inr over ↦ inr (omega arith) ]),
     );
   }
 
-  pub not_owned : (n : ℕ) (monitors : List ℕ) → is_held_by t (slice_index_or holders n None) ≡ false → AreOwnedBelow holders t n monitors → AreOwnedBelow holders t (n + 1) monitors
+  pub not_owned : (n : ℕ) (monitors : List ℕ) → is_held_by t (slice_index_or holders n None) ≡ false → AreOwnedBelow holders t n monitors
+      → AreOwnedBelow holders t (n + 1) monitors
   not_owned n monitors held o = record {
     rises = o.rises;
     each = λ m. (
@@ -102,13 +109,17 @@ item_near m t (Acts act) held far near = act_near m t act held far near
 item_near m t (Access x write) held far near = refl
 item_near m t (Commit reads writes) held far near = refl
 
-left_alone : (m : ℕ) (steps : List Step) (held : Hold) → MONITORS ≤ m → ((i : ℕ) (s : Step) → slice_get steps i ≡ Some s → IsLineItem s.1) → fold (λ held s. item_leaves m s.0 s.1 held) held steps ≡ held
+left_alone : (m : ℕ) (steps : List Step) (held : Hold) → MONITORS ≤ m → ((i : ℕ) (s : Step) → slice_get steps i ≡ Some s → IsLineItem s.1)
+    → fold (λ held s. item_leaves m s.0 s.1 held) held steps ≡ held
 left_alone m [] held far near = refl
 left_alone m (s ∷ steps) held far near =
-    ap (λ h. fold (λ held s. item_leaves m s.0 s.1 held) h steps) (item_near m s.0 s.1 held far (near 0 s refl)) ∙ left_alone m steps held far (λ i r at. near (suc i) r at)
+    ap (λ h. fold (λ held s. item_leaves m s.0 s.1 held) h steps) (item_near m s.0 s.1 held far (near 0 s refl))
+    ∙ left_alone m steps held far (λ i r at. near (suc i) r at)
 
 -- the monitors that the table gives to the thread are those that it owns
-pub all_owned : (before : List Told) (holders : List Hold) (t : ℕ) (monitors : List ℕ) → AreHolders (map step_of before) holders → ((i : ℕ) (s : Step) → slice_get (map step_of before) i ≡ Some s → IsLineItem s.1) → AreOwnedBelow holders t MONITORS monitors → AreOwned before t monitors
+pub all_owned : (before : List Told) (holders : List Hold) (t : ℕ) (monitors : List ℕ) → AreHolders (map step_of before) holders
+    → ((i : ℕ) (s : Step) → slice_get (map step_of before) i ≡ Some s → IsLineItem s.1) → AreOwnedBelow holders t MONITORS monitors
+    → AreOwned before t monitors
 all_owned before holders t monitors are near o = record {
   rises = o.rises;
   each = λ m. (

@@ -37,10 +37,14 @@ use Rattle.gl_explain.proofs.Taken.{IsSaidOf, thread_runs}
 behind : (lines : List Line) (l : Line) → lists_behind (lines ++ l ∷ []) ≡ (after_line l (traced lines)).tracing.lists
 behind lines l = sym (lists_are (lines ++ l ∷ [])) ∙ ap (λ (z : Traced). z.tracing.lists) (traced_push lines l)
 
-last_right : (lines : List Line) (l : Line) → AreVerdicts (lines ++ l ∷ []) → IsJudgedRightly (after_line l (traced lines)).tracing.lists (last_place (after_line l (traced lines)).tracing.lists l.thread) l.item l.judged
+last_right : (lines : List Line) (l : Line) → AreVerdicts (lines ++ l ∷ [])
+    → IsJudgedRightly (after_line l (traced lines)).tracing.lists (last_place (after_line l (traced lines)).tracing.lists l.thread) l.item
+    l.judged
 last_right lines l right =
-    let whole : take (length lines + 1) (lines ++ l ∷ []) ≡ lines ++ l ∷ [] = take_all (length lines + 1) (lines ++ l ∷ []) (omega (arith, length-append lines (l ∷ []))) in
-    subst (λ (R : Lists). IsJudgedRightly R (last_place R l.thread) l.item l.judged) (ap lists_behind whole ∙ behind lines l) (right (length lines) l (get_last lines l))
+    let whole : take (length lines + 1) (lines ++ l ∷ []) ≡ lines ++ l
+    ∷ [] = take_all (length lines + 1) (lines ++ l ∷ []) (omega (arith, length-append lines (l ∷ []))) in
+    subst (λ (R : Lists). IsJudgedRightly R (last_place R l.thread) l.item l.judged) (ap lists_behind whole ∙ behind lines l)
+    (right (length lines) l (get_last lines l))
 
 -- something is said of each access
 fits : (R : Lists) (c : _) (item : Item) (judged : Judged) → IsJudgedRightly R c item judged → IsSaidOf item judged
@@ -53,19 +57,22 @@ fits R c (CommitsOn reads writes) Performed j = tt
 fits R c (CommitsOn reads writes) (Raised var) j = tt
 
 pub said_fits : (lines : List Line) (l : Line) → AreVerdicts (lines ++ l ∷ []) → IsSaidOf l.item l.judged
-said_fits lines l right = fits (after_line l (traced lines)).tracing.lists (last_place (after_line l (traced lines)).tracing.lists l.thread) l.item l.judged (last_right lines l right)
+said_fits lines l right = fits (after_line l (traced lines)).tracing.lists
+    (last_place (after_line l (traced lines)).tracing.lists l.thread) l.item l.judged (last_right lines l right)
 
 module _ (s : Traced) (now : State) (r : IsRecorded s now) (t : ℕ) (running : now.threads t ≡ Running) where
   abbrev Next : Item → ℕ → Type 0
   Next item var = Accesses item var × IsRacyNext s.history var (s.draws var) t (commit_of item) (entered item (Raised var) s)
 
-  moved : (e : Entry) (y : ℕ) → IsRacy (with_entry s.tracing.lists t e) (last_place (with_entry s.tracing.lists t e) t) y → IsRacy (with_entry s.tracing.lists t e) (end_place s.tracing.lists t) y
+  moved : (e : Entry) (y : ℕ) → IsRacy (with_entry s.tracing.lists t e) (last_place (with_entry s.tracing.lists t e) t) y
+      → IsRacy (with_entry s.tracing.lists t e) (end_place s.tracing.lists t) y
   moved e y racy = subst (λ c. IsRacy (with_entry s.tracing.lists t e) c y) (last_is s.tracing.lists t e) racy
 
   entry_there : (e : Entry) → EntryAt (with_entry s.tracing.lists t e) (last_place (with_entry s.tracing.lists t e) t) e
   entry_there e = subst (λ c. EntryAt (with_entry s.tracing.lists t e) c e) (sym (last_is s.tracing.lists t e)) (there s.tracing.lists t e)
 
-  next_racy : (item : Item) (var : ℕ) → IsJudgedRightly (after_item t item (Raised var) s).tracing.lists (last_place (after_item t item (Raised var) s).tracing.lists t) item (Raised var) → Next item var
+  next_racy : (item : Item) (var : ℕ) → IsJudgedRightly (after_item t item (Raised var) s).tracing.lists
+      (last_place (after_item t item (Raised var) s).tracing.lists t) item (Raised var) → Next item var
   next_racy (Acts act) var j = absurd (cc)
   next_racy (AccessTo x write) var j =
       let e = plain_entry x write true s in
@@ -73,7 +80,9 @@ module _ (s : Traced) (now : State) (r : IsRecorded s now) (t : ℕ) (running : 
       (a, (item_alike s now r t running (AccessTo x write) (Raised var) e (entry_there e) var a).0 j.0)
   next_racy (CommitsOn reads writes) var j =
       let e = refused_entry reads writes var s in
-      let a : Contains (with_all writes reads) var = is_in-contains var (with_all writes reads) (is_in-touches reads writes var ∙ racy_refused_on s now r t running reads writes var var (moved e var j.0)) in
+      let a : Contains (with_all writes reads) var =
+      is_in-contains var (with_all writes reads) (is_in-touches reads writes var
+      ∙ racy_refused_on s now r t running reads writes var var (moved e var j.0)) in
       (a, (item_alike s now r t running (CommitsOn reads writes) (Raised var) e (entry_there e) var a).0 j.0)
 
   plain_entered : (item : Item) (judged : Judged) → IsPlain (entered item judged s) → commit_of item ≡ None
@@ -84,13 +93,17 @@ module _ (s : Traced) (now : State) (r : IsRecorded s now) (t : ℕ) (running : 
   plain_entered (CommitsOn reads writes) (Raised var) p = absurd p
 
 -- so one of the lines before it is a culprit
-pub culprit_there : (before : List Told) (next : Told) (x : ℕ) → AreSound (lines_of before ++ line_of next ∷ []) → AreVerdicts (lines_of before ++ line_of next ∷ []) → AreOfLines (lines_of before) (draws_of (lines_of before)) → next.judged ≡ Raised x → (i : ℕ) × IsCulprit before next x i
+pub culprit_there : (before : List Told) (next : Told) (x : ℕ) → AreSound (lines_of before ++ line_of next ∷ [])
+    → AreVerdicts (lines_of before ++ line_of next ∷ []) → AreOfLines (lines_of before) (draws_of (lines_of before)) → next.judged
+    ≡ Raised x
+    → (i : ℕ) × IsCulprit before next x i
 culprit_there before next x sound right drawn raised =
     let lines = lines_of before in
     let s = traced lines in
     let n = thread_runs lines (line_of next) sound in
     let t = next.thread in
-    let j = subst (λ (g : Judged). IsJudgedRightly (after_item t next.item g s).tracing.lists (last_place (after_item t next.item g s).tracing.lists t) next.item g) raised (last_right lines (line_of next) right) in
+    let j = subst (λ (g : Judged). IsJudgedRightly (after_item t next.item g s).tracing.lists
+    (last_place (after_item t next.item g s).tracing.lists t) next.item g) raised (last_right lines (line_of next) right) in
     let found = next_racy s n.0 n.1.0 t n.1.1 next.item x j in
     let r = found.1 in
     let o = drawn x r.earlier r.entry r.among r.made r.performed in
@@ -116,6 +129,7 @@ culprit_there before next x sound right drawn raised =
         unordered = λ hb.
             let P : Access → Type 0 = λ a. HappensBeforeNext (history lines) a t (commit_of next.item) in
             let front : take o.place lines ≡ lines_of (take o.place before) = take-map line_of o.place before in
-            r.unordered (subst P (sym o.access) (subst (λ ls. P (access_at ls o.line)) (sym front) (subst (λ l. P (access_at (lines_of (take o.place before)) l)) m.2 hb)));
+            r.unordered (subst P (sym o.access) (subst (λ ls. P (access_at ls o.line)) (sym front)
+            (subst (λ l. P (access_at (lines_of (take o.place before)) l)) m.2 hb)));
       },
     )

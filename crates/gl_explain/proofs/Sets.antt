@@ -13,6 +13,10 @@ by_sets false b c e = (λ t. inr (sym e ∙ t), λ w. elim w [ inl t ↦ absurd 
 pub in_either : (reads writes : List ℕ) (x : ℕ) → Contains (with_all writes reads) x ↔ (Contains reads x ⊎ Contains writes x)
 in_either reads writes x =
     let s = by_sets (is_in x reads) (is_in x writes) (is_in x (with_all writes reads)) (is_in-touches reads writes x) in (
-      λ c. elim (s.0 (contains-is_in x (with_all writes reads) c)) [ inl t ↦ inl (is_in-contains x reads t) | inr t ↦ inr (is_in-contains x writes t) ],
-      λ w. is_in-contains x (with_all writes reads) (s.1 (elim w [ inl c ↦ inl (contains-is_in x reads c) | inr c ↦ inr (contains-is_in x writes c) ])),
+      λ c. elim (s.0 (contains-is_in x (with_all writes reads) c)) [
+        | inl t ↦ inl (is_in-contains x reads t)
+        | inr t ↦ inr (is_in-contains x writes t)
+      ],
+      λ w. is_in-contains x (with_all writes reads)
+          (s.1 (elim w [ inl c ↦ inl (contains-is_in x reads c) | inr c ↦ inr (contains-is_in x writes c) ])),
     )

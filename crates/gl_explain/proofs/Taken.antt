@@ -50,9 +50,16 @@ get_left (x ∷ xs) more zero near = refl
 get_left (x ∷ xs) more (suc i) near = get_left xs more i (omega arith)
 
 access_grown : (h more : List Stamp) (a : Access) → IsAccessOf h a → IsAccessOf (h ++ more) a
-access_grown h more a is = record { event = is.event; there = get_grown h more a.block is.event is.there; own = is.own; goes_on = is.goes_on; commit = is.commit }
+access_grown h more a is = record {
+  event = is.event;
+  there = get_grown h more a.block is.event is.there;
+  own = is.own;
+  goes_on = is.goes_on;
+  commit = is.commit;
+}
 
-item_more : (t : ℕ) (item : Item) (judged : Judged) (s : Traced) → (more : List Stamp) × ((after_item t item judged s).history ≡ s.history ++ more)
+item_more : (t : ℕ) (item : Item) (judged : Judged) (s : Traced) → (more : List Stamp)
+    × ((after_item t item judged s).history ≡ s.history ++ more)
 item_more t (Acts act) judged s = let m = act_more t act s in (m.0, m.1)
 item_more t (AccessTo x write) NoAccess s = ([], sym (Rattle.std.proofs.lemmas.List.append-nil s.history))
 item_more t (AccessTo x write) Performed s = ([], sym (Rattle.std.proofs.lemmas.List.append-nil s.history))
@@ -62,12 +69,18 @@ item_more t (CommitsOn reads writes) Performed s = (record { thread = t; event =
 item_more t (CommitsOn reads writes) (Raised var) s = ([], sym (Rattle.std.proofs.lemmas.List.append-nil s.history))
 
 pub history_more : (lines : List Line) (l : Line) → (more : List Stamp) × (history (lines ++ l ∷ []) ≡ history lines ++ more)
-history_more lines l = let m = item_more l.thread l.item l.judged (traced lines) in (m.0, ap (λ (s : Traced). s.history) (traced_push lines l) ∙ m.1)
+history_more lines l = let m = item_more l.thread l.item l.judged (traced lines)
+    in (m.0, ap (λ (s : Traced). s.history) (traced_push lines l) ∙ m.1)
 
-placed_grown : (lines : List Line) (l : Line) (before : List Line) (m : Line) → IsPlacedIn (history lines) before m → IsPlacedIn (history (lines ++ l ∷ [])) before m
+placed_grown : (lines : List Line) (l : Line) (before : List Line) (m : Line) → IsPlacedIn (history lines) before m
+    → IsPlacedIn (history (lines ++ l ∷ [])) before m
 placed_grown lines l before m p =
     let more = history_more lines l in
-    subst (λ h. IsPlacedIn h before m) (sym more.1) (record { plain = access_grown (history lines) more.0 (plain_behind before m.thread) p.plain; access = λ e. access_grown (history lines) more.0 (access_at before m) (p.access e) })
+    subst (λ h. IsPlacedIn h before m) (sym more.1)
+    (record {
+      plain = access_grown (history lines) more.0 (plain_behind before m.thread) p.plain;
+      access = λ e. access_grown (history lines) more.0 (access_at before m) (p.access e);
+    })
 
 -- a draw of one of the lines, with one line more
 of_line_grown : (lines : List Line) (l : Line) (x : ℕ) (d : Draw) (e : Entry) → IsOfLine lines x d e → IsOfLine (lines ++ l ∷ []) x d e
@@ -102,16 +115,19 @@ entry_is t q d e f is what = let same : Entered f ≡ Entered e = sym (ap (λ (z
 looked_not : (t q : ℕ) (d : Draw) (e : Entry) → d ≡ draw t q (Looked (pos 0)) → d.what ≡ Entered e → ⊥
 looked_not t q d e is what = let same : Looked (pos 0) ≡ Entered e = sym (ap (λ (z : Draw). z.what) is) ∙ what in cc
 
-plain_news : (draws : ℕ → List Draw) (x y : ℕ) (new d : Draw) → Among (with_at draws x (new ∷ draws x) y) d → Among (draws y) d ⊎ ((x ≡ y) × (d ≡ new))
+plain_news : (draws : ℕ → List Draw) (x y : ℕ) (new d : Draw) → Among (with_at draws x (new ∷ draws x) y) d → Among (draws y) d
+    ⊎ ((x ≡ y) × (d ≡ new))
 plain_news draws x y new d among = elim (ℕ_discrete y x) [
   | yes same ↦
-      (let here : Among (new ∷ draws x) d = subst (λ ds. Among ds d) (with_at-here draws x (new ∷ draws x)) (subst (λ z. Among (with_at draws x (new ∷ draws x) z) d) same among) in
+      (let here : Among (new ∷ draws x) d = subst (λ ds. Among ds d) (with_at-here draws x (new ∷ draws x))
+      (subst (λ z. Among (with_at draws x (new ∷ draws x) z) d) same among) in
       elim here [ inl is ↦ inr (sym same, is) | inr old ↦ inl (subst (λ z. Among (draws z) d) (sym same) old) ])
   | no other ↦ inl (subst (λ ds. Among ds d) (with_at-else draws x y (new ∷ draws x) other) among)
 ]
 
 -- an attempt draws a number for each look, and one for its entry
-attempt_news : (t q p : ℕ) (e : Entry) (ds : List Draw) (own look : Bool) (d : Draw) → Among (with_own own t p e (with_look look t q ds)) d → Among ds d ⊎ ((d ≡ draw t q (Looked (pos 0))) ⊎ ((own ≡ true) × (d ≡ draw t p (Entered e))))
+attempt_news : (t q p : ℕ) (e : Entry) (ds : List Draw) (own look : Bool) (d : Draw) → Among (with_own own t p e (with_look look t q ds)) d
+    → Among ds d ⊎ ((d ≡ draw t q (Looked (pos 0))) ⊎ ((own ≡ true) × (d ≡ draw t p (Entered e))))
 attempt_news t q p e ds true true d (inl is) = inr (inr (refl, is))
 attempt_news t q p e ds true true d (inr (inl is)) = inr (inl is)
 attempt_news t q p e ds true true d (inr (inr old)) = inl old
@@ -126,7 +142,8 @@ module _ (lines : List Line) (l : Line) where
   whole : take (length lines) (lines ++ l ∷ []) ≡ lines
   whole = take-append-le (length lines) lines (l ∷ []) (omega arith) ∙ take_all (length lines) lines (omega arith)
 
-  pub of_last : (x : ℕ) (d : Draw) (e : Entry) → l.judged ≡ Performed → Accesses l.item x → access_of d ≡ access_at lines l → (Writes e x → WritesTo l.item x) → (IsPlain e → commit_of l.item ≡ None) → IsOfLine (lines ++ l ∷ []) x d e
+  pub of_last : (x : ℕ) (d : Draw) (e : Entry) → l.judged ≡ Performed → Accesses l.item x → access_of d ≡ access_at lines l
+      → (Writes e x → WritesTo l.item x) → (IsPlain e → commit_of l.item ≡ None) → IsOfLine (lines ++ l ∷ []) x d e
   of_last x d e performed touches access writes plain = record {
     place = length lines;
     line = l;
@@ -145,7 +162,8 @@ module _ (lines : List Line) (t : ℕ) (now : _) (r : IsRecorded (traced lines) 
   abbrev Goal : Item → Judged → Type 0
   Goal item judged = AreOfLines (lines ++ line item judged ∷ []) (after_item t item judged (traced lines)).draws
 
-  kept_old : (item : Item) (judged : Judged) (x : ℕ) (d : Draw) (e : Entry) → Among (draws_of lines x) d → d.what ≡ Entered e → IsPerformed e → IsOfLine (lines ++ line item judged ∷ []) x d e
+  kept_old : (item : Item) (judged : Judged) (x : ℕ) (d : Draw) (e : Entry) → Among (draws_of lines x) d → d.what ≡ Entered e
+      → IsPerformed e → IsOfLine (lines ++ line item judged ∷ []) x d e
   kept_old item judged x d e among what performed = of_line_grown lines (line item judged) x d e (old x d e among what performed)
 
   abbrev D : ℕ → Bool → Bool → Draw
@@ -156,7 +174,8 @@ module _ (lines : List Line) (t : ℕ) (now : _) (r : IsRecorded (traced lines) 
     | inl before ↦ kept_old (AccessTo x write) Performed y d e before what performed
     | inr new ↦
         (let is = entry_is t (block_of t (traced lines)) d e (plain_entry x write false (traced lines)) new.1 what in
-        of_last lines (line (AccessTo x write) Performed) y d e refl new.0 (ap access_of new.1) (λ w. (subst (λ f. Writes f y) (sym is) w).1) (λ p. refl))
+        of_last lines (line (AccessTo x write) Performed) y d e refl new.0 (ap access_of new.1)
+        (λ w. (subst (λ f. Writes f y) (sym is) w).1) (λ p. refl))
   ]
 
   plain_raised : (x : ℕ) (write : Bool) (var : ℕ) → Goal (AccessTo x write) (Raised var)
@@ -169,7 +188,8 @@ module _ (lines : List Line) (t : ℕ) (now : _) (r : IsRecorded (traced lines) 
 
   act_made : (act : Act) (judged : Judged) → Goal (Acts act) judged
   act_made act judged x d e among what performed =
-      kept_old (Acts act) judged x d e (subst (λ (ds : ℕ → List Draw). Among (ds x) d) (act_more t act (traced lines)).2 among) what performed
+      kept_old (Acts act) judged x d e (subst (λ (ds : ℕ → List Draw). Among (ds x) d) (act_more t act (traced lines)).2 among) what
+      performed
 
   module _ (reads writes : List ℕ) where
     abbrev C : Draw
@@ -178,24 +198,30 @@ module _ (lines : List Line) (t : ℕ) (now : _) (r : IsRecorded (traced lines) 
     commit_made : Goal (CommitsOn reads writes) Performed
     commit_made y d e among what performed =
         let s = traced lines in
-        elim (attempt_news t (block_of t s) s.tracing.next (commit_entry reads writes s) (s.draws y) (touches reads writes y) (is_in y reads) d among) [
+        elim (attempt_news t (block_of t s) s.tracing.next (commit_entry reads writes s) (s.draws y) (touches reads writes y)
+        (is_in y reads) d among) [
           | inl before ↦ kept_old (CommitsOn reads writes) Performed y d e before what performed
           | inr (inl look) ↦ absurd (looked_not t (block_of t s) d e look what)
           | inr (inr own) ↦
               (let is = entry_is t s.tracing.next d e (commit_entry reads writes s) own.1 what in
-              let there : Contains (with_all writes reads) y = is_in-contains y (with_all writes reads) (is_in-touches reads writes y ∙ own.0) in
-              let access : access_of C ≡ access_at lines (line (CommitsOn reads writes) Performed) = (λ i. record { thread = t; block = r.next i; variables = Some (its_variables reads writes s.tracing.numbers i) }) in
+              let there : Contains (with_all writes reads) y =
+              is_in-contains y (with_all writes reads) (is_in-touches reads writes y ∙ own.0) in
+              let access : access_of C ≡ access_at lines (line (CommitsOn reads writes) Performed) =
+              (λ i. record { thread = t; block = r.next i; variables = Some (its_variables reads writes s.tracing.numbers i) }) in
               of_last lines (line (CommitsOn reads writes) Performed) y d e refl there (ap access_of own.1 ∙ access)
-              (λ w. subst (λ ws. Contains ws y) (its_writes reads writes s.tracing.numbers) (subst (λ f. Writes f y) (sym is) w)) (λ p. absurd (subst IsPlain (sym is) p)))
+              (λ w. subst (λ ws. Contains ws y) (its_writes reads writes s.tracing.numbers) (subst (λ f. Writes f y) (sym is) w))
+              (λ p. absurd (subst IsPlain (sym is) p)))
         ]
 
     commit_refused : (var : ℕ) → Goal (CommitsOn reads writes) (Raised var)
     commit_refused var y d e among what performed =
         let s = traced lines in
-        elim (attempt_news t (block_of t s) (block_of t s) (refused_entry reads writes var s) (s.draws y) (touches reads writes y) (is_in y reads) d among) [
+        elim (attempt_news t (block_of t s) (block_of t s) (refused_entry reads writes var s) (s.draws y) (touches reads writes y)
+        (is_in y reads) d among) [
           | inl before ↦ kept_old (CommitsOn reads writes) (Raised var) y d e before what performed
           | inr (inl look) ↦ absurd (looked_not t (block_of t s) d e look what)
-          | inr (inr own) ↦ absurd (subst IsPerformed (sym (entry_is t (block_of t s) d e (refused_entry reads writes var s) own.1 what)) performed)
+          | inr (inr own) ↦ absurd (subst IsPerformed (sym (entry_is t (block_of t s) d e (refused_entry reads writes var s) own.1 what))
+              performed)
         ]
 
   pub drawn_on : (item : Item) (judged : Judged) → IsSaidOf item judged → Goal item judged
@@ -210,16 +236,25 @@ module _ (lines : List Line) (t : ℕ) (now : _) (r : IsRecorded (traced lines) 
 -- where the line's accesses are, and what its thread knows of itself
 module _ (lines : List Line) (l : Line) (sound : AreSound (lines ++ l ∷ [])) where
   pub thread_runs : (now : State) × (IsRecorded (traced lines) now × (now.threads l.thread ≡ Running))
-  thread_runs = let k = sound_traced lines (sound_front lines l sound) in (k.0, (k.1.recorded, runs (steps_of lines) k.0 k.1.state l.thread (last_runs lines l sound)))
+  thread_runs = let k = sound_traced lines (sound_front lines l sound)
+      in (k.0, (k.1.recorded, runs (steps_of lines) k.0 k.1.state l.thread (last_runs lines l sound)))
 
   plain_placed : IsAccessOf (history lines) (plain_behind lines l.thread)
   plain_placed =
       let n = thread_runs in
       let b = block_here (traced lines) n.0 n.1.0 l.thread n.1.1 in
-      record { event = b.event; there = b.here; own = b.own; goes_on = block_goes_on (traced lines) n.0 n.1.0 l.thread n.1.1; commit = λ xs e. absurd (cc) }
+      record {
+        event = b.event;
+        there = b.here;
+        own = b.own;
+        goes_on = block_goes_on (traced lines) n.0 n.1.0 l.thread n.1.1;
+        commit = λ xs e. absurd (cc);
+      }
 
   plain_grown : IsAccessOf (history (lines ++ l ∷ [])) (plain_behind lines l.thread)
-  plain_grown = let more = history_more lines l in subst (λ h. IsAccessOf h (plain_behind lines l.thread)) (sym more.1) (access_grown (history lines) more.0 (plain_behind lines l.thread) plain_placed)
+  plain_grown = let more = history_more lines l
+      in subst (λ h. IsAccessOf h (plain_behind lines l.thread)) (sym more.1)
+      (access_grown (history lines) more.0 (plain_behind lines l.thread) plain_placed)
 
   pub own_known : clocks (history lines) (Thread l.thread) l.thread ≡ block_of l.thread (traced lines) + 2
   own_known =
@@ -250,18 +285,37 @@ module _ (lines : List Line) (t : ℕ) (reads writes : List ℕ) where
   pub commit_known : clocks (history (lines ++ made ∷ [])) (Thread t) t ≡ length (history lines) + 2
   commit_known = subst (λ h. clocks h (Thread t) t ≡ length (history lines) + 2) (sym commit_history)
       (own_law (history lines ++ stamp ∷ []) t (length (history lines)) stamp (get_last (history lines) stamp) refl
-      (λ q r at own. let near = slice_get_within (history lines ++ stamp ∷ []) q r at in omega (arith, length-append (history lines) (stamp ∷ []))))
+      (λ q r at own. let near = slice_get_within (history lines ++ stamp ∷ []) q r at
+      in omega (arith, length-append (history lines) (stamp ∷ []))))
 
 -- the accesses of the line that was just taken
-placed_last : (lines : List Line) (t : ℕ) (item : Item) (judged : Judged) → AreSound (lines ++ record { thread = t; item = item; judged = judged } ∷ []) → IsPlacedIn (history (lines ++ record { thread = t; item = item; judged = judged } ∷ [])) lines (record { thread = t; item = item; judged = judged })
-placed_last lines t (Acts act) judged sound = let p = plain_grown lines (record { thread = t; item = Acts act; judged = judged }) sound in record { plain = p; access = λ e. p }
-placed_last lines t (AccessTo x write) judged sound = let p = plain_grown lines (record { thread = t; item = AccessTo x write; judged = judged }) sound in record { plain = p; access = λ e. p }
-placed_last lines t (CommitsOn reads writes) NoAccess sound = record { plain = plain_grown lines (record { thread = t; item = CommitsOn reads writes; judged = NoAccess }) sound; access = λ e. absurd (cc) }
-placed_last lines t (CommitsOn reads writes) Performed sound = record { plain = plain_grown lines (record { thread = t; item = CommitsOn reads writes; judged = Performed }) sound; access = λ e. commit_placed lines t reads writes }
-placed_last lines t (CommitsOn reads writes) (Raised var) sound = record { plain = plain_grown lines (record { thread = t; item = CommitsOn reads writes; judged = Raised var }) sound; access = λ e. absurd (cc) }
+placed_last : (lines : List Line) (t : ℕ) (item : Item) (judged : Judged)
+    → AreSound (lines ++ record { thread = t; item = item; judged = judged } ∷ [])
+    → IsPlacedIn (history (lines ++ record { thread = t; item = item; judged = judged } ∷ [])) lines
+    (record { thread = t; item = item; judged = judged })
+placed_last lines t (Acts act) judged sound = let p = plain_grown lines (record { thread = t; item = Acts act; judged = judged }) sound
+    in record { plain = p; access = λ e. p }
+placed_last lines t (AccessTo x write) judged sound = let p =
+    plain_grown lines (record { thread = t; item = AccessTo x write; judged = judged }) sound in record { plain = p; access = λ e. p }
+placed_last lines t (CommitsOn reads writes) NoAccess sound =
+    record {
+      plain = plain_grown lines (record { thread = t; item = CommitsOn reads writes; judged = NoAccess }) sound;
+      access = λ e. absurd (cc);
+    }
+placed_last lines t (CommitsOn reads writes) Performed sound =
+    record {
+      plain = plain_grown lines (record { thread = t; item = CommitsOn reads writes; judged = Performed }) sound;
+      access = λ e. commit_placed lines t reads writes;
+    }
+placed_last lines t (CommitsOn reads writes) (Raised var) sound =
+    record {
+      plain = plain_grown lines (record { thread = t; item = CommitsOn reads writes; judged = Raised var }) sound;
+      access = λ e. absurd (cc);
+    }
 
 -- what is kept, with one line more
-module _ (lines : List Line) (kept : List Kept) (k : Kept) (sound : AreSound (lines ++ line_of k.told ∷ [])) (said : IsSaidOf k.told.item k.told.judged) (marked : IsMarked lines k) (are : AreKept lines kept) where
+module _ (lines : List Line) (kept : List Kept) (k : Kept) (sound : AreSound (lines ++ line_of k.told ∷ []))
+    (said : IsSaidOf k.told.item k.told.judged) (marked : IsMarked lines k) (are : AreKept lines kept) where
   abbrev more : List Line
   more = lines ++ line_of k.told ∷ []
 
@@ -272,7 +326,8 @@ module _ (lines : List Line) (kept : List Kept) (k : Kept) (sound : AreSound (li
   front i le = take-append-le i lines (line_of k.told ∷ []) (omega arith)
 
   -- what holds of each line that was kept
-  each_kept : (P : ℕ → List Line → Kept → Type 0) → ((i : ℕ) (q : Kept) → slice_get kept i ≡ Some q → P i (take i lines) q) → P (length lines) lines k → (i : ℕ) (q : Kept) → slice_get (kept ++ k ∷ []) i ≡ Some q → P i (take i more) q
+  each_kept : (P : ℕ → List Line → Kept → Type 0) → ((i : ℕ) (q : Kept) → slice_get kept i ≡ Some q → P i (take i lines) q)
+      → P (length lines) lines k → (i : ℕ) (q : Kept) → slice_get (kept ++ k ∷ []) i ≡ Some q → P i (take i more) q
   each_kept P old new i q at = elim (cases_lt i (length lines)) [
     | inl below ↦
         (let near : i < length kept = omega (arith, kept_length) in
@@ -281,18 +336,25 @@ module _ (lines : List Line) (kept : List Kept) (k : Kept) (sound : AreSound (li
     | inr over ↦
         (let near = slice_get_within (kept ++ k ∷ []) i q at in
         let here : i ≡ length lines = omega (arith, kept_length, length-append kept (k ∷ [])) in
-        let last : slice_get (kept ++ k ∷ []) (length lines) ≡ Some k = subst (λ n. slice_get (kept ++ k ∷ []) n ≡ Some k) kept_length (get_last kept k) in
+        let last : slice_get (kept ++ k ∷ []) (length lines)
+        ≡ Some k = subst (λ n. slice_get (kept ++ k ∷ []) n ≡ Some k) kept_length (get_last kept k) in
         let same : k ≡ q = (let a = subst (λ n. slice_get (kept ++ k ∷ []) n ≡ Some q) here at in cc) in
-        let all : lines ≡ take i more = sym (take_all (length lines) lines (omega arith)) ∙ sym (front (length lines) (omega arith)) ∙ ap (λ n. take n more) (sym here) in
-        subst (λ n. P n (take i more) q) (sym here) (subst (λ ls. P (length lines) ls q) all (subst (λ z. P (length lines) lines z) same new)))
+        let all : lines ≡ take i more = sym (take_all (length lines) lines (omega arith)) ∙ sym (front (length lines) (omega arith))
+        ∙ ap (λ n. take n more) (sym here) in
+        subst (λ n. P n (take i more) q) (sym here)
+        (subst (λ ls. P (length lines) ls q) all (subst (λ z. P (length lines) lines z) same new)))
   ]
 
   pub kept_push : AreKept more (kept ++ k ∷ [])
   kept_push =
       let n = thread_runs lines (line_of k.told) sound in
       record {
-        lines_are = ap lines_of (map-append (λ (q : Kept). q.told) kept (k ∷ [])) ∙ map-append line_of (told_of kept) (k.told ∷ []) ∙ ap (λ ls. ls ++ line_of k.told ∷ []) are.lines_are;
+        lines_are = ap lines_of (map-append (λ (q : Kept). q.told) kept (k ∷ [])) ∙ map-append line_of (told_of kept) (k.told ∷ [])
+            ∙ ap (λ ls. ls ++ line_of k.told ∷ []) are.lines_are;
         marked = each_kept (λ i ls q. IsMarked ls q) are.marked marked;
-        placed = each_kept (λ i ls q. IsPlacedIn (history more) ls (line_of q.told)) (λ i q at. placed_grown lines (line_of k.told) (take i lines) (line_of q.told) (are.placed i q at)) (placed_last lines k.told.thread k.told.item k.told.judged sound);
-        drawn = subst (λ (s : Traced). AreOfLines more s.draws) (sym (traced_push lines (line_of k.told))) (drawn_on lines k.told.thread n.0 n.1.0 are.drawn k.told.item k.told.judged said);
+        placed = each_kept (λ i ls q. IsPlacedIn (history more) ls (line_of q.told))
+            (λ i q at. placed_grown lines (line_of k.told) (take i lines) (line_of q.told) (are.placed i q at))
+            (placed_last lines k.told.thread k.told.item k.told.judged sound);
+        drawn = subst (λ (s : Traced). AreOfLines more s.draws) (sym (traced_push lines (line_of k.told)))
+            (drawn_on lines k.told.thread n.0 n.1.0 are.drawn k.told.item k.told.judged said);
       }

@@ -42,7 +42,8 @@ is_handing t k = hands_on t k.item k.judged k.thread
 abbrev pub IsFirstBehind : (Told → Bool) → List Told → ℕ → Option Told → Type 0
 IsFirstBehind test before j None = (i : ℕ) (k : Told) → j < i → slice_get before i ≡ Some k → test k ≡ false
 IsFirstBehind test before j (Some found) =
-    (i : ℕ) × (j < i) × (slice_get before i ≡ Some found) × (test found ≡ true) × ((h : ℕ) (k : Told) → j < h → h < i → slice_get before h ≡ Some k → test k ≡ false)
+    (i : ℕ) × (j < i) × (slice_get before i ≡ Some found) × (test found ≡ true)
+    × ((h : ℕ) (k : Told) → j < h → h < i → slice_get before h ≡ Some k → test k ≡ false)
 
 -- the line at place i is one of thread t, and what t did before it happens before the next line: so does a plain access that t made just there
 pub record IsLearnt (before : List Told) (next : Told) (t i : ℕ) : Type 0 where
@@ -50,7 +51,8 @@ pub record IsLearnt (before : List Told) (next : Told) (t i : ℕ) : Type 0 wher
   pub there : slice_get before i ≡ Some told
   pub own : told.thread ≡ t
   pub ordered :
-      HappensBeforeNext (history (lines_of before)) (record { thread = t; block = block_of t (traced (lines_of (take i before))); variables = None }) next.thread (commit_of next.item)
+      HappensBeforeNext (history (lines_of before))
+      (record { thread = t; block = block_of t (traced (lines_of (take i before))); variables = None }) next.thread (commit_of next.item)
 
 -- the last of these lines whose place is such, if there is one
 abbrev pub IsLastTold : (ℕ → Type 0) → List Told → Option Told → Type 0
@@ -82,4 +84,5 @@ races_of told = filter (λ k. is_race k.judged) told
 pub record AreExplained (told : List Told) (explained : List Explanation) : Type 0 where
   pub all : map (λ e. e.at) explained ≡ races_of told
   pub each :
-      (i : ℕ) (e : Explanation) → slice_get explained i ≡ Some e → (before : List Told) × (behind : List Told) × (told ≡ before ++ e.at ∷ behind) × IsExplained before e
+      (i : ℕ) (e : Explanation) → slice_get explained i ≡ Some e → (before : List Told) × (behind : List Told)
+      × (told ≡ before ++ e.at ∷ behind) × IsExplained before e

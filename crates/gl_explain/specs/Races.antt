@@ -23,7 +23,8 @@ pub record IsCulprit (before : List Told) (next : Told) (x i : ℕ) : Type 0 whe
   pub told : Told
   pub there : slice_get before i ≡ Some told
   pub conflicts : Conflicts told next x
-  pub unordered : HappensBeforeNext (history (lines_of before)) (access_at (lines_of (take i before)) (line_of told)) next.thread (commit_of next.item) → ⊥
+  pub unordered : HappensBeforeNext (history (lines_of before)) (access_at (lines_of (take i before)) (line_of told)) next.thread
+      (commit_of next.item) → ⊥
 
 -- the last number that is such, if there is one
 abbrev pub IsLastOf : (ℕ → Type 0) → Option ℕ → Type 0

@@ -64,7 +64,8 @@ monitors_text (m ∷ ms) = codes "monitor " ++ (decimal m ++ flat_map monitor_te
 
 -- what a thread owns in a line
 abbrev pub owned_text : Told → List ℕ → List ℕ
-owned_text k monitors = codes "  in line " ++ (decimal k.line ++ (codes " thread " ++ (decimal k.thread ++ (codes " owns " ++ (monitors_text monitors ++ codes "\n")))))
+owned_text k monitors = codes "  in line "
+    ++ (decimal k.line ++ (codes " thread " ++ (decimal k.thread ++ (codes " owns " ++ (monitors_text monitors ++ codes "\n")))))
 
 -- two numbers between words
 abbrev pub two_text : List ℕ → ℕ → List ℕ → ℕ → List ℕ → List ℕ
@@ -76,12 +77,14 @@ told_line k = told_text k ++ codes "\n"
 -- where what was done in the line k is handed on
 abbrev pub handed_text : Told → Option Told → List ℕ
 handed_text k None = two_text (codes "  what thread ") k.thread (codes " did in line ") k.line (codes " is handed on in no later line\n")
-handed_text k (Some found) = two_text (codes "  what thread ") k.thread (codes " did in line ") k.line (codes " is first handed on in ") ++ told_line found
+handed_text k (Some found) = two_text (codes "  what thread ") k.thread (codes " did in line ") k.line (codes " is first handed on in ")
+    ++ told_line found
 
 -- what of thread t leads to the line k
 abbrev pub learnt_text : ℕ → Told → Option Told → List ℕ
 learnt_text t k None = two_text (codes "  no line of thread ") t (codes " leads to line ") k.line (codes "\n")
-learnt_text t k (Some found) = two_text (codes "  the last line of thread ") t (codes " that leads to line ") k.line (codes " is ") ++ told_line found
+learnt_text t k (Some found) = two_text (codes "  the last line of thread ") t (codes " that leads to line ") k.line (codes " is ")
+    ++ told_line found
 
 -- the two lines that race
 abbrev pub lines_text : Explanation → List ℕ
@@ -90,7 +93,8 @@ lines_text e = racing_text e.var e.at ++ (codes "\n  races with " ++ (racing_tex
 -- what is said of them
 abbrev pub facts_text : Explanation → List ℕ
 facts_text e =
-    others_text e.others ++ (owned_text e.at e.owned.items ++ (owned_text e.other e.other_owned.items ++ (handed_text e.other e.handed ++ learnt_text e.other.thread e.at e.learnt)))
+    others_text e.others ++ (owned_text e.at e.owned.items
+    ++ (owned_text e.other e.other_owned.items ++ (handed_text e.other e.handed ++ learnt_text e.other.thread e.at e.learnt)))
 
 abbrev pub explanation_text : Explanation → List ℕ
 explanation_text e = lines_text e ++ facts_text e

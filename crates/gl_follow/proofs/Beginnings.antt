@@ -16,7 +16,8 @@ record Front (P : Bytecode) (p : Progress) (ys : List Entry) : Type 0 where
   last : Progress
   reached : told P p exchanges ≡ Some last
 
-front : (P : Bytecode) (p q : Progress) (xs : List Exchange) (ys zs : List Entry) → told P p xs ≡ Some q → entries_of xs ≡ ys ++ zs → Front P p ys
+front : (P : Bytecode) (p q : Progress) (xs : List Exchange) (ys zs : List Entry) → told P p xs ≡ Some q → entries_of xs ≡ ys ++ zs
+    → Front P p ys
 unfolding told
 front P p q xs [] zs is es = record { exchanges = []; entries = refl; last = p; reached = refl }
 front P p q [] (y ∷ ys) zs is es = cc
@@ -27,7 +28,8 @@ front P p q (Made e ∷ xs) (y ∷ ys) zs is es = by_first (told_one P (Made e) 
   tails : entries_of xs ≡ ys ++ zs
   tails = cc
 
-  by_first : (o : Option Progress) → told_one P (Made e) p ≡ o → option_and_then (λ m. told P m xs) o ≡ Some q → ((m : Progress) → told P m xs ≡ Some q → Front P m ys) → Front P p (y ∷ ys)
+  by_first : (o : Option Progress) → told_one P (Made e) p ≡ o → option_and_then (λ m. told P m xs) o ≡ Some q
+      → ((m : Progress) → told P m xs ≡ Some q → Front P m ys) → Front P p (y ∷ ys)
   by_first None first rest more = cc
   by_first (Some m) first rest more =
       let f = more m rest in
@@ -37,17 +39,19 @@ front P p q (Made e ∷ xs) (y ∷ ys) zs is es = by_first (told_one P (Made e) 
         last = f.last;
         reached = ap (option_and_then (λ n. told P n f.exchanges)) first ∙ f.reached;
       }
-front P p q (Quiet r ∷ xs) (y ∷ ys) zs is es = by_first (told_one P (Quiet r) p) refl is (λ m rest. front P m q xs (y ∷ ys) zs rest es) where
-  by_first : (o : Option Progress) → told_one P (Quiet r) p ≡ o → option_and_then (λ m. told P m xs) o ≡ Some q → ((m : Progress) → told P m xs ≡ Some q → Front P m (y ∷ ys)) → Front P p (y ∷ ys)
-  by_first None first rest more = cc
-  by_first (Some m) first rest more =
-      let f = more m rest in
-      record {
-        exchanges = Quiet r ∷ f.exchanges;
-        entries = f.entries;
-        last = f.last;
-        reached = ap (option_and_then (λ n. told P n f.exchanges)) first ∙ f.reached;
-      }
+front P p q (Quiet r ∷ xs) (y ∷ ys) zs is es =
+    by_first (told_one P (Quiet r) p) refl is (λ m rest. front P m q xs (y ∷ ys) zs rest es) where
+      by_first : (o : Option Progress) → told_one P (Quiet r) p ≡ o → option_and_then (λ m. told P m xs) o ≡ Some q
+          → ((m : Progress) → told P m xs ≡ Some q → Front P m (y ∷ ys)) → Front P p (y ∷ ys)
+      by_first None first rest more = cc
+      by_first (Some m) first rest more =
+          let f = more m rest in
+          record {
+            exchanges = Quiet r ∷ f.exchanges;
+            entries = f.entries;
+            last = f.last;
+            reached = ap (option_and_then (λ n. told P n f.exchanges)) first ∙ f.reached;
+          }
 
 abbrev no_entries : List Entry
 no_entries = []
@@ -70,7 +74,8 @@ beginnings P steps t es m n le (p, along) =
     let f = front P (outset P t steps) p along.exchanges (without_trims (take m es)) (without_trims parts.0) along.reached entries in
     (f.last, record { exchanges = f.exchanges; made = f.entries; reached = f.reached })
 
-pub one_length : (P : Bytecode) (steps t : ℕ) (es : List Entry) (m n : ℕ) → ProgramFails P steps t es m → ProgramFails P steps t es n → m ≡ n
+pub one_length : (P : Bytecode) (steps t : ℕ) (es : List Entry) (m n : ℕ) → ProgramFails P steps t es m → ProgramFails P steps t es n → m
+    ≡ n
 one_length P steps t es m n one other = by_order (cases_order m n) where
   by_order : (m ≡ n) ⊎ ((m < n) ⊎ (n < m)) → m ≡ n
   by_order (inl same) = same

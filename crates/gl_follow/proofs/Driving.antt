@@ -21,16 +21,19 @@ pub told_by : (P : Bytecode) (p : Progress) (reply : Reply) → takes p.config r
 })
 told_by P p reply fits = rw fits refl
 
-pub told_quietly : (P : Bytecode) (p q : Progress) (reply : Reply) → is_quiet p.config.attempt p (ask_of p.config.stage) reply ≡ true → replied P p (Some reply) ≡ Some q → told_one P (Quiet reply) p ≡ Some q
+pub told_quietly : (P : Bytecode) (p q : Progress) (reply : Reply) → is_quiet p.config.attempt p (ask_of p.config.stage) reply ≡ true
+    → replied P p (Some reply) ≡ Some q → told_one P (Quiet reply) p ≡ Some q
 told_quietly P p q reply quiet told = ap (λ b. replied P p (when b reply)) quiet ∙ told
 
-pub told_made : (P : Bytecode) (p q : Progress) (e : Entry) (reply : Reply) → reply_in p (ask_of p.config.stage) e ≡ Some reply → replied P p (Some reply) ≡ Some q → told_one P (Made e) p ≡ Some q
+pub told_made : (P : Bytecode) (p q : Progress) (e : Entry) (reply : Reply) → reply_in p (ask_of p.config.stage) e ≡ Some reply
+    → replied P p (Some reply) ≡ Some q → told_one P (Made e) p ≡ Some q
 told_made P p q e reply gives told = ap (replied P p) gives ∙ told
 
 pub made_none : (P : Bytecode) (p : Progress) (e : Entry) → reply_in p (ask_of p.config.stage) e ≡ None → told_one P (Made e) p ≡ None
 made_none P p e none = ap (replied P p) none
 
-pub made_refused : (P : Bytecode) (p : Progress) (e : Entry) (reply : Reply) → reply_in p (ask_of p.config.stage) e ≡ Some reply → takes p.config reply ≡ false → told_one P (Made e) p ≡ None
+pub made_refused : (P : Bytecode) (p : Progress) (e : Entry) (reply : Reply) → reply_in p (ask_of p.config.stage) e ≡ Some reply
+    → takes p.config reply ≡ false → told_one P (Made e) p ≡ None
 made_refused P p e reply gives refused = ap (replied P p) gives ∙ rw refused refl
 
 unknown : (w l : Option ℤ) → (is_some w || is_some l) ≡ false → known_word w l ≡ None
@@ -52,10 +55,12 @@ quiet_room p ask reply quiet = record { look = look; write = write } where
         let same : is_quiet p.config.attempt p ask reply ≡ is_quiet (Some b) p (Read x) (Value a) =
         ap (λ o. is_quiet o p ask reply) some ∙ ap (λ k. is_quiet (Some b) p k reply) asks ∙ ap (is_quiet (Some b) p (Read x)) is in
         let word : is_word None (nat_lt (touched p) TX_VARIABLES) a ≡ true =
-        ap (λ k. is_word k (nat_lt (touched p) TX_VARIABLES) a) (sym (unknown (word_of p.writes x) (word_of p.looks x) not)) ∙ sym same ∙ quiet in
+        ap (λ k. is_word k (nat_lt (touched p) TX_VARIABLES) a) (sym (unknown (word_of p.writes x) (word_of p.looks x) not)) ∙ sym same
+        ∙ quiet in
         below (touched p) word
 
-  write : (x : ℕ) (a : ℤ) → ask ≡ Write x a → reply ≡ Gone → is_some p.config.attempt ≡ true → (knows p x || nat_lt (touched p) TX_VARIABLES) ≡ true
+  write : (x : ℕ) (a : ℤ) → ask ≡ Write x a → reply ≡ Gone → is_some p.config.attempt ≡ true
+      → (knows p x || nat_lt (touched p) TX_VARIABLES) ≡ true
   write x a asks is lives = by_attempt p.config.attempt refl where
     by_attempt : (o : Option Attempt) → p.config.attempt ≡ o → (knows p x || nat_lt (touched p) TX_VARIABLES) ≡ true
     by_attempt None none = absurd (let e : is_some p.config.attempt ≡ false = ap is_some none in cc)
@@ -84,5 +89,6 @@ made_room p ask e reply gives = record {
       let gives' : reply_in p (Write x a) e ≡ Some reply = ap (λ k. reply_in p k e) (sym asks) ∙ gives in
       cc
 
-pub orderly_next : (P : Bytecode) (p : Progress) (reply : Reply) → IsOrderly P p.config → takes p.config reply ≡ true → IsOrderly P (next P p.config reply)
+pub orderly_next : (P : Bytecode) (p : Progress) (reply : Reply) → IsOrderly P p.config → takes p.config reply ≡ true
+    → IsOrderly P (next P p.config reply)
 orderly_next P p reply orderly taken = (step_falls P p.config reply orderly taken).orderly

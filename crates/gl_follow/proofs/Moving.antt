@@ -53,7 +53,8 @@ same_some o m n first second = cc
 -- ## Ways from here
 
 -- a machine that is over takes no reply
-quiet_over : (p : Progress) (list : List Entry) (ending : Ending) → p.config.stage ≡ IsOver ending → quiet_for p list (ask_of p.config.stage) ≡ None
+quiet_over : (p : Progress) (list : List Entry) (ending : Ending) → p.config.stage ≡ IsOver ending
+    → quiet_for p list (ask_of p.config.stage) ≡ None
 quiet_over p list ending over = ap (λ s. quiet_for p list (ask_of s)) over ∙ at p.config.attempt where
   at : (o : Option Attempt) → quiet_at o p list (AskOver ending) ≡ None
   at None = refl
@@ -87,7 +88,8 @@ module _ (P : Bytecode) (steps t : ℕ) where
   leads more back rest same = record { back = without_trims back; same = ap without_trims same ∙ without_trims-append more back }
 
   module _ (front rest : List Entry) (p : Progress) (f : Follows P steps t front rest p) (few : touched p ≤ TX_VARIABLES) where
-    way_right : (more back : List Entry) (q : Progress) → rest ≡ more ++ back → (way : Reaches P p (without_trims more) q) → EachBeginsRight P (entries_of way.exchanges)
+    way_right : (more back : List Entry) (q : Progress) → rest ≡ more ++ back → (way : Reaches P p (without_trims more) q)
+        → EachBeginsRight P (entries_of way.exchanges)
     way_right more back q same way =
         subst (EachBeginsRight P) (sym way.entries) (right_trims P more (right_front P more back (subst (EachBeginsRight P) same f.right)))
 
@@ -101,9 +103,16 @@ module _ (P : Bytecode) (steps t : ℕ) where
           (without_trims more ≡ []) ⊎ ((q' : Progress) × Begun P p rest (without_trims more) q')
       by_way [] r entries reached outside = inl (sym (entries ∙ way.entries))
       by_way (x ∷ xs) r entries reached outside =
-          inr (r, record { first = peel P p r x xs rest (without_trims more) few (leads more back rest same) (entries ∙ way.entries) reached outside })
+          inr (
+            r,
+            record {
+              first = peel P p r x xs rest (without_trims more) few (leads more back rest same) (entries ∙ way.entries)
+                  reached outside;
+            },
+          )
 
-      by_cut : (entries_of way.exchanges ≡ []) ⊎ Cut P p (entries_of way.exchanges) → (without_trims more ≡ []) ⊎ ((r : Progress) × Begun P p rest (without_trims more) r)
+      by_cut : (entries_of way.exchanges ≡ []) ⊎ Cut P p (entries_of way.exchanges) → (without_trims more ≡ [])
+          ⊎ ((r : Progress) × Begun P p rest (without_trims more) r)
       by_cut (inl none) = inl (sym way.entries ∙ none)
       by_cut (inr c) = by_way c.way.exchanges c.last c.way.entries c.way.reached c.outside
 
@@ -124,7 +133,8 @@ module _ (P : Bytecode) (steps t : ℕ) where
 
     -- the rest of a way that begins by the reply that was chosen
     rest_quiet :
-        (reply : Reply) (q r : Progress) (es : List Entry) → quiet_for p rest (ask_of p.config.stage) ≡ Some reply → told_one P (Quiet reply) p ≡ Some q →
+        (reply : Reply) (q r : Progress) (es : List Entry) → quiet_for p rest (ask_of p.config.stage) ≡ Some reply
+        → told_one P (Quiet reply) p ≡ Some q →
         Begun P p rest es r → Reaches P q es r
     rest_quiet reply q r es chosen first b = by_first b.first where
       by_first : Quietly P p rest es r ⊎ ByEntry P p rest es r → Reaches P q es r
@@ -148,14 +158,17 @@ module _ (P : Bytecode) (steps t : ℕ) where
       orderly = orderly;
       right = f.right;
       onward = λ more back r same along. onward more (f.onward more back r same along) (λ w. begun more back w.0 same w.1);
-      over = λ more back r ending same along over. to_end more r ending over (begun_over more back r ending same (f.over more back r ending same along over) over);
+      over = λ more back r ending same along over. to_end more r ending over
+          (begun_over more back r ending same (f.over more back r ending same along over) over);
     } where
       onward :
           (more : List Entry) → (r : Progress) × Reaches P p (without_trims more) r →
-          ((r : Progress) × Reaches P p (without_trims more) r → (without_trims more ≡ []) ⊎ ((r : Progress) × Begun P p rest (without_trims more) r)) →
+          ((r : Progress) × Reaches P p (without_trims more) r → (without_trims more ≡ [])
+          ⊎ ((r : Progress) × Begun P p rest (without_trims more) r)) →
           (r : Progress) × Reaches P q (without_trims more) r
       onward more w begins = by_begun (begins w) where
-        by_begun : (without_trims more ≡ []) ⊎ ((r : Progress) × Begun P p rest (without_trims more) r) → (r : Progress) × Reaches P q (without_trims more) r
+        by_begun : (without_trims more ≡ []) ⊎ ((r : Progress) × Begun P p rest (without_trims more) r) → (r : Progress)
+            × Reaches P q (without_trims more) r
         by_begun (inl none) = (q, no_way q (without_trims more) none)
         by_begun (inr (r, b)) = (r, rest_quiet reply q r (without_trims more) chosen first b)
 
@@ -173,7 +186,8 @@ module _ (P : Bytecode) (steps t : ℕ) where
       (e : Entry) (rest more : List Entry) (p q r : Progress) → (IsTrim e → ⊥) → quiet_for p (e ∷ rest) (ask_of p.config.stage) ≡ None →
       told_one P (Made e) p ≡ Some q → Begun P p (e ∷ rest) (without_trims (e ∷ more)) r → Reaches P q (without_trims more) r
   rest_entry e rest more p q r not none first b = by_first b.first where
-    by_first : Quietly P p (e ∷ rest) (without_trims (e ∷ more)) r ⊎ ByEntry P p (e ∷ rest) (without_trims (e ∷ more)) r → Reaches P q (without_trims more) r
+    by_first : Quietly P p (e ∷ rest) (without_trims (e ∷ more)) r ⊎ ByEntry P p (e ∷ rest) (without_trims (e ∷ more)) r
+        → Reaches P q (without_trims more) r
     by_first (inl w) = (let chosen = w.chosen in cc)
     by_first (inr w) =
         let same : e ∷ without_trims more ≡ w.entry ∷ w.later = sym (no_trim e more not) ∙ w.same in
@@ -187,7 +201,8 @@ module _ (P : Bytecode) (steps t : ℕ) where
   has_entry e more not none = (let some = no_trim e more not in cc)
 
   pub move_entry :
-      (front rest : List Entry) (e : Entry) (p q : Progress) → Follows P steps t front (e ∷ rest) p → touched p ≤ TX_VARIABLES → (IsTrim e → ⊥) →
+      (front rest : List Entry) (e : Entry) (p q : Progress) → Follows P steps t front (e ∷ rest) p → touched p ≤ TX_VARIABLES
+      → (IsTrim e → ⊥) →
       quiet_for p (e ∷ rest) (ask_of p.config.stage) ≡ None → told_one P (Made e) p ≡ Some q → IsOrderly P q.config →
       Follows P steps t (front ++ e ∷ []) rest q
   move_entry front rest e p q f few not none first orderly = record {
@@ -212,13 +227,15 @@ module _ (P : Bytecode) (steps t : ℕ) where
     onward more (inr (r, b)) = (r, rest_entry e rest more p q r not none first b)
 
     to_end :
-        (more : List Entry) (r : Progress) → ((p ≡ r) × (without_trims (e ∷ more) ≡ [])) ⊎ Begun P p (e ∷ rest) (without_trims (e ∷ more)) r →
+        (more : List Entry) (r : Progress) → ((p ≡ r) × (without_trims (e ∷ more) ≡ []))
+        ⊎ Begun P p (e ∷ rest) (without_trims (e ∷ more)) r →
         Reaches P q (without_trims more) r
     to_end more r (inl (same, empty)) = absurd (has_entry e more not empty)
     to_end more r (inr b) = rest_entry e rest more p q r not none first b
 
   pub move_trim :
-      (front rest : List Entry) (low : ℕ) (p : Progress) → Follows P steps t front (Trim low ∷ rest) p → Follows P steps t (front ++ Trim low ∷ []) rest p
+      (front rest : List Entry) (low : ℕ) (p : Progress) → Follows P steps t front (Trim low ∷ rest) p
+      → Follows P steps t (front ++ Trim low ∷ []) rest p
   move_trim front rest low p f = record {
     along = along_trim P steps t front p low f.along;
     fits = f.fits;
@@ -228,5 +245,6 @@ module _ (P : Bytecode) (steps t : ℕ) where
     over = λ more back r ending same along over.
         f.over (Trim low ∷ more) back r ending (ap (λ l. Trim low ∷ l) same) (along_of more r along) over;
   } where
-    along_of : (more : List Entry) (r : Progress) → Along P steps t ((front ++ Trim low ∷ []) ++ more) r → Along P steps t (front ++ (Trim low ∷ more)) r
+    along_of : (more : List Entry) (r : Progress) → Along P steps t ((front ++ Trim low ∷ []) ++ more) r
+        → Along P steps t (front ++ (Trim low ∷ more)) r
     along_of more r along = subst (λ l. Along P steps t l r) (behind_one front (Trim low) more) along

@@ -58,12 +58,14 @@ either_none : (b : Bool) (r s : Reply) → NoStart r → NoStart s → NoStart (
 either_none true r s one other = one
 either_none false r s one other = other
 
-plain_none : (ask : Ask) (x : ℕ) (write : Bool) (value : ℤ) (raised : Bool) (r : Reply) → reply_of_plain ask x write value raised ≡ Some r → NoStart r
+plain_none : (ask : Ask) (x : ℕ) (write : Bool) (value : ℤ) (raised : Bool) (r : Reply) → reply_of_plain ask x write value raised ≡ Some r
+    → NoStart r
 plain_none (Read y) x write value raised r is = when_none _ _ r (either_none raised _ _ tt tt) is
 plain_none (Write y a) x write value raised r is = when_none _ _ r (either_none raised _ _ tt tt) is
 plain_none ask x write value raised r is = cc
 
-act_starts : (P : Bytecode) (ask : Ask) (act : Act) (value : ℤ) (r : Reply) → ((f : ℕ) → act ≡ Began f → StartsRight P (Start f value)) → reply_of_act ask act value ≡ Some r → StartsRight P r
+act_starts : (P : Bytecode) (ask : Ask) (act : Act) (value : ℤ) (r : Reply) → ((f : ℕ) → act ≡ Began f → StartsRight P (Start f value))
+    → reply_of_act ask act value ≡ Some r → StartsRight P r
 act_starts P Begin (Began f) value r right is = (let e : Start f value ≡ r = cc in subst (StartsRight P) e (right f refl))
 act_starts P End Ends value r right is = (let e : Gone ≡ r = cc in subst (StartsRight P) e tt)
 act_starts P (VRead v) (VolatileRead w) value r right is = no_start P r (when_none _ _ r tt is)
@@ -82,12 +84,14 @@ act_starts P Input Taken value r right is = (let e : Value value ≡ r = cc in s
 act_starts P Input (Fail code) value r right is = no_start P r (when_none _ _ r tt is)
 act_starts P ask act value r right is = cc
 
-plain_starts : (P : Bytecode) (b : Bool) (o : Option Reply) (r : Reply) → ((s : Reply) → o ≡ Some s → NoStart s) → (if b then o else None) ≡ Some r → StartsRight P r
+plain_starts : (P : Bytecode) (b : Bool) (o : Option Reply) (r : Reply) → ((s : Reply) → o ≡ Some s → NoStart s) → (if b then o else None)
+    ≡ Some r → StartsRight P r
 plain_starts P true o r each is = no_start P r (each r is)
 plain_starts P false o r each is = cc
 
 -- a reply by an entry that begins in no wrong function
-pub entry_starts : (P : Bytecode) (p : Progress) (ask : Ask) (e : Entry) (r : Reply) → BeginsRight P e → reply_in p ask e ≡ Some r → StartsRight P r
+pub entry_starts : (P : Bytecode) (p : Progress) (ask : Ask) (e : Entry) (r : Reply) → BeginsRight P e → reply_in p ask e ≡ Some r
+    → StartsRight P r
 entry_starts P p ask (Sync at act value) r right is =
     act_starts P ask act value r (λ f same. right at f value (ap (λ a. Sync at a value) same)) is
 entry_starts P p ask (Plain x nth cached write value raised) r right is =
@@ -116,7 +120,8 @@ module _ (P : Bytecode) where
       rw t.config (Fits-next P p.config t.reply fits t.fits (told_starts x p q t right))
 
   -- where an entry answers, no attempt runs afterwards
-  ends_by : (p : Progress) (o : Option Attempt) (ask : Ask) (e : Entry) (r : Reply) → p.config.attempt ≡ o → Attends o ask → reply_in p ask e ≡ Some r → runs_after ask (is_some o) ≡ false
+  ends_by : (p : Progress) (o : Option Attempt) (ask : Ask) (e : Entry) (r : Reply) → p.config.attempt ≡ o → Attends o ask
+      → reply_in p ask e ≡ Some r → runs_after ask (is_some o) ≡ false
   ends_by p None TxBegin e r is attends gives = (let none = no_entry p None TxBegin e is tt in cc)
   ends_by p None ask e r is attends gives = refl
   ends_by p (Some a) (TxEnd keep) e r is attends gives = refl
@@ -139,11 +144,13 @@ module _ (P : Bytecode) where
 
   -- ## Ways
 
-  pub told_more : (x : Exchange) (xs : List Exchange) (p m : Progress) (o : Option Progress) → told_one P x p ≡ Some m → told P m xs ≡ o → told P p (x ∷ xs) ≡ o
+  pub told_more : (x : Exchange) (xs : List Exchange) (p m : Progress) (o : Option Progress) → told_one P x p ≡ Some m → told P m xs ≡ o
+      → told P p (x ∷ xs) ≡ o
   unfolding told
   told_more x xs p m o first rest = ap (option_and_then (λ n. told P n xs)) first ∙ rest
 
-  pub all_fit : (xs : List Exchange) (p q : Progress) → Fits P p.config → EachBeginsRight P (entries_of xs) → told P p xs ≡ Some q → Fits P q.config
+  pub all_fit : (xs : List Exchange) (p q : Progress) → Fits P p.config → EachBeginsRight P (entries_of xs) → told P p xs ≡ Some q
+      → Fits P q.config
   all_fit [] p q fits right is = (let same = told_none P p q is in subst (λ (m : Progress). Fits P m.config) same fits)
   all_fit (Made e ∷ xs) p q fits right is =
       let parts = told_cons P (Made e) xs p q is in
@@ -158,37 +165,48 @@ module _ (P : Bytecode) where
     pub way : Reaches P p es last
     pub outside : last.config.attempt ≡ None
 
-  one_more : (x : Exchange) (es fs : List Entry) (p m : Progress) → told_one P x p ≡ Some m → ((xs : List Exchange) → entries_of xs ≡ es → entries_of (x ∷ xs) ≡ fs) → Cut m es → Cut p fs
+  one_more : (x : Exchange) (es fs : List Entry) (p m : Progress) → told_one P x p ≡ Some m
+      → ((xs : List Exchange) → entries_of xs ≡ es → entries_of (x ∷ xs) ≡ fs) → Cut m es → Cut p fs
   one_more x es fs p m first same c = record {
     last = c.last;
-    way = record { exchanges = x ∷ c.way.exchanges; entries = same c.way.exchanges c.way.entries; reached = told_more x c.way.exchanges p m _ first c.way.reached };
+    way = record {
+      exchanges = x ∷ c.way.exchanges;
+      entries = same c.way.exchanges c.way.entries;
+      reached = told_more x c.way.exchanges p m _ first c.way.reached;
+    };
     outside = c.outside;
   }
 
-  pub cut : (xs : List Exchange) (p q : Progress) → Fits P p.config → EachBeginsRight P (entries_of xs) → told P p xs ≡ Some q → (entries_of xs ≡ []) ⊎ Cut p (entries_of xs)
+  pub cut : (xs : List Exchange) (p q : Progress) → Fits P p.config → EachBeginsRight P (entries_of xs) → told P p xs ≡ Some q
+      → (entries_of xs ≡ []) ⊎ Cut p (entries_of xs)
   unfolding told
   cut [] p q fits right is = inl refl
-  cut (Quiet r ∷ xs) p q fits right is = by_rest (cut xs parts.mid q (told_fits (Quiet r) p parts.mid fits tt parts.first) right parts.rest) where
-    parts : Parts P (Quiet r) xs p q
-    parts = told_cons P (Quiet r) xs p q is
+  cut (Quiet r ∷ xs) p q fits right is = by_rest
+      (cut xs parts.mid q (told_fits (Quiet r) p parts.mid fits tt parts.first) right parts.rest) where
+        parts : Parts P (Quiet r) xs p q
+        parts = told_cons P (Quiet r) xs p q is
 
-    by_rest : (entries_of xs ≡ []) ⊎ Cut parts.mid (entries_of xs) → (entries_of xs ≡ []) ⊎ Cut p (entries_of xs)
-    by_rest (inl none) = inl none
-    by_rest (inr c) = inr (one_more (Quiet r) (entries_of xs) (entries_of xs) p parts.mid parts.first (λ ys same. same) c)
-  cut (Made e ∷ xs) p q fits right is = by_rest (cut xs parts.mid q (told_fits (Made e) p parts.mid fits right.0 parts.first) right.1 parts.rest) where
-    parts : Parts P (Made e) xs p q
-    parts = told_cons P (Made e) xs p q is
+        by_rest : (entries_of xs ≡ []) ⊎ Cut parts.mid (entries_of xs) → (entries_of xs ≡ []) ⊎ Cut p (entries_of xs)
+        by_rest (inl none) = inl none
+        by_rest (inr c) = inr (one_more (Quiet r) (entries_of xs) (entries_of xs) p parts.mid parts.first (λ ys same. same) c)
+  cut (Made e ∷ xs) p q fits right is = by_rest
+      (cut xs parts.mid q (told_fits (Made e) p parts.mid fits right.0 parts.first) right.1 parts.rest) where
+        parts : Parts P (Made e) xs p q
+        parts = told_cons P (Made e) xs p q is
 
-    alone : Cut parts.mid []
-    alone = record {
-      last = parts.mid;
-      way = record { exchanges = []; entries = refl; reached = refl };
-      outside = made_over e p parts.mid fits parts.first;
-    }
+        alone : Cut parts.mid []
+        alone = record {
+          last = parts.mid;
+          way = record { exchanges = []; entries = refl; reached = refl };
+          outside = made_over e p parts.mid fits parts.first;
+        }
 
-    by_rest : (entries_of xs ≡ []) ⊎ Cut parts.mid (entries_of xs) → (e ∷ entries_of xs ≡ []) ⊎ Cut p (e ∷ entries_of xs)
-    by_rest (inl none) = inr (one_more (Made e) [] (e ∷ entries_of xs) p parts.mid parts.first (λ ys same. ap (λ l. e ∷ l) (same ∙ sym none)) alone)
-    by_rest (inr c) = inr (one_more (Made e) (entries_of xs) (e ∷ entries_of xs) p parts.mid parts.first (λ ys same. ap (λ l. e ∷ l) same) c)
+        by_rest : (entries_of xs ≡ []) ⊎ Cut parts.mid (entries_of xs) → (e ∷ entries_of xs ≡ []) ⊎ Cut p (e ∷ entries_of xs)
+        by_rest (inl none) = inr (one_more (Made e) [] (e ∷ entries_of xs) p parts.mid parts.first
+            (λ ys same. ap (λ l. e ∷ l) (same ∙ sym none)) alone)
+        by_rest (inr c) = inr (one_more (Made e) (entries_of xs) (e ∷ entries_of xs) p parts.mid parts.first
+            (λ ys same. ap (λ l. e ∷ l) same)
+            c)
 
 -- ## The first exchange
 
@@ -235,7 +253,8 @@ pub record Leads (list es : List Entry) : Type 0 where
 
 pub peel :
     (P : Bytecode) (p r : Progress) (x : Exchange) (xs : List Exchange) (list es : List Entry) → touched p ≤ TX_VARIABLES →
-    Leads list es → entries_of (x ∷ xs) ≡ es → told P p (x ∷ xs) ≡ Some r → r.config.attempt ≡ None → Quietly P p list es r ⊎ ByEntry P p list es r
+    Leads list es → entries_of (x ∷ xs) ≡ es → told P p (x ∷ xs) ≡ Some r → r.config.attempt ≡ None → Quietly P p list es r
+    ⊎ ByEntry P p list es r
 peel P p r (Quiet reply) xs list es few leads same is outside =
     inl (record {
       reply = reply;

@@ -50,10 +50,12 @@ module _ (p : Progress) where
   write_is x v false true known has few = rw (known, has) refl
   write_is x v false false known has few = rw (known, full (touched p) few has) refl
 
-  inside_is : (list : List Entry) (ask : Ask) (r : Reply) → touched p ≤ TX_VARIABLES → quiet_inside p list ask ≡ Some r → is_quiet_within p ask r ≡ true
+  inside_is : (list : List Entry) (ask : Ask) (r : Reply) → touched p ≤ TX_VARIABLES → quiet_inside p list ask ≡ Some r
+      → is_quiet_within p ask r ≡ true
   inside_is list Go r few is = (let e : r ≡ Gone = cc in rw e refl)
   inside_is list (Read x) r few is =
-      let e : quiet_read (known_word (word_of p.writes x) (word_of p.looks x)) (nat_lt (touched p) TX_VARIABLES) (word_ahead list x) ≡ r = cc in
+      let e : quiet_read (known_word (word_of p.writes x) (word_of p.looks x)) (nat_lt (touched p) TX_VARIABLES) (word_ahead list x)
+      ≡ r = cc in
       subst (λ s. is_quiet_within p (Read x) s ≡ true) e (read_is x _ _ (word_ahead list x) refl refl few)
   inside_is list (Write x v) r few is =
       let e : quiet_write (knows p x || nat_lt (touched p) TX_VARIABLES) ≡ r = cc in
@@ -65,11 +67,13 @@ module _ (p : Progress) where
   outside_is TxBegin r is = (let e : r ≡ Gone = cc in rw e refl)
   outside_is ask r is = cc
 
-  is_at : (o : Option Attempt) (list : List Entry) (ask : Ask) (r : Reply) → touched p ≤ TX_VARIABLES → quiet_at o p list ask ≡ Some r → is_quiet o p ask r ≡ true
+  is_at : (o : Option Attempt) (list : List Entry) (ask : Ask) (r : Reply) → touched p ≤ TX_VARIABLES → quiet_at o p list ask ≡ Some r
+      → is_quiet o p ask r ≡ true
   is_at None list ask r few is = outside_is ask r is
   is_at (Some a) list ask r few is = inside_is list ask r few is
 
-  pub quiet_is : (list : List Entry) (ask : Ask) (r : Reply) → touched p ≤ TX_VARIABLES → quiet_for p list ask ≡ Some r → is_quiet p.config.attempt p ask r ≡ true
+  pub quiet_is : (list : List Entry) (ask : Ask) (r : Reply) → touched p ≤ TX_VARIABLES → quiet_for p list ask ≡ Some r
+      → is_quiet p.config.attempt p ask r ≡ true
   quiet_is list ask r few is = is_at p.config.attempt list ask r few is
 
 -- ## There is no other
@@ -109,7 +113,8 @@ module _ (p : Progress) (list : List Entry) where
       quiet_read (known_word (word_of p.writes x) (word_of p.looks x)) (nat_lt (touched p) TX_VARIABLES) (word_ahead list x) ≡ Raise c
   refused_told x c is =
       let all = three (knows p x) (touched p == TX_VARIABLES) (c == TX_TOO_LARGE) is in
-      rw (not_known (word_of p.writes x) (word_of p.looks x) all.0, no_room (touched p) all.1) (ap Raise (sym (eqb-true c TX_TOO_LARGE all.2)))
+      rw (not_known (word_of p.writes x) (word_of p.looks x) all.0, no_room (touched p) all.1)
+      (ap Raise (sym (eqb-true c TX_TOO_LARGE all.2)))
 
   unwritten_told :
       (x c : ℕ) → (not (knows p x) && touched p == TX_VARIABLES && c == TX_TOO_LARGE) ≡ true →
@@ -132,11 +137,13 @@ module _ (p : Progress) (list : List Entry) where
   outside_told TxBegin Gone is = refl
   outside_told ask r is = cc
 
-  told_at : (o : Option Attempt) (ask : Ask) (r : Reply) → ((a : Attempt) → o ≡ Some a → LooksAhead ask r) → is_quiet o p ask r ≡ true → quiet_at o p list ask ≡ Some r
+  told_at : (o : Option Attempt) (ask : Ask) (r : Reply) → ((a : Attempt) → o ≡ Some a → LooksAhead ask r) → is_quiet o p ask r ≡ true
+      → quiet_at o p list ask ≡ Some r
   told_at None ask r look is = outside_told ask r is
   told_at (Some a) ask r look is = inside_told ask r (look a refl) is
 
-  pub quiet_told : (ask : Ask) (r : Reply) → ((a : Attempt) → p.config.attempt ≡ Some a → LooksAhead ask r) → is_quiet p.config.attempt p ask r ≡ true → quiet_for p list ask ≡ Some r
+  pub quiet_told : (ask : Ask) (r : Reply) → ((a : Attempt) → p.config.attempt ≡ Some a → LooksAhead ask r)
+      → is_quiet p.config.attempt p ask r ≡ true → quiet_for p list ask ≡ Some r
   quiet_told ask r look is = told_at p.config.attempt ask r look is
 
 -- ## The machine takes it
@@ -151,11 +158,13 @@ write_fits x v true = refl
 write_fits x v false = refl
 
 module _ (P : Bytecode) (p : Progress) (list : List Entry) where
-  ask_taken : (ask : Ask) (o : Option Attempt) (r : Reply) → WaitsRightly P p.config ask → quiet_at o p list ask ≡ Some r → answers (refusal_in o) ask r ≡ true
+  ask_taken : (ask : Ask) (o : Option Attempt) (r : Reply) → WaitsRightly P p.config ask → quiet_at o p list ask ≡ Some r
+      → answers (refusal_in o) ask r ≡ true
   ask_taken Go o r waits is = absurd waits.asks
   ask_taken TxBegin None r waits is = (let e : r ≡ Gone = cc in rw e refl)
   ask_taken (Read x) (Some a) r waits is =
-      let e : quiet_read (known_word (word_of p.writes x) (word_of p.looks x)) (nat_lt (touched p) TX_VARIABLES) (word_ahead list x) ≡ r = cc in
+      let e : quiet_read (known_word (word_of p.writes x) (word_of p.looks x)) (nat_lt (touched p) TX_VARIABLES) (word_ahead list x)
+      ≡ r = cc in
       subst (λ s. answers TX_TOO_LARGE (Read x) s ≡ true) e (read_fits x _ _ (word_ahead list x))
   ask_taken (Write x v) (Some a) r waits is =
       let e : quiet_write (knows p x || nat_lt (touched p) TX_VARIABLES) ≡ r = cc in
@@ -163,7 +172,8 @@ module _ (P : Bytecode) (p : Progress) (list : List Entry) where
   ask_taken ask None r waits is = cc
   ask_taken ask (Some a) r waits is = cc
 
-  stage_taken : (s : Stage) (o : Option Attempt) (r : Reply) → StageIsOrderly P p.config s → quiet_at o p list (ask_of s) ≡ Some r → takes_at s o r ≡ true
+  stage_taken : (s : Stage) (o : Option Attempt) (r : Reply) → StageIsOrderly P p.config s → quiet_at o p list (ask_of s) ≡ Some r
+      → takes_at s o r ≡ true
   stage_taken New None r orderly is = (let e : r ≡ Gone = cc in rw e refl)
   stage_taken New (Some a) r orderly is = (let e : r ≡ Gone = cc in rw e refl)
   stage_taken Runs None r orderly is = (let e : r ≡ Gone = cc in rw e refl)

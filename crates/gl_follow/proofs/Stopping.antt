@@ -54,7 +54,8 @@ last_same (x ∷ xs) (y ∷ ys) e f is =
     (ap (λ h. h ∷ xs) heads ∙ ap (λ l. y ∷ l) more.0, more.1)
 
 -- the last of what stands behind a front
-behind_front : (front rest base : List Entry) (e f : Entry) → front ++ (e ∷ rest) ≡ base ++ f ∷ [] → ((rest ≡ []) × (base ≡ front) × (e ≡ f)) ⊎ ((more : List Entry) × (rest ≡ more ++ f ∷ []) × (base ≡ front ++ (e ∷ more)))
+behind_front : (front rest base : List Entry) (e f : Entry) → front ++ (e ∷ rest) ≡ base ++ f ∷ []
+    → ((rest ≡ []) × (base ≡ front) × (e ≡ f)) ⊎ ((more : List Entry) × (rest ≡ more ++ f ∷ []) × (base ≡ front ++ (e ∷ more)))
 behind_front [] [] [] e f is = inl (refl, refl, cc)
 behind_front [] (g ∷ rest) [] e f is = cc
 behind_front [] rest (b ∷ base) e f is =
@@ -72,16 +73,19 @@ behind_front (x ∷ front) rest (b ∷ base) e f is = by_rest (behind_front fron
 
   by_rest :
       ((rest ≡ []) × (base ≡ front) × (e ≡ f)) ⊎ ((more : List Entry) × (rest ≡ more ++ f ∷ []) × (base ≡ front ++ (e ∷ more))) →
-      ((rest ≡ []) × (b ∷ base ≡ x ∷ front) × (e ≡ f)) ⊎ ((more : List Entry) × (rest ≡ more ++ f ∷ []) × (b ∷ base ≡ x ∷ (front ++ (e ∷ more))))
+      ((rest ≡ []) × (b ∷ base ≡ x ∷ front) × (e ≡ f))
+      ⊎ ((more : List Entry) × (rest ≡ more ++ f ∷ []) × (b ∷ base ≡ x ∷ (front ++ (e ∷ more))))
   by_rest (inl (none, same, entry)) = inl (none, ap (λ h. h ∷ base) heads ∙ ap (λ l. x ∷ l) same, entry)
   by_rest (inr (more, back, same)) = inr (more, back, ap (λ h. h ∷ base) heads ∙ ap (λ l. x ∷ l) same)
 
 -- ## No machine makes an Over
 
-no_over : (P : Bytecode) (xs : List Exchange) (p q : Progress) (ys zs : List Entry) (ending : Ending) → told P p xs ≡ Some q → entries_of xs ≡ ys ++ Ended ending ∷ zs → ⊥
+no_over : (P : Bytecode) (xs : List Exchange) (p q : Progress) (ys zs : List Entry) (ending : Ending) → told P p xs ≡ Some q
+    → entries_of xs ≡ ys ++ Ended ending ∷ zs → ⊥
 no_over P [] p q [] zs ending is es = cc
 no_over P [] p q (y ∷ ys) zs ending is es = cc
-no_over P (Quiet r ∷ xs) p q ys zs ending is es = (let parts = told_cons P (Quiet r) xs p q is in no_over P xs parts.mid q ys zs ending parts.rest es)
+no_over P (Quiet r ∷ xs) p q ys zs ending is es =
+    (let parts = told_cons P (Quiet r) xs p q is in no_over P xs parts.mid q ys zs ending parts.rest es)
 no_over P (Made e ∷ xs) p q (y ∷ ys) zs ending is es =
     let parts = told_cons P (Made e) xs p q is in
     let tails : entries_of xs ≡ ys ++ Ended ending ∷ zs = cc in
@@ -89,7 +93,8 @@ no_over P (Made e ∷ xs) p q (y ∷ ys) zs ending is es =
 no_over P (Made e ∷ xs) p q [] zs ending is es =
     let parts = told_cons P (Made e) xs p q is in
     let entry : e ≡ Ended ending = cc in
-    let first : told_one P (Made (Ended ending)) p ≡ Some parts.mid = subst (λ s. told_one P (Made s) p ≡ Some parts.mid) entry parts.first in
+    let first : told_one P (Made (Ended ending)) p
+    ≡ Some parts.mid = subst (λ s. told_one P (Made s) p ≡ Some parts.mid) entry parts.first in
     let t = told_of P (Made (Ended ending)) p parts.mid first in
     let gives = t.gives in
     cc
@@ -97,13 +102,16 @@ no_over P (Made e ∷ xs) p q [] zs ending is es =
 -- ## The list
 
 module _ (P : Bytecode) (steps t : ℕ) where
-  pub holds : (front rest : List Entry) (p : Progress) (ending : Ending) → Follows P steps t front rest p → rest ≡ Ended ending ∷ [] → p.config.stage ≡ IsOver ending → Runs P steps t (front ++ rest)
+  pub holds : (front rest : List Entry) (p : Progress) (ending : Ending) → Follows P steps t front rest p → rest ≡ Ended ending ∷ []
+      → p.config.stage ≡ IsOver ending → Runs P steps t (front ++ rest)
   holds front rest p ending f last over =
       subst (λ l. Runs P steps t (front ++ l)) (sym last) (along_over P steps t front p ending f.along over)
 
-  module _ (front rest : List Entry) (p : Progress) (f : Follows P steps t front rest p) (few : touched p ≤ TX_VARIABLES) (stops : Stops P p rest) where
+  module _ (front rest : List Entry) (p : Progress) (f : Follows P steps t front rest p) (few : touched p ≤ TX_VARIABLES)
+      (stops : Stops P p rest) where
     -- nothing begins here
-    none_begins : (es : List Entry) (q : Progress) → ((e : Entry) (fs : List Entry) → rest ≡ e ∷ fs → (gs : List Entry) × (es ≡ e ∷ gs)) → (rest ≡ [] → es ≡ []) → Begun P p rest es q → ⊥
+    none_begins : (es : List Entry) (q : Progress) → ((e : Entry) (fs : List Entry) → rest ≡ e ∷ fs → (gs : List Entry) × (es ≡ e ∷ gs))
+        → (rest ≡ [] → es ≡ []) → Begun P p rest es q → ⊥
     none_begins es q head none b = by_first rest refl b.first where
       by_first : (l : List Entry) → rest ≡ l → Quietly P p rest es q ⊎ ByEntry P p rest es q → ⊥
       by_first l is (inl w) = (let chosen = w.chosen in let quiet = stops.quiet in cc)
@@ -117,7 +125,8 @@ module _ (P : Bytecode) (steps t : ℕ) where
           cc
 
     -- so no longer beginning is made
-    blocked : (e : Entry) (fs more back : List Entry) (r : Progress) → rest ≡ e ∷ fs → rest ≡ (e ∷ more) ++ back → Along P steps t (front ++ (e ∷ more)) r → ⊥
+    blocked : (e : Entry) (fs more back : List Entry) (r : Progress) → rest ≡ e ∷ fs → rest ≡ (e ∷ more) ++ back
+        → Along P steps t (front ++ (e ∷ more)) r → ⊥
     blocked e fs more back r is same along = by_begun (begun P steps t front rest p f few (e ∷ more) back w.0 same w.1) where
       w : (q : Progress) × Reaches P p (without_trims (e ∷ more)) q
       w = f.onward (e ∷ more) back r same along
@@ -138,15 +147,18 @@ module _ (P : Bytecode) (steps t : ℕ) where
       parts = take_longer front rest m less
 
       by_rest : (l : List Entry) → rest ≡ l → ⊥
-      by_rest [] is = (let short : length (front ++ rest) ≡ length front = ap length (ap (λ l. front ++ l) is ∙ append_none front) in absurd (omega arith))
+      by_rest [] is = (let short : length (front ++ rest) ≡ length front = ap length (ap (λ l. front ++ l) is ∙ append_none front)
+          in absurd (omega arith))
       by_rest (e ∷ fs) is =
           let first : take (suc parts.0) rest ≡ e ∷ take parts.0 fs = ap (take (suc parts.0)) is in
-          let along' : Along P steps t (front ++ (e ∷ take parts.0 fs)) r = subst (λ l. Along P steps t l r) (parts.1 ∙ ap (λ l. front ++ l) first) along in
+          let along' : Along P steps t (front ++ (e ∷ take parts.0 fs)) r =
+          subst (λ l. Along P steps t l r) (parts.1 ∙ ap (λ l. front ++ l) first) along in
           blocked e fs (take parts.0 fs) (drop parts.0 fs) r is (is ∙ ap (λ l. e ∷ l) (take_back parts.0 fs)) along'
 
     -- nor is it the whole list, but where the machine is over and just that is left
     pub fails :
-        (base : List Entry) (last : Ending) → front ++ rest ≡ base ++ Ended last ∷ [] → (rest ≡ Ended last ∷ [] → p.config.stage ≡ IsOver last → ⊥) →
+        (base : List Entry) (last : Ending) → front ++ rest ≡ base ++ Ended last ∷ []
+        → (rest ≡ Ended last ∷ [] → p.config.stage ≡ IsOver last → ⊥) →
         ProgramFails P steps t (front ++ rest) (length front)
     fails base last whole not = record {
       within = front_within front rest;
@@ -194,7 +206,9 @@ module _ (P : Bytecode) (steps t : ℕ) where
             no_over P f.along.exchanges (outset P t steps) p (without_trims base) [] last f.along.reached
             (f.along.made ∙ ap without_trims fronts ∙ without_trims-append base (Ended last ∷ []))
         by_rest (e ∷ fs) is = by_place (behind_front front fs base e (Ended last) (ap (λ l. front ++ l) (sym is) ∙ whole)) where
-          by_place : ((fs ≡ []) × (base ≡ front) × (e ≡ Ended last)) ⊎ ((more : List Entry) × (fs ≡ more ++ Ended last ∷ []) × (base ≡ front ++ (e ∷ more))) → ⊥
+          by_place : ((fs ≡ []) × (base ≡ front) × (e ≡ Ended last))
+              ⊎ ((more : List Entry) × (fs ≡ more ++ Ended last ∷ []) × (base ≡ front ++ (e ∷ more))) → ⊥
           by_place (inl (none, bases, entry)) = here e fs is none bases entry
           by_place (inr (more, back, bases)) =
-              blocked e fs more (Ended last ∷ []) runs.last is (is ∙ ap (λ l. e ∷ l) back) (subst (λ l. Along P steps t l runs.last) bases along)
+              blocked e fs more (Ended last ∷ []) runs.last is (is ∙ ap (λ l. e ∷ l) back)
+              (subst (λ l. Along P steps t l runs.last) bases along)

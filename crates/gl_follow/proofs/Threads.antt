@@ -23,9 +23,14 @@ use Rattle.gl_follow.proofs.Beginnings.{one_length}
 
 -- ## What the lists are
 
-each_right : (P : Bytecode) (es : List Entry) → ((i at f : ℕ) (value : ℤ) → At es i (Sync at (Begin f) value) → StartsRight P (Start f value)) → EachBeginsRight P es
+each_right : (P : Bytecode) (es : List Entry)
+    → ((i at f : ℕ) (value : ℤ) → At es i (Sync at (Begin f) value) → StartsRight P (Start f value)) → EachBeginsRight P es
 each_right P [] right = tt
-each_right P (e ∷ es) right = (λ at f value same. right 0 at f value (ap Some same), each_right P es (λ i at f value there. right (suc i) at f value there))
+each_right P (e ∷ es) right = (
+  λ at f value same. right 0 at f value (ap Some same),
+  each_right P es
+      (λ i at f value there. right (suc i) at f value there),
+)
 
 pub begins_right : (P : Bytecode) (R : Lists) (t : ℕ) → BeginsAreRight P R → EachBeginsRight P (R t)
 begins_right P R t right = each_right P (R t) (λ i at f value there. right t i at f value there)
@@ -39,7 +44,8 @@ last_of : (es : List Entry) (i : ℕ) (e : Entry) → slice_get es i ≡ Some e 
 last_of [] i e there long = cc
 last_of (a ∷ []) zero e there long = (let same : a ≡ e = cc in record { base = []; whole = ap (λ h. h ∷ []) same })
 last_of (a ∷ (b ∷ es)) zero e there long = absurd (omega arith)
-last_of (a ∷ es) (suc i) e there long = (let more = last_of es i e there (omega arith) in record { base = a ∷ more.base; whole = ap (λ l. a ∷ l) more.whole })
+last_of (a ∷ es) (suc i) e there long = (let more = last_of es i e there (omega arith)
+    in record { base = a ∷ more.base; whole = ap (λ l. a ∷ l) more.whole })
 
 over_of : (e : Entry) → IsOver e → (ending : Ending) × (e ≡ Ended ending)
 over_of (Ended ending) over = (ending, refl)
@@ -52,7 +58,8 @@ over_of (Trim low) over = absurd over
 pub ends_with_over : (R : Lists) (t : ℕ) → Form R → R t ≢ [] → EndsWithOver (R t)
 ends_with_over R t form some =
     let e = form.ends t some in
-    let alone : (i : ℕ) (f : Entry) → At (R t) i f → IsOver f → length (R t) ≡ i + 1 = λ i f there over. (form.formed t).nothing_after i f there over in
+    let alone : (i : ℕ) (f : Entry) → At (R t) i f → IsOver f → length (R t)
+    ≡ i + 1 = λ i f there over. (form.formed t).nothing_after i f there over in
     let last = last_of (R t) e.0 e.1.0 e.1.1 (alone e.0 e.1.0 e.1.1 e.1.2) in
     let entry = over_of e.1.0 e.1.2 in
     record {
@@ -70,11 +77,13 @@ list_is made t es is = ap (λ o. unwrap_or o []) is
 pub list_none : (made : List (ℕ × List Entry)) (t : ℕ) → list_of made t ≡ None → lists_of made t ≡ []
 list_none made t is = ap (λ o. unwrap_or o []) is
 
-pub list_kept : (made : List (ℕ × List Entry)) (t : ℕ) (es : List Entry) → AllByRecursion IsListKept made → list_of made t ≡ Some es → (t < THREADS) × (0 < length es)
+pub list_kept : (made : List (ℕ × List Entry)) (t : ℕ) (es : List Entry) → AllByRecursion IsListKept made → list_of made t ≡ Some es
+    → (t < THREADS) × (0 < length es)
 list_kept [] t es kept is = absurd (cc)
 list_kept (l ∷ made) t es kept is = by_test (l.0 == t) refl is (λ found. list_kept made t es kept.1 found) where
   by_test :
-      (b : Bool) → (l.0 == t) ≡ b → (if b then Some l.1 else list_of made t) ≡ Some es → (list_of made t ≡ Some es → (t < THREADS) × (0 < length es)) →
+      (b : Bool) → (l.0 == t) ≡ b → (if b then Some l.1 else list_of made t) ≡ Some es
+      → (list_of made t ≡ Some es → (t < THREADS) × (0 < length es)) →
       (t < THREADS) × (0 < length es)
   by_test true here found more =
       let same : l.0 ≡ t = eqb-true l.0 t here in

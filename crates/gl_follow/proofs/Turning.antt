@@ -70,7 +70,8 @@ take_length (a ∷ es) (suc n) le = ap suc (take_length es n (omega arith))
 abbrev pub answers_left : Config → ℕ
 answers_left c = 4 * (c.limit - c.counted) + due c
 
-one_falls : (P : Bytecode) (x : Exchange) (p q : Progress) → IsOrderly P p.config → told_one P x p ≡ Some q → answers_left q.config < answers_left p.config
+one_falls : (P : Bytecode) (x : Exchange) (p q : Progress) → IsOrderly P p.config → told_one P x p ≡ Some q
+    → answers_left q.config < answers_left p.config
 one_falls P x p q orderly is =
     let t = told_of P x p q is in
     let f = step_falls P p.config t.reply orderly t.fits in
@@ -88,7 +89,8 @@ module _ (P : Bytecode) (steps t : ℕ) (es : List Entry) where
     can = record { fits = fits; orderly = orderly_fresh P t steps; in_range = tt };
   }
 
-  one_on : (p q : Progress) (n : ℕ) (e : Entry) (later : List Entry) → drop n es ≡ e ∷ later → CanGo P q → Follows P steps t (take n es ++ e ∷ []) later q → IsAt P steps t es q (n + 1)
+  one_on : (p q : Progress) (n : ℕ) (e : Entry) (later : List Entry) → drop n es ≡ e ∷ later → CanGo P q
+      → Follows P steps t (take n es ++ e ∷ []) later q → IsAt P steps t es q (n + 1)
   one_on p q n e later same can f =
       let next : suc n ≡ n + 1 = omega arith in
       let less = less_by es n e later same in
@@ -100,7 +102,8 @@ module _ (P : Bytecode) (steps t : ℕ) (es : List Entry) where
         can = can;
       })
 
-  passed : (p q : Progress) (n : ℕ) (e : Entry) (later : List Entry) → IsAt P steps t es p n → drop n es ≡ e ∷ later → IsTrim e → q ≡ p → CanGo P q → Follows P steps t (take n es ++ e ∷ []) later q
+  passed : (p q : Progress) (n : ℕ) (e : Entry) (later : List Entry) → IsAt P steps t es p n → drop n es ≡ e ∷ later → IsTrim e → q ≡ p
+      → CanGo P q → Follows P steps t (take n es ++ e ∷ []) later q
   passed p q n (Trim low) later a same trim still can =
       subst (λ (r : Progress). Follows P steps t (take n es ++ Trim low ∷ []) later r) (sym still)
       (move_trim P steps t (take n es) later low p (subst (λ l. Follows P steps t (take n es) l p) same a.follows))
@@ -111,7 +114,8 @@ module _ (P : Bytecode) (steps t : ℕ) (es : List Entry) where
   passed p q n (Ended ending) later a same trim still can = absurd trim
 
   -- one turn
-  pub turned : (p q : Progress) (n k : ℕ) → IsAt P steps t es p n → touched p ≤ TX_VARIABLES → Turns P p (drop n es) q k → CanGo P q → IsAt P steps t es q (n + k)
+  pub turned : (p q : Progress) (n k : ℕ) → IsAt P steps t es p n → touched p ≤ TX_VARIABLES → Turns P p (drop n es) q k → CanGo P q
+      → IsAt P steps t es q (n + k)
   turned p q n k a few (inl (none, g)) can =
       let same : n ≡ n + k = omega (arith, none) in
       subst (λ m. IsAt P steps t es q m) same (record {
@@ -119,18 +123,21 @@ module _ (P : Bytecode) (steps t : ℕ) (es : List Entry) where
         follows = move_quiet P steps t (take n es) (drop n es) p a.follows few g.reply q g.chosen g.first can.orderly;
         can = can;
       })
-  turned p q n k a few (inr (one, g)) can = subst (λ m. IsAt P steps t es q (n + m)) (sym one) (one_on p q n g.entry g.later g.same can (by_way g.passes)) where
-    here : Follows P steps t (take n es) (g.entry ∷ g.later) p
-    here = subst (λ l. Follows P steps t (take n es) l p) g.same a.follows
+  turned p q n k a few (inr (one, g)) can =
+      subst (λ m. IsAt P steps t es q (n + m)) (sym one) (one_on p q n g.entry g.later g.same can (by_way g.passes)) where
+        here : Follows P steps t (take n es) (g.entry ∷ g.later) p
+        here = subst (λ l. Follows P steps t (take n es) l p) g.same a.follows
 
-    by_way : (IsTrim g.entry × (q ≡ p)) ⊎ ((IsTrim g.entry → ⊥) × (told_one P (Made g.entry) p ≡ Some q)) → Follows P steps t (take n es ++ g.entry ∷ []) g.later q
-    by_way (inl (trim, still)) = passed p q n g.entry g.later a g.same trim still can
-    by_way (inr (not, first)) =
-        let none = subst (λ l. quiet_for p l (ask_of p.config.stage) ≡ None) g.same g.none in
-        move_entry P steps t (take n es) g.later g.entry p q here few not none first can.orderly
+        by_way : (IsTrim g.entry × (q ≡ p)) ⊎ ((IsTrim g.entry → ⊥) × (told_one P (Made g.entry) p ≡ Some q))
+            → Follows P steps t (take n es ++ g.entry ∷ []) g.later q
+        by_way (inl (trim, still)) = passed p q n g.entry g.later a g.same trim still can
+        by_way (inr (not, first)) =
+            let none = subst (λ l. quiet_for p l (ask_of p.config.stage) ≡ None) g.same g.none in
+            move_entry P steps t (take n es) g.later g.entry p q here few not none first can.orderly
 
   -- and what it leaves to do
-  pub turn_falls : (p q : Progress) (n k : ℕ) → IsAt P steps t es p n → Turns P p (drop n es) q k → (length es - (n + k)) + answers_left q.config < (length es - n) + answers_left p.config
+  pub turn_falls : (p q : Progress) (n k : ℕ) → IsAt P steps t es p n → Turns P p (drop n es) q k
+      → (length es - (n + k)) + answers_left q.config < (length es - n) + answers_left p.config
   turn_falls p q n k a (inl (none, g)) = (let less = one_falls P (Quiet g.reply) p q a.can.orderly g.first in omega (arith, none))
   turn_falls p q n k a (inr (one, g)) = by_way g.passes where
     less : n < length es
@@ -139,7 +146,8 @@ module _ (P : Bytecode) (steps t : ℕ) (es : List Entry) where
     by_way :
         (IsTrim g.entry × (q ≡ p)) ⊎ ((IsTrim g.entry → ⊥) × (told_one P (Made g.entry) p ≡ Some q)) →
         (length es - (n + k)) + answers_left q.config < (length es - n) + answers_left p.config
-    by_way (inl (trim, still)) = (let same : answers_left q.config ≡ answers_left p.config = ap (λ (r : Progress). answers_left r.config) still in omega (arith, one, less))
+    by_way (inl (trim, still)) = (let same : answers_left q.config
+        ≡ answers_left p.config = ap (λ (r : Progress). answers_left r.config) still in omega (arith, one, less))
     by_way (inr (not, first)) = (let falls = one_falls P (Made g.entry) p q a.can.orderly first in omega (arith, one, less))
 
   -- ## The end
@@ -162,7 +170,8 @@ module _ (P : Bytecode) (steps t : ℕ) (es : List Entry) where
       let stage = over_stage p.config.stage p.config w.ending e.at.can.orderly.stage w.over in
       subst (Runs P steps t) (sym (take_back n es)) (holds P steps t (take n es) (drop n es) p w.ending e.at.follows last stage)
 
-  pub unwhole_fails : (p : Progress) (n : ℕ) → EndsAt P steps t es p n → EndsWithOver es → (IsWhole p (drop n es) → ⊥) → ProgramFails P steps t es n
+  pub unwhole_fails : (p : Progress) (n : ℕ) → EndsAt P steps t es p n → EndsWithOver es → (IsWhole p (drop n es) → ⊥)
+      → ProgramFails P steps t es n
   unwhole_fails p n e over not =
       subst (λ m. ProgramFails P steps t es m) (take_length es n e.at.within)
       (subst (λ l. ProgramFails P steps t l (length (take n es))) (sym (take_back n es))

@@ -13,22 +13,34 @@ pub one_one : (x y : ℕ) (zs : List ℕ) → x < y → with_one x (with_one y z
 one_one x y [] l = with_one-above x y [] l ∙ sym (with_one-below y x [] l)
 one_one x y (z ∷ zs) l = elim (cases_lt x z) [
   | inl below ↦ ap (λ t. t) (elim (cases_lt y z) [
-    | inl near ↦ ap (with_one x) (with_one-above y z zs near) ∙ with_one-above x y (z ∷ zs) l ∙ ap (λ t. x ∷ t) (sym (with_one-above y z zs near)) ∙ sym (with_one-below y x (z ∷ zs) l) ∙ ap (with_one y) (sym (with_one-above x z zs below))
+    | inl near ↦ ap (with_one x) (with_one-above y z zs near) ∙ with_one-above x y (z ∷ zs) l
+        ∙ ap (λ t. x ∷ t) (sym (with_one-above y z zs near)) ∙ sym (with_one-below y x (z ∷ zs) l)
+        ∙ ap (with_one y) (sym (with_one-above x z zs below))
     | inr ge ↦ elim (eq-or-lt_of_le ge) [
-      | inl same ↦ ap (with_one x) (with_one-same y z zs same) ∙ with_one-above x z zs below ∙ ap (λ t. x ∷ t) (sym (with_one-same y z zs same)) ∙ sym (with_one-below y x (z ∷ zs) l) ∙ ap (with_one y) (sym (with_one-above x z zs below))
-      | inr far ↦ ap (with_one x) (with_one-below y z zs far) ∙ with_one-above x z (with_one y zs) below ∙ ap (λ t. x ∷ t) (sym (with_one-below y z zs far)) ∙ sym (with_one-below y x (z ∷ zs) l) ∙ ap (with_one y) (sym (with_one-above x z zs below))
+      | inl same ↦ ap (with_one x) (with_one-same y z zs same) ∙ with_one-above x z zs below
+          ∙ ap (λ t. x ∷ t) (sym (with_one-same y z zs same)) ∙ sym (with_one-below y x (z ∷ zs) l)
+          ∙ ap (with_one y) (sym (with_one-above x z zs below))
+      | inr far ↦ ap (with_one x) (with_one-below y z zs far) ∙ with_one-above x z (with_one y zs) below
+          ∙ ap (λ t. x ∷ t) (sym (with_one-below y z zs far)) ∙ sym (with_one-below y x (z ∷ zs) l)
+          ∙ ap (with_one y) (sym (with_one-above x z zs below))
     ]
   ])
   | inr ge ↦ (let far : z < y = omega arith in elim (eq-or-lt_of_le ge) [
-    | inl same ↦ ap (with_one x) (with_one-below y z zs far) ∙ with_one-same x z (with_one y zs) same ∙ sym (with_one-below y z zs far) ∙ ap (with_one y) (sym (with_one-same x z zs same))
-    | inr past ↦ ap (with_one x) (with_one-below y z zs far) ∙ with_one-below x z (with_one y zs) past ∙ ap (λ t. z ∷ t) (one_one x y zs l) ∙ sym (with_one-below y z (with_one x zs) far) ∙ ap (with_one y) (sym (with_one-below x z zs past))
+    | inl same ↦ ap (with_one x) (with_one-below y z zs far) ∙ with_one-same x z (with_one y zs) same ∙ sym (with_one-below y z zs far)
+        ∙ ap (with_one y) (sym (with_one-same x z zs same))
+    | inr past ↦ ap (with_one x) (with_one-below y z zs far) ∙ with_one-below x z (with_one y zs) past ∙ ap (λ t. z ∷ t) (one_one x y zs l)
+        ∙ sym (with_one-below y z (with_one x zs) far) ∙ ap (with_one y) (sym (with_one-below x z zs past))
   ])
 ]
 
 pub either_order : (x y : ℕ) (zs : List ℕ) → with_one x (with_one y zs) ≡ with_one y (with_one x zs)
 either_order x y zs = elim (cases_lt x y) [
   | inl l ↦ one_one x y zs l
-  | inr ge ↦ elim (eq-or-lt_of_le ge) [ inl same ↦ ap (λ k. with_one x (with_one k zs)) same ∙ ap (λ k. with_one k (with_one x zs)) (sym same) | inr l ↦ sym (one_one y x zs l) ]
+  | inr ge ↦ elim (eq-or-lt_of_le ge) [
+    | inl same ↦ ap (λ k. with_one x (with_one k zs)) same
+        ∙ ap (λ k. with_one k (with_one x zs)) (sym same)
+    | inr l ↦ sym (one_one y x zs l)
+  ]
 ]
 
 -- one that is there already
@@ -38,7 +50,8 @@ one_again x (z ∷ zs) = elim (cases_lt x z) [
   | inl below ↦ ap (with_one x) (with_one-above x z zs below) ∙ with_one-same x x (z ∷ zs) refl ∙ sym (with_one-above x z zs below)
   | inr ge ↦ elim (eq-or-lt_of_le ge) [
     | inl same ↦ ap (with_one x) (with_one-same x z zs same)
-    | inr past ↦ ap (with_one x) (with_one-below x z zs past) ∙ with_one-below x z (with_one x zs) past ∙ ap (λ t. z ∷ t) (one_again x zs) ∙ sym (with_one-below x z zs past)
+    | inr past ↦ ap (with_one x) (with_one-below x z zs past) ∙ with_one-below x z (with_one x zs) past ∙ ap (λ t. z ∷ t) (one_again x zs)
+        ∙ sym (with_one-below x z zs past)
   ]
 ]
 
@@ -52,7 +65,8 @@ one_all x [] zs = refl
 one_all x (w ∷ ws) zs = elim (cases_lt x w) [
   | inl below ↦ ap (λ l. with_all l zs) (with_one-above x w ws below) ∙ all_one (w ∷ ws) x zs
   | inr ge ↦ elim (eq-or-lt_of_le ge) [
-    | inl same ↦ ap (λ l. with_all l zs) (with_one-same x w ws same) ∙ all_one ws w zs ∙ sym (one_again w (with_all ws zs)) ∙ ap (with_one w) (sym (all_one ws w zs)) ∙ ap (λ k. with_one k (with_all ws (with_one w zs))) same
+    | inl same ↦ ap (λ l. with_all l zs) (with_one-same x w ws same) ∙ all_one ws w zs ∙ sym (one_again w (with_all ws zs))
+        ∙ ap (with_one w) (sym (all_one ws w zs)) ∙ ap (λ k. with_one k (with_all ws (with_one w zs))) same
     | inr past ↦ ap (λ l. with_all l zs) (with_one-below x w ws past) ∙ one_all x ws (with_one w zs)
   ]
 ]
@@ -62,7 +76,10 @@ pub one_grows : (x : ℕ) (ys : List ℕ) → length ys ≤ length (with_one x y
 one_grows x [] = omega arith
 one_grows x (y ∷ ys) = elim (cases_lt x y) [
   | inl below ↦ (let e = ap length (with_one-above x y ys below) in omega arith)
-  | inr ge ↦ elim (eq-or-lt_of_le ge) [ inl same ↦ (let e = ap length (with_one-same x y ys same) in omega arith) | inr past ↦ (let e = ap length (with_one-below x y ys past) in let r = one_grows x ys in omega arith) ]
+  | inr ge ↦ elim (eq-or-lt_of_le ge) [
+    | inl same ↦ (let e = ap length (with_one-same x y ys same) in omega arith)
+    | inr past ↦ (let e = ap length (with_one-below x y ys past) in let r = one_grows x ys in omega arith)
+  ]
 ]
 
 first_above : (x : ℕ) (xs : List ℕ) → AllByRecursion (λ y. x < y) xs → with_one x xs ≡ x ∷ xs
@@ -99,7 +116,10 @@ pub one_there : (x : ℕ) (zs : List ℕ) → Contains (with_one x zs) x
 one_there x [] = (0, omega arith, refl)
 one_there x (z ∷ zs) = elim (cases_lt x z) [
   | inl below ↦ rw (with_one-above x z zs below) (0, omega arith, refl)
-  | inr ge ↦ elim (eq-or-lt_of_le ge) [ inl same ↦ rw (with_one-same x z zs same) (0, omega arith, same) | inr past ↦ rw (with_one-below x z zs past) (in_next z (with_one x zs) x (one_there x zs)) ]
+  | inr ge ↦ elim (eq-or-lt_of_le ge) [
+    | inl same ↦ rw (with_one-same x z zs same) (0, omega arith, same)
+    | inr past ↦ rw (with_one-below x z zs past) (in_next z (with_one x zs) x (one_there x zs))
+  ]
 ]
 
 pub one_still : (x : ℕ) (zs : List ℕ) (y : ℕ) → Contains zs y → Contains (with_one x zs) y
@@ -108,7 +128,8 @@ one_still x (z ∷ zs) y c = elim (cases_lt x z) [
   | inl below ↦ rw (with_one-above x z zs below) (in_next x (z ∷ zs) y c)
   | inr ge ↦ elim (eq-or-lt_of_le ge) [
     | inl same ↦ rw (with_one-same x z zs same) c
-    | inr past ↦ rw (with_one-below x z zs past) (elim (in_cases z zs y c) [ inl e ↦ (0, omega arith, e) | inr there ↦ in_next z (with_one x zs) y (one_still x zs y there) ])
+    | inr past ↦ rw (with_one-below x z zs past)
+        (elim (in_cases z zs y c) [ inl e ↦ (0, omega arith, e) | inr there ↦ in_next z (with_one x zs) y (one_still x zs y there) ])
   ]
 ]
 
@@ -134,7 +155,8 @@ one_new x (y ∷ ys) out = elim (cases_lt x y) [
 ]
 
 -- where the union with one more is not too long, there is room for one more
-pub one_fits : (x most : ℕ) (ws zs : List ℕ) → Rises ws → Rises zs → length (with_one x (with_all ws zs)) ≤ most → length ws ≡ most → (Contains ws x → ⊥) → ⊥
+pub one_fits : (x most : ℕ) (ws zs : List ℕ) → Rises ws → Rises zs → length (with_one x (with_all ws zs)) ≤ most → length ws ≡ most
+    → (Contains ws x → ⊥) → ⊥
 one_fits x most ws zs r s few full out =
     let e = ap length (one_all x ws zs) in
     let n = one_new x ws out in

@@ -20,7 +20,8 @@ word_pairs [] x = refl
 word_pairs (w ∷ ws) x = by_test (w.var == x) (word_pairs ws x) where
   by_test :
       (b : Bool) → word_of (map pair_word ws) x ≡ option_map (λ w. w.value) (find (λ p. p.var == x) ws) →
-      (if b then Some w.value else word_of (map pair_word ws) x) ≡ option_map (λ w. w.value) (if b then Some w else find (λ p. p.var == x) ws)
+      (if b then Some w.value else word_of (map pair_word ws) x)
+      ≡ option_map (λ w. w.value) (if b then Some w else find (λ p. p.var == x) ws)
   by_test true more = refl
   by_test false more = more
 
@@ -29,7 +30,8 @@ word_looks [] x = refl
 word_looks (l ∷ ls) x = by_test (l.var == x) (word_looks ls x) where
   by_test :
       (b : Bool) → word_of (map look_word ls) x ≡ option_map (λ l. l.value) (find (λ p. p.var == x) ls) →
-      (if b then Some l.value else word_of (map look_word ls) x) ≡ option_map (λ l. l.value) (if b then Some l else find (λ p. p.var == x) ls)
+      (if b then Some l.value else word_of (map look_word ls) x)
+      ≡ option_map (λ l. l.value) (if b then Some l else find (λ p. p.var == x) ls)
   by_test true more = refl
   by_test false more = more
 
@@ -45,13 +47,16 @@ turned x y = by_tests (x == y) (y == x) refl refl where
   by_tests true false p q = absurd (let e : x ≡ y = eqb-true x y p in let f : (y == x) ≡ true = eq-eqb y x (sym e) in cc)
   by_tests false true p q = absurd (let e : y ≡ x = eqb-true y x q in let f : (x == y) ≡ true = eq-eqb x y (sym e) in cc)
 
-pub put_pairs : (x : ℕ) (a : ℤ) (ws : List Pair) → map pair_word (with_part (λ p. p.var) (record { var = x; value = a }) ws) ≡ with_word x a (map pair_word ws)
+pub put_pairs : (x : ℕ) (a : ℤ) (ws : List Pair) → map pair_word (with_part (λ p. p.var) (record { var = x; value = a }) ws)
+    ≡ with_word x a (map pair_word ws)
 put_pairs x a [] = refl
 put_pairs x a (w ∷ ws) = rw (turned x w.var) (by_tests (w.var == x) (nat_lt x w.var) (put_pairs x a ws)) where
   by_tests :
       (b d : Bool) → map pair_word (with_part (λ p. p.var) (record { var = x; value = a }) ws) ≡ with_word x a (map pair_word ws) →
-      map pair_word (if b then (record { var = x; value = a }) ∷ ws else if d then (record { var = x; value = a }) ∷ (w ∷ ws) else w ∷ with_part (λ p. p.var) (record { var = x; value = a }) ws)
-      ≡ (if b then (x, a) ∷ map pair_word ws else if d then (x, a) ∷ pair_word w ∷ map pair_word ws else pair_word w ∷ with_word x a (map pair_word ws))
+      map pair_word (if b then (record { var = x; value = a }) ∷ ws else if d then (record { var = x; value = a }) ∷ (w ∷ ws) else w
+      ∷ with_part (λ p. p.var) (record { var = x; value = a }) ws)
+      ≡ (if b then (x, a) ∷ map pair_word ws else if d then (x, a) ∷ pair_word w ∷ map pair_word ws else pair_word w
+      ∷ with_word x a (map pair_word ws))
   by_tests true d more = refl
   by_tests false true more = refl
   by_tests false false more = ap (λ us. pair_word w ∷ us) more
@@ -89,7 +94,8 @@ known_among looks writes x is = elim (either _ _ is) [
 ]
 
 -- a set that is full has another size than one with room
-pub look_enters : (looks writes : List Pair) (all : List ℕ) → all ≡ vars_of looks writes → size_of (touched_by looks writes) < TX_VARIABLES → length all ≡ TX_VARIABLES → ⊥
+pub look_enters : (looks writes : List Pair) (all : List ℕ) → all ≡ vars_of looks writes → size_of (touched_by looks writes) < TX_VARIABLES
+    → length all ≡ TX_VARIABLES → ⊥
 look_enters looks writes all is room full = (let e = size_all looks writes all is in omega arith)
 
 pub look_fits : (looks writes : List Pair) → size_of (touched_by looks writes) < TX_VARIABLES → length looks ≡ TX_VARIABLES → ⊥
@@ -102,17 +108,22 @@ look_fits looks writes room full =
       length_map [] = refl
       length_map (w ∷ ws) = ap suc (length_map ws)
 
-pub look_more : (x : ℕ) (a : ℤ) (looks writes : List Pair) (all : List ℕ) → all ≡ vars_of looks writes → with_one x all ≡ vars_of (with_part pair_var (record { var = x; value = a }) looks) writes
+pub look_more : (x : ℕ) (a : ℤ) (looks writes : List Pair) (all : List ℕ) → all ≡ vars_of looks writes → with_one x all
+    ≡ vars_of (with_part pair_var (record { var = x; value = a }) looks) writes
 look_more x a looks writes all is =
-    ap (with_one x) is ∙ sym (ap (with_all (map pair_var writes)) (keys_with pair_var (record { var = x; value = a }) looks) ∙ all_one (map pair_var writes) x (map pair_var looks))
+    ap (with_one x) is ∙ sym (ap (with_all (map pair_var writes)) (keys_with pair_var (record { var = x; value = a }) looks)
+    ∙ all_one (map pair_var writes) x (map pair_var looks))
 
-pub write_more : (x : ℕ) (a : ℤ) (looks writes : List Pair) (all : List ℕ) → all ≡ vars_of looks writes → with_one x all ≡ vars_of looks (with_part pair_var (record { var = x; value = a }) writes)
+pub write_more : (x : ℕ) (a : ℤ) (looks writes : List Pair) (all : List ℕ) → all ≡ vars_of looks writes → with_one x all
+    ≡ vars_of looks (with_part pair_var (record { var = x; value = a }) writes)
 write_more x a looks writes all is =
-    ap (with_one x) is ∙ sym (ap (λ l. with_all l (map pair_var looks)) (keys_with pair_var (record { var = x; value = a }) writes) ∙ one_all x (map pair_var writes) (map pair_var looks))
+    ap (with_one x) is ∙ sym (ap (λ l. with_all l (map pair_var looks)) (keys_with pair_var (record { var = x; value = a }) writes)
+    ∙ one_all x (map pair_var writes) (map pair_var looks))
 
 pub write_enters :
     (x : ℕ) (looks writes : List Pair) (all : List ℕ) → all ≡ vars_of looks writes →
-    ((is_some (word_of (map pair_word writes) x) || is_some (word_of (map pair_word looks) x)) || nat_lt (size_of (touched_by looks writes)) TX_VARIABLES) ≡ true →
+    ((is_some (word_of (map pair_word writes) x) || is_some (word_of (map pair_word looks) x)) || nat_lt
+    (size_of (touched_by looks writes)) TX_VARIABLES) ≡ true →
     length all ≡ TX_VARIABLES → (Contains all x → ⊥) → ⊥
 write_enters x looks writes all is room full out = elim (either _ _ room) [
   | inl known ↦ out (subst (λ l. Contains l x) (sym is) (known_among looks writes x known))
@@ -121,10 +132,12 @@ write_enters x looks writes all is room full out = elim (either _ _ room) [
 ]
 
 pub write_fits :
-    (x : ℕ) (looks writes : List Pair) (all : List ℕ) → all ≡ with_one x (vars_of looks writes) → AreVariables (map pair_var looks) → AreVariables (map pair_var writes) →
+    (x : ℕ) (looks writes : List Pair) (all : List ℕ) → all ≡ with_one x (vars_of looks writes) → AreVariables (map pair_var looks)
+    → AreVariables (map pair_var writes) →
     length all ≤ TX_VARIABLES → length writes ≡ TX_VARIABLES → (Contains (map pair_var writes) x → ⊥) → ⊥
 write_fits x looks writes all is are also few full out =
-    one_fits x TX_VARIABLES (map pair_var writes) (map pair_var looks) also.1 are.1 (subst (λ l. length l ≤ TX_VARIABLES) is few) (length_map writes ∙ full) out where
+    one_fits x TX_VARIABLES (map pair_var writes) (map pair_var looks) also.1 are.1 (subst (λ l. length l ≤ TX_VARIABLES) is few)
+    (length_map writes ∙ full) out where
       length_map : (ws : List Pair) → length (map pair_var ws) ≡ length ws
       length_map [] = refl
       length_map (w ∷ ws) = ap suc (length_map ws)
@@ -154,13 +167,15 @@ module _ {A : Type 0} {B : Type 0} (f : A → ℕ × ℤ) (g : B → ℕ × ℤ)
   same_from xs ys i = same_words (map f (drop i xs)) (map g (drop i ys))
 
   both : (xs vs : List A) (ys ws : List B) (i : ℕ) → drop i xs ≡ vs → drop i ys ≡ ws → same_from xs ys i ≡ same_words (map f vs) (map g ws)
-  both xs vs ys ws i first second = ap (λ l. same_words (map f l) (map g (drop i ys))) first ∙ ap (λ l. same_words (map f vs) (map g l)) second
+  both xs vs ys ws i first second = ap (λ l. same_words (map f l) (map g (drop i ys))) first
+      ∙ ap (λ l. same_words (map f vs) (map g l)) second
 
   pub same_on :
       (xs : List A) (ys : List B) (i : ℕ) (x : A) (y : B) → slice_get xs i ≡ Some x → slice_get ys i ≡ Some y →
       ((f x).0 == (g y).0 && int_eq (f x).1 (g y).1) ≡ true → same_from xs ys (suc i) ≡ same_from xs ys i
   same_on xs ys i x y first second same =
-      sym (both xs _ ys _ i (drop_at xs i x first) (drop_at ys i y second) ∙ and_true ((f x).0 == (g y).0) (int_eq (f x).1 (g y).1) (same_from xs ys (suc i)) same) where
+      sym (both xs _ ys _ i (drop_at xs i x first) (drop_at ys i y second)
+      ∙ and_true ((f x).0 == (g y).0) (int_eq (f x).1 (g y).1) (same_from xs ys (suc i)) same) where
         and_true : (a b c : Bool) → (a && b) ≡ true → (a && b && c) ≡ c
         and_true true true c is = refl
         and_true true false c is = cc
@@ -169,19 +184,22 @@ module _ {A : Type 0} {B : Type 0} (f : A → ℕ × ℤ) (g : B → ℕ × ℤ)
   pub other_on :
       (xs : List A) (ys : List B) (i : ℕ) (x : A) (y : B) → slice_get xs i ≡ Some x → slice_get ys i ≡ Some y →
       ((f x).0 == (g y).0 && int_eq (f x).1 (g y).1) ≡ false → same_from xs ys i ≡ false
-  other_on xs ys i x y first second other = both xs _ ys _ i (drop_at xs i x first) (drop_at ys i y second) ∙ and_false ((f x).0 == (g y).0) (int_eq (f x).1 (g y).1) (same_from xs ys (suc i)) other where
-    and_false : (a b c : Bool) → (a && b) ≡ false → (a && b && c) ≡ false
-    and_false true true c is = cc
-    and_false true false c is = refl
-    and_false false b c is = refl
+  other_on xs ys i x y first second other = both xs _ ys _ i (drop_at xs i x first) (drop_at ys i y second)
+      ∙ and_false ((f x).0 == (g y).0) (int_eq (f x).1 (g y).1) (same_from xs ys (suc i)) other where
+        and_false : (a b c : Bool) → (a && b) ≡ false → (a && b && c) ≡ false
+        and_false true true c is = cc
+        and_false true false c is = refl
+        and_false false b c is = refl
 
   pub none_from : (xs : List A) (ys : List B) (i : ℕ) → slice_get xs i ≡ None → slice_get ys i ≡ None → same_from xs ys i ≡ true
   none_from xs ys i first second = both xs [] ys [] i (drop_past xs i first) (drop_past ys i second)
 
-  pub longer_from : (xs : List A) (ys : List B) (i : ℕ) (x : A) → slice_get xs i ≡ Some x → slice_get ys i ≡ None → same_from xs ys i ≡ false
+  pub longer_from : (xs : List A) (ys : List B) (i : ℕ) (x : A) → slice_get xs i ≡ Some x → slice_get ys i ≡ None → same_from xs ys i
+      ≡ false
   longer_from xs ys i x first second = both xs _ ys [] i (drop_at xs i x first) (drop_past ys i second)
 
-  pub shorter_from : (xs : List A) (ys : List B) (i : ℕ) (y : B) → slice_get xs i ≡ None → slice_get ys i ≡ Some y → same_from xs ys i ≡ false
+  pub shorter_from : (xs : List A) (ys : List B) (i : ℕ) (y : B) → slice_get xs i ≡ None → slice_get ys i ≡ Some y → same_from xs ys i
+      ≡ false
   shorter_from xs ys i y first second = both xs [] ys _ i (drop_past xs i first) (drop_at ys i y second)
 
   pub past_both : (xs : List A) (ys : List B) (i : ℕ) → length xs ≤ i → length ys ≤ i → same_from xs ys i ≡ true
@@ -197,12 +215,14 @@ written_known t looks writes x w is found =
     subst (λ (s : Touched). Some w.value ≡ known_word (word_of s.writes x) (word_of s.looks x)) is (rw word refl)
 
 pub looked_known :
-    (t : Touched) (looks writes : List Pair) (x : ℕ) (o : Option Pair) → touched_by looks writes ≡ t → find (λ p. p.var == x) writes ≡ None →
+    (t : Touched) (looks writes : List Pair) (x : ℕ) (o : Option Pair) → touched_by looks writes ≡ t → find (λ p. p.var == x) writes
+    ≡ None →
     find (λ p. p.var == x) looks ≡ o → option_map (λ v. v.value) o ≡ known_word (word_of t.writes x) (word_of t.looks x)
 looked_known t looks writes x o is none found =
     let unwritten : word_of (map pair_word writes) x ≡ None = word_pairs writes x ∙ ap (option_map (λ v. v.value)) none in
     let word : word_of (map pair_word looks) x ≡ option_map (λ v. v.value) o = word_pairs looks x ∙ ap (option_map (λ v. v.value)) found in
-    subst (λ (s : Touched). option_map (λ v. v.value) o ≡ known_word (word_of s.writes x) (word_of s.looks x)) is (rw (unwritten, word) refl)
+    subst (λ (s : Touched). option_map (λ v. v.value) o ≡ known_word (word_of s.writes x) (word_of s.looks x)) is
+    (rw (unwritten, word) refl)
 
 pub is_written :
     (t : Touched) (looks writes : List Pair) (x : ℕ) (w : Pair) → touched_by looks writes ≡ t → find (λ p. p.var == x) writes ≡ Some w →
@@ -222,19 +242,22 @@ is_looked t looks writes x is none =
     let unwritten : word_of (map pair_word writes) x ≡ None = word_pairs writes x ∙ ap (option_map (λ v. v.value)) none in
     let word : is_some (find (λ p. p.var == x) looks) ≡ is_some (word_of (map pair_word looks) x) =
     some_still (find (λ p. p.var == x) looks) ∙ ap is_some (sym (word_pairs looks x)) in
-    subst (λ (s : Touched). is_some (find (λ p. p.var == x) looks) ≡ (is_some (word_of s.writes x) || is_some (word_of s.looks x))) is (rw unwritten word)
+    subst (λ (s : Touched). is_some (find (λ p. p.var == x) looks) ≡ (is_some (word_of s.writes x) || is_some (word_of s.looks x))) is
+    (rw unwritten word)
 
 -- ## What the calls leave
 
 pub look_result :
-    (t : Touched) (looks writes new : List Pair) (x : ℕ) (a : ℤ) → touched_by looks writes ≡ t → new ≡ with_part pair_var (record { var = x; value = a }) looks →
+    (t : Touched) (looks writes new : List Pair) (x : ℕ) (a : ℤ) → touched_by looks writes ≡ t → new
+    ≡ with_part pair_var (record { var = x; value = a }) looks →
     touched_by new writes ≡ record t { looks = with_word x a t.looks }
 look_result t looks writes new x a is put =
     subst (λ (s : Touched). touched_by new writes ≡ record s { looks = with_word x a s.looks }) is
     (ap (λ l. record (touched_by looks writes) { looks = l }) (ap (map pair_word) put ∙ put_pairs x a looks))
 
 pub write_result :
-    (t : Touched) (looks writes new : List Pair) (x : ℕ) (a : ℤ) → touched_by looks writes ≡ t → new ≡ with_part pair_var (record { var = x; value = a }) writes →
+    (t : Touched) (looks writes new : List Pair) (x : ℕ) (a : ℤ) → touched_by looks writes ≡ t → new
+    ≡ with_part pair_var (record { var = x; value = a }) writes →
     touched_by looks new ≡ record t { writes = with_word x a t.writes }
 write_result t looks writes new x a is put =
     subst (λ (s : Touched). touched_by looks new ≡ record s { writes = with_word x a s.writes }) is
@@ -247,6 +270,7 @@ none_written [] = refl
 none_written (w ∷ ws) = refl
 
 pub ends_without :
-    (p : Progress) (tx : Tx) (keep b : Bool) → keep ≡ false → same_words (map look_word tx.looks) p.looks ≡ true → b ≡ is_none (slice_get tx.writes 0) →
+    (p : Progress) (tx : Tx) (keep b : Bool) → keep ≡ false → same_words (map look_word tx.looks) p.looks ≡ true → b
+    ≡ is_none (slice_get tx.writes 0) →
     b ≡ is_its_end p keep tx
 ends_without p tx keep b dropped looked is = rw (dropped, looked) (is ∙ none_written tx.writes)

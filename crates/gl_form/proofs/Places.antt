@@ -44,9 +44,6 @@ pub empty_keeps : (t : ℕ) (es : List Entry) → es ≡ [] → t ≢ 0 → (i :
 empty_keeps t es none other i fails =
     fails (keeps_past t es i (rw none (omega arith)) (λ first. absurd (other first)) (λ some. absurd (some none)))
 
-pub empty_fails : (es : List Entry) → es ≡ [] → FormFails 0 es 0
-empty_fails es none keeps = keeps.main refl refl none
-
 module _ (ls : List (ℕ × List Entry)) where
   abbrev pub NoneBelow : ℕ → Type 0
   NoneBelow n = (t : ℕ) → t < n → (i : ℕ) → FormFails t (lists_of ls t) i → ⊥

@@ -40,5 +40,9 @@ bank_is_faultless n =
     record {
       main = refl;
       short = refl;
-      right = at_place (IsRight P) P.functions (main_is_right n, all_mapped (IsRight P) (transfer_function n) (range_with_len 0 8) (transfer_is_right P n));
+      right = at_place (IsRight P) P.functions (
+        main_is_right n,
+        all_mapped (IsRight P) (transfer_function n) (range_with_len 0 8)
+            (transfer_is_right P n),
+      );
     }

@@ -60,7 +60,13 @@ word_byte b low high = (omega arith, omega arith, λ e. omega arith)
 
 push_words : (n : ℕ) → n ≤ 65535 → AreWords (codes "push" ∷ decimal n ∷ [])
 push_words n small = (
-  (lit< tt, (word_byte 112 (lit< tt) (lit≤ tt), (word_byte 117 (lit< tt) (lit≤ tt), (word_byte 115 (lit< tt) (lit≤ tt), (word_byte 104 (lit< tt) (lit≤ tt), tt))))),
+  (
+    lit< tt,
+    (
+      word_byte 112 (lit< tt) (lit≤ tt),
+      (word_byte 117 (lit< tt) (lit≤ tt), (word_byte 115 (lit< tt) (lit≤ tt), (word_byte 104 (lit< tt) (lit≤ tt), tt))),
+    ),
+  ),
   (word_decimal n (omega arith), tt),
 )
 

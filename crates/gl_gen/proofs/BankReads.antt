@@ -26,7 +26,8 @@ use Rattle.gl_gen.proofs.SomeLines.{after, definitions_on, lines_more}
 
 abbrev head_table : List Definition
 head_table =
-    (record { scope = Classes; name = codes "Bank"; line = 1; number = 0 }) ∷ (record { scope = Functions; name = codes "main"; line = 2; number = 0 }) ∷ []
+    (record { scope = Classes; name = codes "Bank"; line = 1; number = 0 })
+    ∷ (record { scope = Functions; name = codes "main"; line = 2; number = 0 }) ∷ []
 
 abbrev table_of : ℕ → List Definition
 table_of k =
@@ -95,7 +96,8 @@ pushed k places = counted (after (counts k places) (header_line k ∷ [])) (Some
 -- what computes for one account
 record SaysTransfer (k places : ℕ) : Type 0 where
   defines :
-      definitions_from (counts k places) (94 + 23 * k) (header_line k ∷ []) ++ definitions_from (pushed k places) (((94 + 23 * k) + 1) + 1) (code_lines k) ≡ table_of k
+      definitions_from (counts k places) (94 + 23 * k) (header_line k ∷ [])
+      ++ definitions_from (pushed k places) (((94 + 23 * k) + 1) + 1) (code_lines k) ≡ table_of k
   header : read_from table (counts k places) (94 + 23 * k) 0 (header_line k ∷ []) ≡ Ok (AddsFunction 1 2 ∷ [])
   given : (after (counts k places) (header_line k ∷ [])).given ≡ false
   some : ((after (counts k places) (header_line k ∷ [])).functions == 0) ≡ false
@@ -144,7 +146,8 @@ module _ (n : ℕ) (push : SaysPush n (codes "  push " ++ decimal n)) where
 
   -- the lines of one account's function, and then others
   defines_on : (k places : ℕ) → SaysTransfer k places → (rest : List Line)
-      → definitions_from (counts k places) (94 + 23 * k) (transfer_lines n k ++ rest) ≡ table_of k ++ definitions_from (counts (k + 1) 21) (94 + 23 * (k + 1)) rest
+      → definitions_from (counts k places) (94 + 23 * k) (transfer_lines n k ++ rest) ≡ table_of k
+      ++ definitions_from (counts (k + 1) 21) (94 + 23 * (k + 1)) rest
   defines_on k places says rest =
       let at = 94 + 23 * k in
       let c = after (counts k places) (header_line k ∷ []) in
@@ -154,7 +157,8 @@ module _ (n : ℕ) (push : SaysPush n (codes "  push " ++ decimal n)) where
       let e : ((at + 1) + 1) + 21 ≡ 94 + 23 * (k + 1) = omega arith in
       definitions_on (counts k places) at (header_line k ∷ []) (push_line ∷ code)
       ∙ ap (λ l. first ++ l)
-      (ap (λ f. option_to_list (definition_of c (at + 1) f (words push_line)) ++ definitions_from (counted c f) ((at + 1) + 1) code) (push_form n push_line push)
+      (ap (λ f. option_to_list (definition_of c (at + 1) f (words push_line)) ++ definitions_from (counted c f) ((at + 1) + 1) code)
+      (push_form n push_line push)
       ∙ definitions_on (pushed k places) ((at + 1) + 1) (code_lines k) rest)
       ∙ sym (append_assoc first others (definitions_from (after (pushed k places) (code_lines k)) (((at + 1) + 1) + 21) rest))
       ∙ ap (λ l. l ++ definitions_from (after (pushed k places) (code_lines k)) (((at + 1) + 1) + 21) rest) says.defines
@@ -172,7 +176,8 @@ module _ (n : ℕ) (push : SaysPush n (codes "  push " ++ decimal n)) where
       let with_push = added with_header (AddsInstruction (Push (pos n))) in
       let e : ((at + 1) + 1) + 21 ≡ 94 + 23 * (k + 1) = omega arith in
       lines_more table D (counts k places) at (header_line k ∷ []) (push_line ∷ code) (AddsFunction 1 2 ∷ []) says.header refl
-      ∙ line_more table c (at + 1) with_header [] push_line code (AddsInstruction (Push (pos n))) (push_adds table c (at + 1) n push_line push says.given says.some)
+      ∙ line_more table c (at + 1) with_header [] push_line code (AddsInstruction (Push (pos n)))
+      (push_adds table c (at + 1) n push_line push says.given says.some)
       ∙ ap (λ f. built with_push [] (read_from table (counted c f) ((at + 1) + 1) 0 code)) (push_form n push_line push)
       ∙ lines_more table with_push (pushed k places) ((at + 1) + 1) (code_lines k) rest (code_additions k) says.code refl
       ∙ ap (λ d. built (with_transfer n k D) [] (read_from table d (((at + 1) + 1) + 21) 0 rest)) says.onward

@@ -23,7 +23,8 @@ pub with_more : {A : Type 0} (f : ℕ → List A) (front : List A) (j : ℕ)
 with_more f front j =
     let e : 0 + j ≡ j = omega arith in
     append_assoc front (flat_map f (range_with_len 0 j)) (f j)
-    ∙ ap (λ l. front ++ l) (ap (λ k. flat_map f (range_with_len 0 j) ++ f k) (sym e) ∙ sym (flat_more f 0 j) ∙ ap (λ n. flat_map f (range_with_len 0 n)) (sym (add-one j)))
+    ∙ ap (λ l. front ++ l) (ap (λ k. flat_map f (range_with_len 0 j) ++ f k) (sym e) ∙ sym (flat_more f 0 j)
+    ∙ ap (λ n. flat_map f (range_with_len 0 n)) (sym (add-one j)))
 
 -- the same from 1 on
 pub with_more_from_one : {A : Type 0} (f : ℕ → List A) (front : List A) (j : ℕ) → 1 ≤ j
@@ -33,7 +34,8 @@ with_more_from_one f front j least =
     let s : suc (j - 1) ≡ (j + 1) - 1 = omega arith in
     append_assoc front (flat_map f (range_with_len 1 (j - 1))) (f j)
     ∙ ap (λ l. front ++ l)
-    (ap (λ k. flat_map f (range_with_len 1 (j - 1)) ++ f k) (sym e) ∙ sym (flat_more f 1 (j - 1)) ∙ ap (λ n. flat_map f (range_with_len 1 n)) s)
+    (ap (λ k. flat_map f (range_with_len 1 (j - 1)) ++ f k) (sym e) ∙ sym (flat_more f 1 (j - 1))
+    ∙ ap (λ n. flat_map f (range_with_len 1 n)) s)
 
 map_more : {A : Type 0} (f : ℕ → A) (a n : ℕ) → map f (range_with_len a (suc n)) ≡ map f (range_with_len a n) ++ f (a + n) ∷ []
 map_more f a zero = (let e : a ≡ a + 0 = omega arith in ap (λ k. f k ∷ []) e)
@@ -47,12 +49,14 @@ pub map_with_more : {A : Type 0} (f : ℕ → A) (first : A) (j : ℕ)
 map_with_more f first j =
     let e : 0 + j ≡ j = omega arith in
     ap (λ l. first ∷ l)
-    (ap (λ k. map f (range_with_len 0 j) ++ f k ∷ []) (sym e) ∙ sym (map_more f 0 j) ∙ ap (λ n. map f (range_with_len 0 n)) (sym (add-one j)))
+    (ap (λ k. map f (range_with_len 0 j) ++ f k ∷ []) (sym e) ∙ sym (map_more f 0 j)
+    ∙ ap (λ n. map f (range_with_len 0 n)) (sym (add-one j)))
 
 -- the function with one instruction more
 pub instr_more : (args locals : ℕ) (D : Draft) (code : List Instr) (k : ℕ) (d : Instr) → k < length code
     → with_instr (get_or code k d) (with_function args locals (take k code) D) ≡ with_function args locals (take (k + 1) code) D
 instr_more args locals D code k d within =
     let i = get_or code k d in
-    ap (λ (Fs : List Function). record D { functions = Fs }) (with_last-push (λ F. record F { code = F.code ++ i ∷ [] }) D.functions (plain_function args locals (take k code)))
+    ap (λ (Fs : List Function). record D { functions = Fs })
+    (with_last-push (λ F. record F { code = F.code ++ i ∷ [] }) D.functions (plain_function args locals (take k code)))
     ∙ ap (λ c. with_function args locals c D) (sym (take-suc code k d within) ∙ ap (λ n. take n code) (sym (add-one k)))

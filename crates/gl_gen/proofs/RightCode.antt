@@ -26,12 +26,14 @@ of_none : (o : Option ℕ) → is_none o ≡ true → o ≡ None
 of_none None is = refl
 of_none (Some kind) is = cc
 
-each_none : {X : Type 0} (f : X → Option ℕ) (xs : List X) (k : ℕ) → list_all (λ x. is_none (f x)) xs ≡ true → option_and_then f (slice_get xs k) ≡ None
+each_none : {X : Type 0} (f : X → Option ℕ) (xs : List X) (k : ℕ) → list_all (λ x. is_none (f x)) xs ≡ true
+    → option_and_then f (slice_get xs k) ≡ None
 each_none f [] k is = refl
 each_none f (x ∷ xs) zero is = of_none (f x) (both _ _ is).0
 each_none f (x ∷ xs) (suc k) is = each_none f xs k (both _ _ is).1
 
-named_right : (P : Bytecode) (args locals : ℕ) (code : List Instr) → list_all (λ i. is_none (instr_fault P (plain_function args locals code) i)) code ≡ true
+named_right : (P : Bytecode) (args locals : ℕ) (code : List Instr)
+    → list_all (λ i. is_none (instr_fault P (plain_function args locals code) i)) code ≡ true
     → (at : ℕ) → fault_at P (plain_function args locals code) at ≡ None
 named_right P args locals code is at = by_test (nat_lt at (length code)) where
   by_test :
@@ -51,7 +53,8 @@ is_depth n (Some m) = m == n
 -- an instruction at a place that is reached with n values leads on by these depths
 abbrev pub leads_on : Bytecode → List ℕ → ℕ → Instr → ℕ → Bool
 leads_on P depths at i n =
-    nat_le n OPERANDS && nat_le (needs P i) n && list_all (λ to. is_depth ((n - needs P i) + gives i) (slice_get depths to)) (successors i at)
+    nat_le n OPERANDS && nat_le (needs P i) n && list_all (λ to. is_depth ((n - needs P i) + gives i) (slice_get depths to))
+    (successors i at)
 
 abbrev pub leads_from : Bytecode → List ℕ → ℕ → Instr → Option ℕ → Bool
 leads_from P depths at i None = true
@@ -66,14 +69,16 @@ of_depth : (n : ℕ) (o : Option ℕ) → is_depth n o ≡ true → o ≡ Some n
 of_depth n None is = cc
 of_depth n (Some m) is = (let same : m ≡ n = grind (arith, nat_tests) in ap Some same)
 
-onward : (depths : List ℕ) (n : ℕ) (tos : List ℕ) → list_all (λ to. is_depth n (slice_get depths to)) tos ≡ true → AllByRecursion (λ to. slice_get depths to ≡ Some n) tos
+onward : (depths : List ℕ) (n : ℕ) (tos : List ℕ) → list_all (λ to. is_depth n (slice_get depths to)) tos ≡ true
+    → AllByRecursion (λ to. slice_get depths to ≡ Some n) tos
 onward depths n [] is = tt
 onward depths n (to ∷ tos) is = (of_depth n (slice_get depths to) (both _ _ is).0, onward depths n tos (both _ _ is).1)
 
 at_most : (a b : ℕ) → nat_le a b ≡ true → a ≤ b
 at_most a b is = grind (arith, nat_tests)
 
-leads : (P : Bytecode) (depths : List ℕ) (at : ℕ) (i : Instr) (n : ℕ) → leads_on P depths at i n ≡ true → LeadsOn P (slice_get depths) i at n
+leads : (P : Bytecode) (depths : List ℕ) (at : ℕ) (i : Instr) (n : ℕ) → leads_on P depths at i n ≡ true
+    → LeadsOn P (slice_get depths) i at n
 leads P depths at i n is =
     let all = both _ _ is in
     let room = both _ _ all.0 in
@@ -83,12 +88,14 @@ leads P depths at i n is =
       onward = onward depths ((n - needs P i) + gives i) (successors i at) all.1;
     }
 
-at_depth : (P : Bytecode) (depths : List ℕ) (at : ℕ) (i : Instr) (o : Option ℕ) (n : ℕ) → leads_from P depths at i o ≡ true → o ≡ Some n → leads_on P depths at i n ≡ true
+at_depth : (P : Bytecode) (depths : List ℕ) (at : ℕ) (i : Instr) (o : Option ℕ) (n : ℕ) → leads_from P depths at i o ≡ true → o ≡ Some n
+    → leads_on P depths at i n ≡ true
 at_depth P depths at i None n is there = cc
 at_depth P depths at i (Some m) n is there = (let same : m ≡ n = cc in subst (λ k. leads_on P depths at i k ≡ true) same is)
 
 lead_from :
-    (P : Bytecode) (depths : List ℕ) (at : ℕ) (code : List Instr) → lead_on P depths at code ≡ true → (k n : ℕ) (i : Instr) → slice_get code k ≡ Some i →
+    (P : Bytecode) (depths : List ℕ) (at : ℕ) (code : List Instr) → lead_on P depths at code ≡ true → (k n : ℕ) (i : Instr)
+    → slice_get code k ≡ Some i →
     slice_get depths (at + k) ≡ Some n → LeadsOn P (slice_get depths) i (at + k) n
 lead_from P depths at [] is k n i there = cc
 lead_from P depths at (j ∷ more) is zero n i there =
@@ -96,13 +103,15 @@ lead_from P depths at (j ∷ more) is zero n i there =
     let here : at ≡ at + 0 = omega arith in
     let Q : ℕ → Type 0 = λ p. slice_get depths p ≡ Some n → LeadsOn P (slice_get depths) i p n in
     subst Q here
-    (λ depth. leads P depths at i n (at_depth P depths at i (slice_get depths at) n (subst (λ x. leads_from P depths at x (slice_get depths at) ≡ true) same (both _ _ is).0) depth))
+    (λ depth. leads P depths at i n (at_depth P depths at i (slice_get depths at) n
+    (subst (λ x. leads_from P depths at x (slice_get depths at) ≡ true) same (both _ _ is).0) depth))
 lead_from P depths at (j ∷ more) is (suc k) n i there =
     let further : (at + 1) + k ≡ at + suc k = omega arith in
     let Q : ℕ → Type 0 = λ p. slice_get depths p ≡ Some n → LeadsOn P (slice_get depths) i p n in
     subst Q further (lead_from P depths (at + 1) more (both _ _ is).1 k n i there)
 
-are_depths : (P : Bytecode) (args locals : ℕ) (code : List Instr) (depths : List ℕ) → slice_get depths 0 ≡ Some 0 → lead_on P depths 0 code ≡ true
+are_depths : (P : Bytecode) (args locals : ℕ) (code : List Instr) (depths : List ℕ) → slice_get depths 0 ≡ Some 0 → lead_on P depths 0 code
+    ≡ true
     → AreDepths P (plain_function args locals code) (slice_get depths)
 are_depths P args locals code depths starts is = record {
   starts = starts;
@@ -115,7 +124,13 @@ are_depths P args locals code depths starts is = record {
 -- ## The whole function
 
 pub right_by :
-    (P : Bytecode) (args locals : ℕ) (code : List Instr) (depths : List ℕ) → list_all (λ i. is_none (instr_fault P (plain_function args locals code) i)) code ≡ true →
-    falls_off (plain_function args locals code) ≡ false → slice_get depths 0 ≡ Some 0 → lead_on P depths 0 code ≡ true → IsRight P (plain_function args locals code)
+    (P : Bytecode) (args locals : ℕ) (code : List Instr) (depths : List ℕ)
+    → list_all (λ i. is_none (instr_fault P (plain_function args locals code) i)) code ≡ true →
+    falls_off (plain_function args locals code) ≡ false → slice_get depths 0 ≡ Some 0 → lead_on P depths 0 code ≡ true
+    → IsRight P (plain_function args locals code)
 right_by P args locals code depths named ended starts is =
-    record { named = named_right P args locals code named; ended = ended; depths = (slice_get depths, are_depths P args locals code depths starts is) }
+    record {
+      named = named_right P args locals code named;
+      ended = ended;
+      depths = (slice_get depths, are_depths P args locals code depths starts is);
+    }

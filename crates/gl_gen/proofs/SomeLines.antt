@@ -63,7 +63,8 @@ record Splits (r : Result Addition ℕ) (more : Addition → Result (List Additi
   go_on : more first ≡ Ok others
   whole : bs ≡ first ∷ others
 
-splits_others : (a : Addition) (more : Addition → Result (List Addition) LineFault) (s : Result (List Addition) LineFault) (bs : List Addition) → more a ≡ s
+splits_others : (a : Addition) (more : Addition → Result (List Addition) LineFault) (s : Result (List Addition) LineFault)
+    (bs : List Addition) → more a ≡ s
     → (s >>= (λ others. Ok (a ∷ others))) ≡ Ok bs → Splits (Ok a) more bs
 splits_others a more (Err fault) bs s_is is = cc
 splits_others a more (Ok others) bs s_is is =
@@ -88,7 +89,8 @@ lines_more T D c line (text ∷ ls) rest bs is none =
     let a = s.first in
     let right = both _ _ (subst (λ cs. list_all adds_no_inputs cs ≡ true) s.whole none) in
     let empty : inputs_in a ≡ [] = no_inputs a right.0 in
-    let others : read_from T c' (line + 1) 0 ls ≡ Ok s.others = subst (λ (zs : List ℤ). read_from T c' (line + 1) (0 + length zs) ls ≡ Ok s.others) empty s.go_on in
+    let others : read_from T c' (line + 1) 0 ls
+    ≡ Ok s.others = subst (λ (zs : List ℤ). read_from T c' (line + 1) (0 + length zs) ls ≡ Ok s.others) empty s.go_on in
     let e : (line + 1) + length ls ≡ line + length (text ∷ ls) = omega arith in
     line_more T c line D [] text (ls ++ rest) a s.says
     ∙ ap (λ (zs : List ℤ). built (added D a) zs (read_from T c' (line + 1) (length zs) (ls ++ rest))) empty

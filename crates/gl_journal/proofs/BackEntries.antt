@@ -155,12 +155,14 @@ sync_back at a value low range small is =
     (rw (natural_back (most_of (kind_of a)) (arg_of a) arg (omega (arith, most_small (kind_of a))))
     (rw (value_back_in value is) (ap (λ b. Ok (Sync at b value)) (act_back a range)))))
 
-commit_back : (at : ℕ) (tx : Tx) → at ≤ MOST_STAMP → IsTxKept tx → IsTxTyped tx → IsTxStamped tx → commit_in (decimal at ∷ tx_words tx) ≡ Ok (Commit at tx)
+commit_back : (at : ℕ) (tx : Tx) → at ≤ MOST_STAMP → IsTxKept tx → IsTxTyped tx → IsTxStamped tx → commit_in (decimal at ∷ tx_words tx)
+    ≡ Ok (Commit at tx)
 unfolding commit_in
 commit_back at tx low kept typed few = rw (natural_back MOST_STAMP at low (omega arith)) (rw (tx_back tx kept typed few) refl)
 
 plain_back : (var nth : ℕ) (cached write : Bool) (value : _) (raised : Bool) → var < VARIABLES → nth ≤ MOST_STAMP → IsValue value
-    → plain_in (decimal var ∷ decimal nth ∷ (if write then codes "wr" else codes "rd") ∷ signed_decimal value ∷ (if cached then codes "cached" else codes "own") ∷ (if raised then codes "race" else codes "ok") ∷ [])
+    → plain_in (decimal var ∷ decimal nth ∷ (if write then codes "wr" else codes "rd") ∷ signed_decimal value
+    ∷ (if cached then codes "cached" else codes "own") ∷ (if raised then codes "race" else codes "ok") ∷ [])
     ≡ Ok (Plain var nth cached write value raised)
 unfolding plain_in
 plain_back var nth cached write value raised low few is =
@@ -168,18 +170,22 @@ plain_back var nth cached write value raised low few is =
     (rw (natural_back MOST_STAMP nth few (omega arith))
     (rw (choice_back write (codes "rd") (codes "wr") refl refl)
     (rw (value_back_in value is)
-    (rw (choice_back cached (codes "own") (codes "cached") refl refl) (rw (choice_back raised (codes "ok") (codes "race") refl refl) refl)))))
+    (rw (choice_back cached (codes "own") (codes "cached") refl refl)
+    (rw (choice_back raised (codes "ok") (codes "race") refl refl) refl)))))
 
-changed_back : (tx : Tx) (var : ℕ) (read found : _) → var < VARIABLES → IsValue read → IsValue found → IsTxKept tx → IsTxTyped tx → IsTxStamped tx
+changed_back : (tx : Tx) (var : ℕ) (read found : _) → var < VARIABLES → IsValue read → IsValue found → IsTxKept tx → IsTxTyped tx
+    → IsTxStamped tx
     → changed_in (decimal var ∷ signed_decimal read ∷ signed_decimal found ∷ tx_words tx) ≡ Ok (Abort tx (Changed var read found))
 unfolding changed_in
 changed_back tx var read found low old new kept typed few =
     rw (natural_back (VARIABLES - 1) var (omega arith) (omega arith))
     (rw (value_back_in read old) (rw (value_back_in found new) (rw (tx_back tx kept typed few) refl)))
 
-raised_back : (tx : Tx) (var : ℕ) → var < VARIABLES → IsTxKept tx → IsTxTyped tx → IsTxStamped tx → raised_in (decimal var ∷ tx_words tx) ≡ Ok (Abort tx (Raised var))
+raised_back : (tx : Tx) (var : ℕ) → var < VARIABLES → IsTxKept tx → IsTxTyped tx → IsTxStamped tx → raised_in (decimal var ∷ tx_words tx)
+    ≡ Ok (Abort tx (Raised var))
 unfolding raised_in
-raised_back tx var low kept typed few = rw (natural_back (VARIABLES - 1) var (omega arith) (omega arith)) (rw (tx_back tx kept typed few) refl)
+raised_back tx var low kept typed few = rw (natural_back (VARIABLES - 1) var (omega arith) (omega arith))
+    (rw (tx_back tx kept typed few) refl)
 
 trim_back : (low : ℕ) → low ≤ MOST_STAMP → trim_in (decimal low ∷ []) ≡ Ok (Trim low)
 unfolding trim_in
@@ -253,9 +259,15 @@ signed_word z is = numeral_is_word (signed_decimal z) (numeral_signed z is)
 pub entry_are_words : (e : Entry) → IsEntryKept e → IsEntryTyped e → IsEntryStamped e → AreWords (entry_row e)
 entry_are_words (Sync at act value) kept typed few =
     let arg : arg_of act ≤ most_of (kind_of act) = arg_small act kept typed.0 in
-    let most : most_of (kind_of act) ≤ 1023 = most_small (kind_of act) in
-    (keyword (codes "sync") refl, (decimal_word at (omega arith), (kind_word (kind_of act), (decimal_word (arg_of act) (omega arith), (signed_word value typed.1, tt)))))
-entry_are_words (Commit at tx) kept typed few = (keyword (codes "commit") refl, (decimal_word at (omega (arith, few.0)), tx_are_words tx kept typed few.1))
+    let most : most_of (kind_of act) ≤ 1023 = most_small (kind_of act) in (
+      keyword (codes "sync") refl,
+      (
+        decimal_word at (omega arith),
+        (kind_word (kind_of act), (decimal_word (arg_of act) (omega arith), (signed_word value typed.1, tt))),
+      ),
+    )
+entry_are_words (Commit at tx) kept typed few =
+    (keyword (codes "commit") refl, (decimal_word at (omega (arith, few.0)), tx_are_words tx kept typed few.1))
 entry_are_words (Plain var nth cached write value raised) kept typed few = (
   keyword (codes "plain") refl,
   (
@@ -285,8 +297,13 @@ entry_are_words (Abort tx (Changed var read found)) kept typed few = (
     ),
   ),
 )
-entry_are_words (Abort tx (Raised var)) kept typed few =
-    (keyword (codes "abort") refl, (keyword (codes "raised") refl, (decimal_word var (omega (arith, kept.1)), tx_are_words tx kept.0 typed.0 few)))
+entry_are_words (Abort tx (Raised var)) kept typed few = (
+  keyword (codes "abort") refl,
+  (
+    keyword (codes "raised") refl,
+    (decimal_word var (omega (arith, kept.1)), tx_are_words tx kept.0 typed.0 few),
+  ),
+)
 entry_are_words (Trim low) kept typed few = (keyword (codes "trim") refl, (decimal_word low (omega (arith, few)), tt))
 entry_are_words (Over Halt) kept typed few = (keyword (codes "over") refl, (keyword (codes "halt") refl, tt))
 entry_are_words (Over Spent) kept typed few = (keyword (codes "over") refl, (keyword (codes "spent") refl, tt))

@@ -68,7 +68,8 @@ record IsPiece (w : Word) : Type 0 where
   comma : HasNoComma w
   word : IsWord w
 
-digit_append : (a b : Word) → (d : ℕ) × ((rest : List ℕ) × (a ≡ d ∷ rest) × (48 ≤ d)) → (d : ℕ) × ((rest : List ℕ) × (a ++ b ≡ d ∷ rest) × (48 ≤ d))
+digit_append : (a b : Word) → (d : ℕ) × ((rest : List ℕ) × (a ≡ d ∷ rest) × (48 ≤ d)) → (d : ℕ)
+    × ((rest : List ℕ) × (a ++ b ≡ d ∷ rest) × (48 ≤ d))
 digit_append a b begins = (begins.0, (begins.1.0 ++ b, ap (λ l. l ++ b) begins.1.1, begins.1.2))
 
 piece_append : (n : ℕ) (b : Word) → n < 10 ^ 19 → HasNoComma b → AllByRecursion IsWordByte b → IsPiece (decimal n ++ b)
@@ -114,8 +115,11 @@ look_back l var is =
     let tail : Word = signed_decimal l.value ++ (codes ":" ++ decimal l.nth) in
     record {
       piece = piece_append l.var (codes ":" ++ tail) (omega arith)
-          (refl, comma_append (signed_decimal l.value) (codes ":" ++ decimal l.nth) (no_comma (signed_decimal l.value) second) end.0)
-          (colon_byte, all_append IsWordByte (signed_decimal l.value) (codes ":" ++ decimal l.nth) (bytes_of (signed_decimal l.value) second) end.1);
+          (refl, comma_append (signed_decimal l.value) (codes ":" ++ decimal l.nth) (no_comma (signed_decimal l.value) second) end.0) (
+            colon_byte,
+            all_append IsWordByte (signed_decimal l.value) (codes ":" ++ decimal l.nth)
+                (bytes_of (signed_decimal l.value) second) end.1,
+          );
       back =
           ap look_in
           (slice_split_at (is_byte COLON) (decimal l.var) 58 tail (no_colon (decimal l.var) first) refl
@@ -125,7 +129,8 @@ look_back l var is =
           ∙ look_in_back l var is.0 is.1;
     }
 
-pair_in_back : (p : Pair) → p.var < VARIABLES → IsValue p.value → pair_in (decimal p.var ∷ signed_decimal p.value ∷ []) ≡ Ok (part_of_pair p)
+pair_in_back : (p : Pair) → p.var < VARIABLES → IsValue p.value → pair_in (decimal p.var ∷ signed_decimal p.value ∷ [])
+    ≡ Ok (part_of_pair p)
 unfolding pair_in
 pair_in_back p var value = rw (natural_back (VARIABLES - 1) p.var (omega arith) (omega arith)) (rw (value_back_in p.value value) refl)
 
@@ -139,11 +144,13 @@ pair_back p var is =
       back =
           ap pair_in
           (slice_split_at (is_byte COLON) (decimal p.var) 58 (signed_decimal p.value) (no_colon (decimal p.var) first) refl
-          ∙ ap (λ ps. decimal p.var ∷ ps) (slice_split_none (is_byte COLON) (signed_decimal p.value) (no_colon (signed_decimal p.value) second)))
+          ∙ ap (λ ps. decimal p.var ∷ ps) (slice_split_none (is_byte COLON) (signed_decimal p.value)
+          (no_colon (signed_decimal p.value) second)))
           ∙ pair_in_back p var is;
     }
 
-number_in_back : (n : Number) → n.var < VARIABLES → n.nth ≤ MOST_STAMP → number_in (decimal n.var ∷ decimal n.nth ∷ []) ≡ Ok (part_of_number n)
+number_in_back : (n : Number) → n.var < VARIABLES → n.nth ≤ MOST_STAMP → number_in (decimal n.var ∷ decimal n.nth ∷ [])
+    ≡ Ok (part_of_number n)
 unfolding number_in
 number_in_back n var nth =
     rw (natural_back (VARIABLES - 1) n.var (omega arith) (omega arith)) (rw (natural_back MOST_STAMP n.nth nth (omega arith)) refl)
@@ -164,11 +171,13 @@ number_back n var is =
 
 -- ## Lists that are read back
 
-split_list : (w : Word) (ws : List Word) → HasNoComma w → AllByRecursion HasNoComma ws → slice_split (is_byte COMMA) (list_word (w ∷ ws)) ≡ w ∷ ws
+split_list : (w : Word) (ws : List Word) → HasNoComma w → AllByRecursion HasNoComma ws → slice_split (is_byte COMMA) (list_word (w ∷ ws))
+    ≡ w ∷ ws
 split_list w [] first others =
     ap (slice_split (is_byte COMMA)) (append-nil w) ∙ slice_split_none (is_byte COMMA) w (All-from_recursion _ w first)
 split_list w (v ∷ vs) first others =
-    slice_split_at (is_byte COMMA) w 44 (list_word (v ∷ vs)) (All-from_recursion _ w first) refl ∙ ap (λ ps. w ∷ ps) (split_list v vs others.0 others.1)
+    slice_split_at (is_byte COMMA) w 44 (list_word (v ∷ vs)) (All-from_recursion _ w first) refl
+    ∙ ap (λ ps. w ∷ ps) (split_list v vs others.0 others.1)
 
 not_minus : (w : Word) (d : ℕ) (rest : List ℕ) → w ≡ d ∷ rest → 48 ≤ d → bytes_eq w (codes "-") ≡ false
 not_minus w d rest is high =
@@ -188,7 +197,8 @@ pieces_back (w ∷ ws) are =
     rw (not_minus (list_word (w ∷ ws)) begins.0 begins.1.0 begins.1.1 begins.1.2)
     (split_list w ws are.0.comma (all_map IsPiece HasNoComma ws (λ v is. is.comma) are.1))
 
-all_of_map : {A : Type 0} (P : A → Type 0) (Q : Word → Type 0) (word : A → Word) (xs : List A) → ((x : A) → P x → Q (word x)) → AllByRecursion P xs
+all_of_map : {A : Type 0} (P : A → Type 0) (Q : Word → Type 0) (word : A → Word) (xs : List A) → ((x : A) → P x → Q (word x))
+    → AllByRecursion P xs
     → AllByRecursion Q (map word xs)
 all_of_map P Q word [] to all = tt
 all_of_map P Q word (x ∷ xs) to all = (to x all.0, all_of_map P Q word xs to all.1)
@@ -203,7 +213,8 @@ parts_back form word part (x ∷ xs) are =
 list_back : {A : Type 0} (form : PartForm) (word : A → Word) (part : A → Part) (xs : List A) → AllByRecursion (IsBack form word part) xs
     → list_in form (list_word (map word xs)) ≡ Ok (map part xs)
 list_back form word part xs are =
-    ap (parts_in form) (pieces_back (map word xs) (all_of_map (IsBack form word part) IsPiece word xs (λ x is. is.piece) are)) ∙ parts_back form word part xs are
+    ap (parts_in form) (pieces_back (map word xs) (all_of_map (IsBack form word part) IsPiece word xs (λ x is. is.piece) are))
+    ∙ parts_back form word part xs are
 
 all_words : (ws : List Word) → AllByRecursion IsWord ws → AllByRecursion IsWordByte (flat_map (λ v. codes "," ++ v) ws)
 all_words [] are = tt
@@ -213,7 +224,8 @@ list_is_word : (ws : List Word) → AllByRecursion IsWord ws → IsWord (list_wo
 list_is_word [] are = (omega arith, (minus_byte, tt))
 list_is_word (w ∷ ws) are = word_append w (flat_map (λ v. codes "," ++ v) ws) are.0 (all_words ws are.1)
 
-word_back : {A : Type 0} (form : PartForm) (word : A → Word) (part : A → Part) (xs : List A) → AllByRecursion (IsBack form word part) xs → IsWord (list_word (map word xs))
+word_back : {A : Type 0} (form : PartForm) (word : A → Word) (part : A → Part) (xs : List A) → AllByRecursion (IsBack form word part) xs
+    → IsWord (list_word (map word xs))
 word_back form word part xs are = list_is_word (map word xs) (all_of_map (IsBack form word part) IsWord word xs (λ x is. is.piece.word) are)
 
 -- ## Sets
@@ -281,11 +293,17 @@ is_tx_back tx kept typed few = record {
 }
 
 lists_back : (tx : Tx)
-    → lists_of (tx_words tx) ≡ Ok (list_word (map look_word tx.looks), list_word (map pair_word tx.writes), list_word (map number_word tx.numbers))
+    → lists_of (tx_words tx) ≡ Ok (
+      list_word (map look_word tx.looks),
+      list_word (map pair_word tx.writes),
+      list_word
+          (map number_word tx.numbers),
+    )
 unfolding lists_of
 lists_back tx = refl
 
-parts_are_tx : (tx : Tx) → IsTxBack tx → tx_of (map part_of_look tx.looks) (map part_of_pair tx.writes) (map part_of_number tx.numbers) ≡ Ok tx
+parts_are_tx : (tx : Tx) → IsTxBack tx → tx_of (map part_of_look tx.looks) (map part_of_pair tx.writes) (map part_of_number tx.numbers)
+    ≡ Ok tx
 parts_are_tx tx back =
     rw (back.looks_set, back.writes_set, back.numbers_set) (rw (same_looks tx.looks, same_pairs tx.writes, same_numbers tx.numbers) refl)
 

@@ -43,14 +43,16 @@ line_back : (s : Standing) (r : Row) → AreWords r → line_read s (spaced r) �
 unfolding line_read
 line_back s r are = rw (not_bad (spaced r) (plain_spaced r are)) (ap (words_read s) (words_spaced r are))
 
-first_clean : (s u t : Standing) (line : List ℕ) (ls : List (List ℕ)) → line_read s line ≡ Ok u → AllRead u ls t → (i : ℕ) → i < length (line ∷ ls)
+first_clean : (s u t : Standing) (line : List ℕ) (ls : List (List ℕ)) → line_read s line ≡ Ok u → AllRead u ls t → (i : ℕ)
+    → i < length (line ∷ ls)
     → fault_of (line_read (said_from s (take i (line ∷ ls))) (slice_index_or (line ∷ ls) i [])) ≡ None
 first_clean s u t line ls is rest zero below = ap fault_of is
 first_clean s u t line ls is rest (suc i) below =
     ap (λ v. fault_of (line_read (said_from (or_same s v) (take i ls)) (slice_index_or ls i []))) is ∙ rest.clean i (omega arith)
 
 read_first : (s : Standing) (r : Row) (rows : List Row) (t : Standing) (x : Result Standing ℕ) → words_read s r ≡ x → AreWords r
-    → ((u : Standing) → rows_read u rows ≡ Ok t → AllRead u (map spaced rows) t) → (x >>= (λ u. rows_read u rows)) ≡ Ok t → AllRead s (map spaced (r ∷ rows)) t
+    → ((u : Standing) → rows_read u rows ≡ Ok t → AllRead u (map spaced rows) t) → (x >>= (λ u. rows_read u rows)) ≡ Ok t
+    → AllRead s (map spaced (r ∷ rows)) t
 read_first s r rows t (Err kind) is are later reads = cc
 read_first s r rows t (Ok u) is are later reads =
     let first : line_read s (spaced r) ≡ Ok u = line_back s r are ∙ is in
@@ -60,7 +62,8 @@ read_first s r rows t (Ok u) is are later reads =
       says = ap (λ v. said_from (or_same s v) (map spaced rows)) first ∙ rest.says;
     }
 
-all_read : (s : Standing) (rows : List Row) (t : Standing) → AllByRecursion AreWords rows → rows_read s rows ≡ Ok t → AllRead s (map spaced rows) t
+all_read : (s : Standing) (rows : List Row) (t : Standing) → AllByRecursion AreWords rows → rows_read s rows ≡ Ok t
+    → AllRead s (map spaced rows) t
 all_read s [] t are reads = record {
   clean = λ i below. absurd (omega arith);
   says = let same : s ≡ t = cc in same;
@@ -88,7 +91,8 @@ thread_read n t th ls low next =
     let number : natural_in (THREADS - 1) (decimal t) ≡ Ok t = natural_back (THREADS - 1) t (omega arith) (omega arith) in
     rw number (rw next refl)
 
-body_of : (n : ℕ) (th : Option ℕ) (ls : List (ℕ × List Entry)) (ws : Row) → 0 < length ws → words_read (standing n th ls) ws ≡ body_read (standing n th ls) ws
+body_of : (n : ℕ) (th : Option ℕ) (ls : List (ℕ × List Entry)) (ws : Row) → 0 < length ws → words_read (standing n th ls) ws
+    ≡ body_read (standing n th ls) ws
 body_of n th ls [] some = absurd (omega arith)
 body_of n th ls (w ∷ ws) some = refl
 
@@ -101,7 +105,8 @@ entry_read n t ls e kept typed few =
     let count : (length ws == length ws) ≡ true = eq-eqb (length ws) (length ws) refl in
     body_of n (Some t) ls ws (some_words e)
     ∙ ap (λ r. r >>= (λ form. placed_read s form (length ws) (operands_of form ws))) (form_is e)
-    ∙ ap (λ b. if b then (entry_in (form_for e) ops >>= (λ f. Ok (with_entry s (Some t) f))) else Err WORD_COUNT) (ap (λ k. length ws == k) (sym (count_is e)) ∙ count)
+    ∙ ap (λ b. if b then (entry_in (form_for e) ops >>= (λ f. Ok (with_entry s (Some t) f))) else Err WORD_COUNT)
+    (ap (λ k. length ws == k) (sym (count_is e)) ∙ count)
     ∙ ap (λ r. r >>= (λ f. Ok (with_entry s (Some t) f))) (entry_back e kept typed few)
 
 -- the lists with these entries behind those of thread t
@@ -109,7 +114,8 @@ abbrev added : ℕ → List Entry → List (ℕ × List Entry) → List (ℕ × 
 added t [] ls = ls
 added t (e ∷ es) ls = added t es (with_last t e ls)
 
-entries_read : (n t : ℕ) (es : List Entry) (ls : List (ℕ × List Entry)) (rest : List Row) → AllByRecursion IsEntryKept es → AllByRecursion IsEntryTyped es → AllByRecursion IsEntryStamped es
+entries_read : (n t : ℕ) (es : List Entry) (ls : List (ℕ × List Entry)) (rest : List Row) → AllByRecursion IsEntryKept es
+    → AllByRecursion IsEntryTyped es → AllByRecursion IsEntryStamped es
     → rows_read (standing n (Some t) ls) (entry_rows es rest) ≡ rows_read (standing n (Some t) (added t es ls)) rest
 entries_read n t [] ls rest kept typed few = refl
 entries_read n t (e ∷ es) ls rest kept typed few =
@@ -140,7 +146,8 @@ added_more t (e ∷ es) before front low =
     ∙ added_more t es (before ++ e ∷ []) front low
     ∙ ap (λ l. front ++ (t, l) ∷ []) (append_assoc before (e ∷ []) es)
 
-added_all : (t : ℕ) (es : List Entry) (front : List (ℕ × List Entry)) → 0 < length es → AreBelow t front → added t es front ≡ front ++ (t, es) ∷ []
+added_all : (t : ℕ) (es : List Entry) (front : List (ℕ × List Entry)) → 0 < length es → AreBelow t front → added t es front ≡ front
+    ++ (t, es) ∷ []
 added_all t [] front some low = absurd (omega arith)
 added_all t (e ∷ es) front some low = ap (added t es) (starts_list t e front low) ∙ added_more t es (e ∷ []) front low
 
@@ -151,7 +158,8 @@ at_seam : (P : ℕ → Type 0) (front : List (ℕ × List Entry)) (l : ℕ × Li
 at_seam P [] l ls all = all.0
 at_seam P (m ∷ front) l ls all = at_seam P front l ls all.1
 
-front_below : (front : List (ℕ × List Entry)) (l : ℕ × List Entry) (ls : List (ℕ × List Entry)) → Rises (map (λ m. m.0) (front ++ l ∷ ls)) → AreBelow l.0 front
+front_below : (front : List (ℕ × List Entry)) (l : ℕ × List Entry) (ls : List (ℕ × List Entry)) → Rises (map (λ m. m.0) (front ++ l ∷ ls))
+    → AreBelow l.0 front
 front_below [] l ls up = tt
 front_below (m ∷ front) l ls up = (at_seam (λ y. m.0 < y) front l ls up.0, front_below front l ls up.1)
 
@@ -163,14 +171,16 @@ all_next : (t : ℕ) (ls : List (ℕ × List Entry)) → AllByRecursion (λ y. t
 all_next t [] all = tt
 all_next t (l ∷ ls) all = (lt-ltb t l.0 all.0, all_next t ls all.1)
 
-lists_read : (n : ℕ) (th : Option ℕ) (front ls : List (ℕ × List Entry)) (rest : List Row) → Rises (map (λ m. m.0) (front ++ ls)) → Rises (map (λ m. m.0) ls)
+lists_read : (n : ℕ) (th : Option ℕ) (front ls : List (ℕ × List Entry)) (rest : List Row) → Rises (map (λ m. m.0) (front ++ ls))
+    → Rises (map (λ m. m.0) ls)
     → AreNext th ls → AllByRecursion IsListKept ls → AllEntries IsEntryTyped ls → AllEntries IsEntryStamped ls
     → (last : Option ℕ) × (rows_read (standing n th front) (list_rows ls rest) ≡ rows_read (standing n last (front ++ ls)) rest)
 lists_read n th front [] rest up rises next kept typed few = (th, ap (λ l. rows_read (standing n th l) rest) (sym (append-nil front)))
 lists_read n th front (l ∷ ls) rest up rises next kept typed few =
     let t : ℕ = l.0 in
     let seam : (front ++ l ∷ []) ++ ls ≡ front ++ l ∷ ls = append_assoc front (l ∷ []) ls in
-    let further = lists_read n (Some t) (front ++ l ∷ []) ls rest (subst (λ q. Rises (map (λ m. m.0) q)) (sym seam) up) rises.1 (all_next t ls rises.0) kept.1 typed.1 few.1 in (
+    let further = lists_read n (Some t) (front ++ l ∷ []) ls rest (subst (λ q. Rises (map (λ m. m.0) q)) (sym seam) up) rises.1
+    (all_next t ls rises.0) kept.1 typed.1 few.1 in (
       further.0,
       ap (λ r. r >>= (λ u. rows_read u (entry_rows l.1 (list_rows ls rest)))) (thread_read n t th front kept.0.0 next.0)
           ∙ entries_read n t l.1 front (list_rows ls rest) kept.0.2 typed.0 few.0
@@ -195,12 +205,15 @@ record_read n R can =
 
 -- ## The rows are words
 
-entries_are_words : (es : List Entry) (rest : List Row) → AllByRecursion IsEntryKept es → AllByRecursion IsEntryTyped es → AllByRecursion IsEntryStamped es → AllByRecursion AreWords rest
+entries_are_words : (es : List Entry) (rest : List Row) → AllByRecursion IsEntryKept es → AllByRecursion IsEntryTyped es
+    → AllByRecursion IsEntryStamped es → AllByRecursion AreWords rest
     → AllByRecursion AreWords (entry_rows es rest)
 entries_are_words [] rest kept typed few last = last
-entries_are_words (e ∷ es) rest kept typed few last = (entry_are_words e kept.0 typed.0 few.0, entries_are_words es rest kept.1 typed.1 few.1 last)
+entries_are_words (e ∷ es) rest kept typed few last =
+    (entry_are_words e kept.0 typed.0 few.0, entries_are_words es rest kept.1 typed.1 few.1 last)
 
-lists_are_words : (ls : List (ℕ × List Entry)) (rest : List Row) → AllByRecursion IsListKept ls → AllEntries IsEntryTyped ls → AllEntries IsEntryStamped ls
+lists_are_words : (ls : List (ℕ × List Entry)) (rest : List Row) → AllByRecursion IsListKept ls → AllEntries IsEntryTyped ls
+    → AllEntries IsEntryStamped ls
     → AllByRecursion AreWords rest → AllByRecursion AreWords (list_rows ls rest)
 lists_are_words [] rest kept typed few last = last
 lists_are_words (l ∷ ls) rest kept typed few last = (

@@ -1,20 +1,20 @@
 -- Lists of parts, piece by piece and part by part.
 use Rattle.std.proofs.Common.{◌≡◌, ◌+◌, ◌<◌, ◌≤◌, ◌==◌, ◌&&◌, ℕ, zero, suc, List, [], ◌∷◌, ◌++◌, true, false, Some, None, Result, Ok, Err, nat_lt, nat_le, length, take, drop, map, slice_index_or, refl, ap, sym, ◌∙◌, append_assoc, arith}
 use Rattle.std.specs.List.{AllByRecursion, list_all, slice_split, position, before_first, after_first}
-use Rattle.std.proofs.lemmas.Bool.{and_parts, leb-true, ltb-true, ne_eqb, le-ltb}
+use Rattle.std.proofs.lemmas.Bool.{and_parts, ltb-true, ne_eqb, le-ltb}
 use Rattle.std.proofs.lemmas.List.{take_more}
 use Rattle.std.proofs.lemmas.List.Splits.{slice_split_first}
 use Rattle.gl_model.specs.Rising.{with_part}
 use Rattle.gl_model.specs.declared.limits.TheConstants.{TX_VARIABLES}
 use Rattle.gl_text.proofs.TextLemmas.{place_some, place_none, split_none}
 use Rattle.gl_journal.specs.declared.parts.Part.{Part}
-use Rattle.gl_journal.specs.declared.parts.PartForm.{PartForm}
-use Rattle.gl_journal.specs.Fields.{Word, ◌>>=◌}
-use Rattle.gl_journal.specs.Parts.{is_byte, is_set, part_in, parts_in, rises}
+use Rattle.gl_journal.specs.Fields.{◌>>=◌}
+use Rattle.gl_journal.specs.Parts.{is_byte, is_set, rises}
 
 -- ## Pieces
 
-pub first_split : (separator : ℕ) (bs front back : List ℕ) (n : ℕ) → position (is_byte separator) bs ≡ Some n → front ≡ take n bs → back ≡ drop (n + 1) bs
+pub first_split : (separator : ℕ) (bs front back : List ℕ) (n : ℕ) → position (is_byte separator) bs ≡ Some n → front ≡ take n bs → back
+    ≡ drop (n + 1) bs
     → slice_split (is_byte separator) bs ≡ front ∷ slice_split (is_byte separator) back
 first_split separator bs front back n found f b =
     let (at, within) = place_some (is_byte separator) bs n found in
@@ -42,39 +42,31 @@ one_more : (ps : List Part) (p : Part) (r : Result (List Part) ℕ) → behind p
 one_more ps p (Ok more) = ap Ok (sym (append_assoc ps (p ∷ []) more))
 one_more ps p (Err kind) = refl
 
-pub part_more : (form : PartForm) (ps : List Part) (p : Part) (word : Word) (rest : List Word) → part_in form word ≡ Ok p
-    → behind ps (parts_in form (word ∷ rest)) ≡ behind (ps ++ p ∷ []) (parts_in form rest)
-part_more form ps p word rest is = ap (λ r. behind ps (r >>= (λ y. parts_in form rest >>= (λ more. Ok (y ∷ more))))) is ∙ one_more ps p (parts_in form rest)
-
-pub part_wrong : (form : PartForm) (ps : List Part) (kind : ℕ) (word : Word) (rest : List Word) → part_in form word ≡ Err kind
-    → behind ps (parts_in form (word ∷ rest)) ≡ Err kind
-part_wrong form ps kind word rest is = ap (λ r. behind ps (r >>= (λ y. parts_in form rest >>= (λ more. Ok (y ∷ more))))) is
-
 pub all_push : (P : Part → Type 0) (ps : List Part) (p : Part) → AllByRecursion P ps → P p → AllByRecursion P (ps ++ p ∷ [])
 all_push P [] p all last = (last, tt)
 all_push P (q ∷ ps) p all last = (all.0, all_push P ps p all.1 last)
 
 -- ## Parts that are put in their places
 
-pub set_few : (ps : List Part) → is_set ps ≡ true → length ps ≤ TX_VARIABLES
-set_few ps set = leb-true (length ps) TX_VARIABLES (and_parts (nat_le (length ps) TX_VARIABLES) (rises ps) set).0
-
 pub set_rises : (ps : List Part) → is_set ps ≡ true → rises ps ≡ true
 set_rises ps set = (and_parts (nat_le (length ps) TX_VARIABLES) (rises ps) set).1
 
-above : (x : ℕ) (qs : List Part) (j : ℕ) (d : Part) → list_all (λ q. nat_lt x q.var) qs ≡ true → j < length qs → x < (slice_index_or qs j d).var
+above : (x : ℕ) (qs : List Part) (j : ℕ) (d : Part) → list_all (λ q. nat_lt x q.var) qs ≡ true → j < length qs
+    → x < (slice_index_or qs j d).var
 above x [] j d all i = absurd (omega arith)
 above x (q ∷ qs) zero d all i = ltb-true x q.var (and_parts (nat_lt x q.var) (list_all (λ r. nat_lt x r.var) qs) all).0
 above x (q ∷ qs) (suc j) d all i = above x qs j d (and_parts (nat_lt x q.var) (list_all (λ r. nat_lt x r.var) qs) all).1 (omega arith)
 
-before : (ps : List Part) (k : ℕ) (d : Part) → rises ps ≡ true → k < length ps → AllByRecursion (λ p. p.var < (slice_index_or ps k d).var) (take k ps)
+before : (ps : List Part) (k : ℕ) (d : Part) → rises ps ≡ true → k < length ps
+    → AllByRecursion (λ p. p.var < (slice_index_or ps k d).var) (take k ps)
 before [] k d up h = absurd (omega arith)
 before (p ∷ ps) zero d up h = tt
 before (p ∷ ps) (suc k) d up h =
     let both = and_parts (list_all (λ q. nat_lt p.var q.var) ps) (rises ps) up in
     (above p.var ps k d both.0 (omega arith), before ps k d both.1 (omega arith))
 
-part_last : {A : Type 0} (key : A → ℕ) (f : Part → A) → ((p : Part) → key (f p) ≡ p.var) → (n : Part) (ps : List Part) → AllByRecursion (λ p. p.var < n.var) ps
+part_last : {A : Type 0} (key : A → ℕ) (f : Part → A) → ((p : Part) → key (f p) ≡ p.var) → (n : Part) (ps : List Part)
+    → AllByRecursion (λ p. p.var < n.var) ps
     → with_part key (f n) (map f ps) ≡ map f (ps ++ n ∷ [])
 part_last key f tells n [] all = refl
 part_last key f tells n (p ∷ ps) all =
@@ -82,7 +74,8 @@ part_last key f tells n (p ∷ ps) all =
     let over : nat_lt (key (f n)) (key (f p)) ≡ false = le-ltb (key (f n)) (key (f p)) (omega (arith, all.0, tells n, tells p)) in
     rw (apart, over) (ap (λ l. f p ∷ l) (part_last key f tells n ps all.1))
 
-pub part_next : {A : Type 0} (key : A → ℕ) (f : Part → A) → ((p : Part) → key (f p) ≡ p.var) → (ps : List Part) (k : ℕ) (d : Part) → rises ps ≡ true → k < length ps
+pub part_next : {A : Type 0} (key : A → ℕ) (f : Part → A) → ((p : Part) → key (f p) ≡ p.var) → (ps : List Part) (k : ℕ) (d : Part)
+    → rises ps ≡ true → k < length ps
     → with_part key (f (slice_index_or ps k d)) (map f (take k ps)) ≡ map f (take (k + 1) ps)
 part_next key f tells ps k d up h =
     part_last key f tells (slice_index_or ps k d) (take k ps) (before ps k d up h) ∙ ap (map f) (sym (take_more ps k d h))

@@ -24,7 +24,8 @@ lines_few_by (suc k) (b ∷ bs) le =
     elim (cases_lt (position_or_len is_line_feed (b ∷ bs)) (length (b ∷ bs))) [
       | inl h ↦
           let rest : List ℕ = after_first is_line_feed (b ∷ bs) in
-          let left : length rest ≡ length (b ∷ bs) - (position_or_len is_line_feed (b ∷ bs) + 1) = length-drop (position_or_len is_line_feed (b ∷ bs) + 1) (b ∷ bs) in
+          let left : length rest ≡ length (b ∷ bs) - (position_or_len is_line_feed (b ∷ bs) + 1) =
+          length-drop (position_or_len is_line_feed (b ∷ bs) + 1) (b ∷ bs) in
           let more : length (lines rest) ≤ length rest = lines_few_by k rest (omega arith) in
           omega (arith, ap length (lines_first (b ∷ bs) h), more, left, h)
       | inr h ↦ omega (arith, ap length (lines_last (b ∷ bs) (omega arith) h))
@@ -50,7 +51,8 @@ record IsNext (ls : List (List ℕ)) (n : ℕ) (line : List ℕ) (rest : List (L
 next_of : (ls : List (List ℕ)) (n : ℕ) (line : List ℕ) (rest : List (List ℕ)) → drop n ls ≡ line ∷ rest → IsNext ls n line rest
 next_of ls n line rest e =
     let there : n < length ls = omega (arith, length-drop n ls, ap length e) in
-    let here : get_or ls n [] ≡ line = ap (λ k. get_or ls k []) (sym (add-zero n)) ∙ sym (get_or-drop n ls 0 []) ∙ ap (λ l. get_or l 0 []) e in
+    let here : get_or ls n [] ≡ line = ap (λ k. get_or ls k []) (sym (add-zero n)) ∙ sym (get_or-drop n ls 0 [])
+    ∙ ap (λ l. get_or l 0 []) e in
     record {
       there = there;
       here = here;
@@ -59,13 +61,16 @@ next_of ls n line rest e =
     }
 
 -- the fault of the next line
-fault_here : (text line : List ℕ) (n : ℕ) (rest : List (List ℕ)) (s : Standing) (r : Result Standing ℕ) → Reads text n (line ∷ rest) s → line_read s line ≡ r
+fault_here : (text line : List ℕ) (n : ℕ) (rest : List (List ℕ)) (s : Standing) (r : Result Standing ℕ) → Reads text n (line ∷ rest) s
+    → line_read s line ≡ r
     → fault_at (lines text) n ≡ fault_of r
 fault_here text line n rest s r reads is =
     let next = next_of (lines text) n line rest (sym reads.rest) in
-    ap (λ t. fault_of (line_read t (get_or (lines text) n []))) (sym reads.says) ∙ ap (λ l. fault_of (line_read s l)) next.here ∙ ap fault_of is
+    ap (λ t. fault_of (line_read t (get_or (lines text) n []))) (sym reads.says) ∙ ap (λ l. fault_of (line_read s l)) next.here
+    ∙ ap fault_of is
 
-pub read_on : (text line : List ℕ) (n : ℕ) (rest : List (List ℕ)) (s t : Standing) → Reads text n (line ∷ rest) s → line_read s line ≡ Ok t → Reads text (n + 1) rest t
+pub read_on : (text line : List ℕ) (n : ℕ) (rest : List (List ℕ)) (s t : Standing) → Reads text n (line ∷ rest) s → line_read s line ≡ Ok t
+    → Reads text (n + 1) rest t
 read_on text line n rest s t reads is =
     let next = next_of (lines text) n line rest (sym reads.rest) in
     let heard : said (take (n + 1) (lines text)) ≡ t =
@@ -78,7 +83,8 @@ read_on text line n rest s t reads is =
     }
 
 -- the first line that has a fault
-pub read_fault : (text line : List ℕ) (n kind : ℕ) (rest : List (List ℕ)) (s : Standing) → Reads text n (line ∷ rest) s → line_read s line ≡ Err kind
+pub read_fault : (text line : List ℕ) (n kind : ℕ) (rest : List (List ℕ)) (s : Standing) → Reads text n (line ∷ rest) s → line_read s line
+    ≡ Err kind
     → IsFirst (lines text) n kind
 read_fault text line n kind rest s reads is = record {
   there = (next_of (lines text) n line rest (sym reads.rest)).there;
@@ -93,19 +99,22 @@ read_all text n s reads =
     (reads.says ∙ ap said (take_all n (lines text) past), λ i below. reads.clean i (omega arith))
 
 -- the same where the line is numbered m, and so many were given
-pub numbered_on : (text line : List ℕ) (n m given : ℕ) (rest : List (List ℕ)) (s t : Standing) → m ≡ n + 1 → given ≡ m → Reads text n (line ∷ rest) s
+pub numbered_on : (text line : List ℕ) (n m given : ℕ) (rest : List (List ℕ)) (s t : Standing) → m ≡ n + 1 → given ≡ m
+    → Reads text n (line ∷ rest) s
     → line_read s line ≡ Ok t → Reads text given rest t
 numbered_on text line n m given rest s t next same reads is =
     subst (λ k. Reads text k rest t) (sym (same ∙ next)) (read_on text line n rest s t reads is)
 
-pub numbered_fault : (text line : List ℕ) (first n m : ℕ) (rest : List (List ℕ)) (s : Standing) (refusal : Refusal) → m ≡ n + 1 → Reads text n (line ∷ rest) s
+pub numbered_fault : (text line : List ℕ) (first n m : ℕ) (rest : List (List ℕ)) (s : Standing) (refusal : Refusal) → m ≡ n + 1
+    → Reads text n (line ∷ rest) s
     → Refused (line_read s line) refusal → FaultsFirst (lines text) first (refused_at (first + (m - 1)) refusal)
 numbered_fault text line first n m rest s (Kind kind) next reads is =
     (n, omega arith, read_fault text line n kind rest s reads is)
 numbered_fault text line first n m rest s (Memory e) next reads is = tt
 
 -- a line that is still to be read is one of the text's bytes
-pub number_few : (text line : List ℕ) (n m : ℕ) (rest : List (List ℕ)) (s : Standing) → m ≡ n + 1 → Reads text n (line ∷ rest) s → m ≤ length text
+pub number_few : (text line : List ℕ) (n m : ℕ) (rest : List (List ℕ)) (s : Standing) → m ≡ n + 1 → Reads text n (line ∷ rest) s
+    → m ≤ length text
 number_few text line n m rest s next reads =
     let there = (next_of (lines text) n line rest (sym reads.rest)).there in
     omega (arith, there, lines_few text)

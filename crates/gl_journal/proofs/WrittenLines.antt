@@ -42,7 +42,8 @@ no_return (b ∷ bs) (suc i) plain e = no_return bs i plain.1 e
 
 kept : (line : List ℕ) → IsPlain line → strip_carriage_return line ≡ line
 kept line plain =
-    cond-false (eqb (get_or line (length line - 1) 0) 13) (take (length line - 1) line) line (ne_eqb _ 13 (no_return line (length line - 1) plain))
+    cond-false (eqb (get_or line (length line - 1) 0) 13) (take (length line - 1) line) line
+    (ne_eqb _ 13 (no_return line (length line - 1) plain))
 
 first_of_parts : (x : List ℕ) (ps : List (List ℕ)) → 0 < length ps → lines_of_parts (x ∷ ps) ≡ strip_carriage_return x ∷ lines_of_parts ps
 first_of_parts x [] some = absurd (omega arith)
@@ -51,7 +52,8 @@ first_of_parts x (y ∷ ys) some = refl
 line_ended : (line rest : List ℕ) → IsPlain line → lines (ended line ++ rest) ≡ line ∷ lines rest
 line_ended line rest plain =
     ap lines (append_assoc line (codes "\n") rest)
-    ∙ ap lines_of_parts (slice_split_at is_line_feed line 10 rest (All-from_recursion _ line (all_map IsPlainByte _ line no_feed plain)) refl)
+    ∙ ap lines_of_parts (slice_split_at is_line_feed line 10 rest (All-from_recursion _ line (all_map IsPlainByte _ line no_feed plain))
+    refl)
     ∙ first_of_parts line (slice_split is_line_feed rest) (omega (arith, length-slice_split is_line_feed rest))
     ∙ ap (λ l. l ∷ lines rest) (kept line plain)
 
@@ -117,7 +119,8 @@ before_none p (x ∷ xs) all =
 
 no_hash : (line : List ℕ) → AllByRecursion IsLineByte line → words line ≡ parts line
 no_hash line all =
-    ap parts (take_all (position_or_len is_hash line) line (before_none is_hash line (all_map IsLineByte _ line (λ b h. ne_eqb b 35 h.2) all)))
+    ap parts (take_all (position_or_len is_hash line) line
+    (before_none is_hash line (all_map IsLineByte _ line (λ b h. ne_eqb b 35 h.2) all)))
 
 no_blank : (b : ℕ) → IsWordByte b → is_blank b ≡ false
 no_blank b is = or_from _ _ (ne_eqb b 32 (λ e. omega (arith, is.0))) (ne_eqb b 9 (λ e. omega (arith, is.0)))
@@ -149,7 +152,8 @@ words_spaced ws are = no_hash (spaced ws) (of_words ws are) ∙ parts_spaced ws 
 row_ended : (ws : Row) → row_text ws ≡ ended (spaced ws)
 row_ended [] = refl
 row_ended (w ∷ []) = refl
-row_ended (w ∷ v ∷ ws) = ap (λ l. w ++ (codes " " ++ l)) (row_ended (v ∷ ws)) ∙ sym (append_assoc w (codes " " ++ spaced (v ∷ ws)) (codes "\n"))
+row_ended (w ∷ v ∷ ws) = ap (λ l. w ++ (codes " " ++ l)) (row_ended (v ∷ ws))
+    ∙ sym (append_assoc w (codes " " ++ spaced (v ∷ ws)) (codes "\n"))
 
 text_ended : (rows : List Row) → flat_map row_text rows ≡ flat_map ended (map spaced rows)
 text_ended [] = refl

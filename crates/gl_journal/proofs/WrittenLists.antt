@@ -22,7 +22,8 @@ flat_more : {A : Type 0} (f : A → List ℕ) (xs : List A) (x : A) → flat_map
 flat_more f [] x = append-nil (f x)
 flat_more f (y ∷ ys) x = ap (λ l. f y ++ l) (flat_more f ys x) ∙ sym (append_assoc (f y) (flat_map f ys) (f x))
 
-word_more : {A : Type 0} (f : A → Word) (y : A) (ys : List A) (x : A) → list_word (map f (y ∷ (ys ++ x ∷ []))) ≡ list_word (map f (y ∷ ys)) ++ (codes "," ++ f x)
+word_more : {A : Type 0} (f : A → Word) (y : A) (ys : List A) (x : A) → list_word (map f (y ∷ (ys ++ x ∷ []))) ≡ list_word (map f (y ∷ ys))
+    ++ (codes "," ++ f x)
 word_more f y ys x =
     ap (λ l. f y ++ flat_map (λ v. codes "," ++ v) l) (map-append f ys (x ∷ []))
     ∙ ap (λ l. f y ++ l) (flat_more (λ v. codes "," ++ v) (map f ys) (f x))
@@ -62,23 +63,6 @@ past_of xs at none =
       | inr past ↦ past.0
     ]
 
--- no part is left
-pub push_all : {A : Type 0} (f : A → Word) (xs : List A) (i : ℕ) (start new : List ℕ) → length xs ≤ i → new ≡ start ++ list_word (map f (take i xs))
-    → new ≡ start ++ list_word (map f xs)
-push_all f xs i start new past is = is ∙ ap (λ l. start ++ list_word (map f l)) (take_all i xs past)
-
-pub push_last : {A : Type 0} (f : A → Word) (xs : List A) (i : ℕ) (start new : List ℕ) → slice_get xs i ≡ None → new ≡ start ++ list_word (map f (take i xs))
-    → new ≡ start ++ list_word (map f xs)
-push_last f xs i start new none is = push_all f xs i start new (past_of xs i none) is
-
-no_item : {A : Type 0} (xs : List A) → length xs ≤ 0 → xs ≡ []
-no_item [] le = refl
-no_item (x ∷ xs) le = absurd (omega arith)
-
--- there is no part
-pub push_none : {A : Type 0} (f : A → Word) (xs : List A) (start new : List ℕ) → slice_get xs 0 ≡ None → new ≡ start ++ codes "-" → new ≡ start ++ list_word (map f xs)
-push_none f xs start new none is = is ∙ ap (λ l. start ++ list_word (map f l)) (sym (no_item xs (past_of xs 0 none)))
-
 -- ## What holds of each part
 
 all_push : {A : Type 0} (P : A → Type 0) (xs : List A) (x : A) → AllByRecursion P xs → P x → AllByRecursion P (xs ++ x ∷ [])
@@ -99,9 +83,6 @@ all_first P (y ∷ ys) x there first = let same : x ≡ y = cc in (subst P same 
 pub all_of : {A : Type 0} (P : A → Type 0) (xs : List A) (i : ℕ) → length xs ≤ i → AllByRecursion P (take i xs) → AllByRecursion P xs
 all_of P xs i past all = subst (AllByRecursion P) (take_all i xs past) all
 
-pub all_last : {A : Type 0} (P : A → Type 0) (xs : List A) (i : ℕ) → slice_get xs i ≡ None → AllByRecursion P (take i xs) → AllByRecursion P xs
-all_last P xs i none all = all_of P xs i (past_of xs i none) all
-
 -- ## Lists of entries
 
 -- the lines of entries
@@ -121,7 +102,8 @@ stored_text (e ∷ es) = ap (λ l. row_text (entry_row (seen e)) ++ l) (stored_t
 entries_are : (es : List Entry) (rest : List Row) → flat_map row_text (entry_rows es rest) ≡ entries_text es ++ flat_map row_text rest
 entries_are [] rest = refl
 entries_are (e ∷ es) rest =
-    ap (λ l. row_text (entry_row e) ++ l) (entries_are es rest) ∙ sym (append_assoc (row_text (entry_row e)) (entries_text es) (flat_map row_text rest))
+    ap (λ l. row_text (entry_row e) ++ l) (entries_are es rest)
+    ∙ sym (append_assoc (row_text (entry_row e)) (entries_text es) (flat_map row_text rest))
 
 lists_are : (ls : List (ℕ × List Entry)) (rest : List Row) → flat_map row_text (list_rows ls rest) ≡ lists_text ls ++ flat_map row_text rest
 lists_are [] rest = refl
@@ -132,10 +114,12 @@ lists_are (l ∷ ls) rest =
     ∙ sym (append_assoc (one_text l) (lists_text ls) (flat_map row_text rest))
 
 -- the whole text
-pub text_is : (steps : ℕ) (R : List (ℕ × List Entry)) (head all new : List ℕ) → head ≡ row_text (header_row steps) → all ≡ head ++ lists_text R → new ≡ all ++ codes "done\n"
+pub text_is : (steps : ℕ) (R : List (ℕ × List Entry)) (head all new : List ℕ) → head ≡ row_text (header_row steps) → all ≡ head
+    ++ lists_text R → new ≡ all ++ codes "done\n"
     → new ≡ record_text steps R
 text_is steps R head all new first is last =
-    last ∙ ap (λ l. l ++ codes "done\n") is ∙ append_assoc head (lists_text R) (codes "done\n") ∙ ap (λ l. l ++ (lists_text R ++ codes "done\n")) first
+    last ∙ ap (λ l. l ++ codes "done\n") is ∙ append_assoc head (lists_text R) (codes "done\n")
+    ∙ ap (λ l. l ++ (lists_text R ++ codes "done\n")) first
     ∙ ap (λ l. row_text (header_row steps) ++ l) (sym (lists_are R ((codes "done" ∷ []) ∷ [])))
 
 -- ## Thread by thread
@@ -164,14 +148,17 @@ one_of t (Some es) = (t, es) ∷ []
 abbrev pub GathersNext : ℕ → List (ℕ × List Entry) → Type 0
 GathersNext t ls = below (t + 1) ls ≡ below t ls ++ one_of t (list_of ls t)
 
-next_is_first : (t : ℕ) (l : ℕ × List Entry) (ls : List (ℕ × List Entry)) → l.0 ≡ t → AllByRecursion (λ s. l.0 < s) (map (λ l. l.0) ls) → GathersNext t (l ∷ ls)
+next_is_first : (t : ℕ) (l : ℕ × List Entry) (ls : List (ℕ × List Entry)) → l.0 ≡ t → AllByRecursion (λ s. l.0 < s) (map (λ l. l.0) ls)
+    → GathersNext t (l ∷ ls)
 next_is_first t l ls same above =
     let within : nat_lt l.0 (t + 1) ≡ true = grind (arith, nat_tests) in
     let out : nat_lt l.0 t ≡ false = grind (arith, nat_tests) in
     let here : (l.0 == t) ≡ true = eq-eqb l.0 t same in
-    rw (within, out, here, none_below l.0 (t + 1) ls (omega arith) above, none_below l.0 t ls (omega arith) above) (ap (λ s. (s, l.1) ∷ []) same)
+    rw (within, out, here, none_below l.0 (t + 1) ls (omega arith) above, none_below l.0 t ls (omega arith) above)
+    (ap (λ s. (s, l.1) ∷ []) same)
 
-next_is_later : (t : ℕ) (l : ℕ × List Entry) (ls : List (ℕ × List Entry)) → (l.0 < t) ⊎ (t < l.0) → GathersNext t ls → GathersNext t (l ∷ ls)
+next_is_later : (t : ℕ) (l : ℕ × List Entry) (ls : List (ℕ × List Entry)) → (l.0 < t) ⊎ (t < l.0) → GathersNext t ls
+    → GathersNext t (l ∷ ls)
 next_is_later t l ls (inl lt) more =
     let within_next : nat_lt l.0 (t + 1) ≡ true = grind (arith, nat_tests) in
     let within : nat_lt l.0 t ≡ true = grind (arith, nat_tests) in
@@ -187,7 +174,10 @@ next_is_later t l ls (inr lt) more =
 gathers_next : (t : ℕ) (ls : List (ℕ × List Entry)) → Rises (map (λ l. l.0) ls) → GathersNext t ls
 gathers_next t [] rises = refl
 gathers_next t (l ∷ ls) rises =
-    elim (cases_order l.0 t) [ inl same ↦ next_is_first t l ls same rises.0 | inr other ↦ next_is_later t l ls other (gathers_next t ls rises.1) ]
+    elim (cases_order l.0 t) [
+      | inl same ↦ next_is_first t l ls same rises.0
+      | inr other ↦ next_is_later t l ls other (gathers_next t ls rises.1)
+    ]
 
 -- all threads are below their limit
 pub all_below : (ls : List (ℕ × List Entry)) → AllByRecursion IsListKept ls → below THREADS ls ≡ ls
@@ -205,7 +195,8 @@ thread_without t R start old rises none is =
     is ∙ ap (λ l. start ++ lists_text l) (sym same)
 
 -- a thread with its list
-pub thread_with : (t : ℕ) (R : List (ℕ × List Entry)) (es : List StoredEntry) (start old new : List ℕ) → Rises (map (λ l. l.0) R) → list_of R t ≡ Some (map seen es)
+pub thread_with : (t : ℕ) (R : List (ℕ × List Entry)) (es : List StoredEntry) (start old new : List ℕ) → Rises (map (λ l. l.0) R)
+    → list_of R t ≡ Some (map seen es)
     → old ≡ start ++ lists_text (below t R) → new ≡ old ++ (row_text (thread_row t) ++ flat_map (λ e. row_text (entry_row (seen e))) es)
     → new ≡ start ++ lists_text (below (t + 1) R)
 thread_with t R es start old new rises some is adds =
@@ -217,7 +208,8 @@ thread_with t R es start old new rises some is adds =
 
 -- ## What holds of the entries of each thread so far
 
-pub typed_without : (t : ℕ) (R : List (ℕ × List Entry)) → Rises (map (λ l. l.0) R) → list_of R t ≡ None → AllEntries IsEntryTyped (below t R)
+pub typed_without : (t : ℕ) (R : List (ℕ × List Entry)) → Rises (map (λ l. l.0) R) → list_of R t ≡ None
+    → AllEntries IsEntryTyped (below t R)
     → AllEntries IsEntryTyped (below (t + 1) R)
 typed_without t R rises none all =
     let same : below (t + 1) R ≡ below t R = gathers_next t R rises ∙ ap (λ o. below t R ++ one_of t o) none ∙ append-nil (below t R) in

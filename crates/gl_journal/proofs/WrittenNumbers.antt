@@ -42,7 +42,8 @@ magnitude_back : (n : ℕ) → n < 10 ^ 19 → magnitude_of (decimal n) ≡ Some
 magnitude_back n small =
     let some : 0 < length (decimal n) = (decimal_is_IsNumeral n (omega arith)).0.0 in
     let short : length (decimal n) ≤ 19 = length-decimal-le 19 n (omega arith) small (omega arith) in
-    rw (and_from _ _ (and_from _ _ (lt-ltb 0 (length (decimal n)) some) (le-leb (length (decimal n)) 19 short)) (all_digits (decimal n) (decimal_digits n (omega arith))))
+    rw (and_from _ _ (and_from _ _ (lt-ltb 0 (length (decimal n)) some) (le-leb (length (decimal n)) 19 short))
+    (all_digits (decimal n) (decimal_digits n (omega arith))))
     (ap Some (value_back n (omega arith)))
 
 -- ## A number is a digit or a minus, and then digits
@@ -72,7 +73,11 @@ numeral_signed (negsuc n) is =
     (omega arith, ((omega arith, omega arith), digits.1))
 
 pub numeral_is_word : (w : List ℕ) → IsNumeral w → IsWord w
-numeral_is_word w is = (is.0, all_map IsNumeralByte IsWordByte w (λ b h. (omega (arith, h.0), omega (arith, h.1), λ e. omega (arith, h.0))) is.1)
+numeral_is_word w is = (
+  is.0,
+  all_map IsNumeralByte IsWordByte w (λ b h. (omega (arith, h.0), omega (arith, h.1), λ e. omega (arith, h.0)))
+      is.1,
+)
 
 first_is_digit : (ds : List ℕ) → 0 < length ds → AllByRecursion IsDigit ds → (d : ℕ) × ((rest : List ℕ) × (ds ≡ d ∷ rest) × (48 ≤ d))
 first_is_digit [] some all = absurd (omega arith)
@@ -87,11 +92,13 @@ begins_with_digit n small = first_is_digit (decimal n) (decimal_is_IsNumeral n (
 no_sign : (ds : List ℕ) → 0 < length ds → AllByRecursion IsDigit ds → signed_of ds ≡ option_map pos (magnitude_of ds)
 no_sign [] some all = absurd (omega arith)
 no_sign (d ∷ ds) some all =
-    cond-false (eqb d 45) (option_map (λ n. neg_ℤ (pos n)) (magnitude_of ds)) (option_map pos (magnitude_of (d ∷ ds))) (ne_eqb d 45 (λ e. omega (arith, all.0)))
+    cond-false (eqb d 45) (option_map (λ n. neg_ℤ (pos n)) (magnitude_of ds)) (option_map pos (magnitude_of (d ∷ ds)))
+    (ne_eqb d 45 (λ e. omega (arith, all.0)))
 
 signed_decimal_back : (n : ℕ) → n < 10 ^ 19 → signed_of (decimal n) ≡ Some (pos n)
 signed_decimal_back n small =
-    no_sign (decimal n) (decimal_is_IsNumeral n (omega arith)).0.0 (decimal_digits n (omega arith)) ∙ ap (option_map pos) (magnitude_back n small)
+    no_sign (decimal n) (decimal_is_IsNumeral n (omega arith)).0.0 (decimal_digits n (omega arith))
+    ∙ ap (option_map pos) (magnitude_back n small)
 
 not_under : (a b : ℤ) → a ≤ℤ b → int_lt b a ≡ false
 not_under a b le = grind (arith, ints)
@@ -103,7 +110,8 @@ within least most z word low high is =
 
 pub natural_back : (most n : ℕ) → n ≤ most → n < 10 ^ 19 → natural_in most (decimal n) ≡ Ok n
 natural_back most n high small =
-    ap not_negative (within (pos 0) (pos most) (pos n) (decimal n) (omega (arith, ints)) (omega (arith, ints)) (signed_decimal_back n small))
+    ap not_negative (within (pos 0) (pos most) (pos n) (decimal n) (omega (arith, ints)) (omega (arith, ints))
+    (signed_decimal_back n small))
 
 signed_back : (z : ℤ) → IsValue z → signed_of (signed_decimal z) ≡ Some z
 signed_back (pos n) is = signed_decimal_back n (few_digits n is.1)

@@ -42,8 +42,8 @@ B0 = Sync 0 (Begin 0) (pos 0)
 abbrev pub F0 : Entry
 F0 = Sync 1 (Fork 1 0) (pos 1)
 
-abbrev pub W0 : Entry
-W0 = Plain 5 0 false true (pos 7) false
+abbrev pub FirstWrite : Entry
+FirstWrite = Plain 5 0 false true (pos 7) false
 
 abbrev pub C0 : Entry
 C0 = Plain 5 0 true false (pos 7) false
@@ -63,14 +63,14 @@ E0 = Sync 6 End (pos 0)
 abbrev pub B1 : Entry
 B1 = Sync 2 (Begin 0) (pos 1)
 
-abbrev pub R1 : Entry
-R1 = Plain 5 1 false false (pos 0) true
+abbrev pub RaisedRead : Entry
+RaisedRead = Plain 5 1 false false (pos 0) true
 
 abbrev pub A1 : Entry
 A1 = Abort raised_tx (Raised 5)
 
-abbrev pub W1 : Entry
-W1 = Plain 8 0 false true (pos 9) false
+abbrev pub OtherWrite : Entry
+OtherWrite = Plain 8 0 false true (pos 9) false
 
 abbrev pub K1 : Entry
 K1 = Commit 3 writing_tx
@@ -82,10 +82,10 @@ abbrev pub O : Entry
 O = Over Halt
 
 abbrev pub es0 : List Entry
-es0 = B0 ∷ F0 ∷ W0 ∷ C0 ∷ A0 ∷ K0 ∷ R0 ∷ E0 ∷ O ∷ []
+es0 = B0 ∷ F0 ∷ FirstWrite ∷ C0 ∷ A0 ∷ K0 ∷ R0 ∷ E0 ∷ O ∷ []
 
 abbrev pub es1 : List Entry
-es1 = B1 ∷ R1 ∷ A1 ∷ W1 ∷ K1 ∷ E1 ∷ O ∷ []
+es1 = B1 ∷ RaisedRead ∷ A1 ∷ OtherWrite ∷ K1 ∷ E1 ∷ O ∷ []
 
 abbrev pub R : Lists
 R zero = es0
@@ -93,10 +93,12 @@ R (suc zero) = es1
 R (suc (suc t)) = []
 
 -- each entry of thread 0, and of thread 1
-pub entries0 : (P : ℕ → Entry → Type 0) → P 0 B0 → P 1 F0 → P 2 W0 → P 3 C0 → P 4 A0 → P 5 K0 → P 6 R0 → P 7 E0 → P 8 O → (i : ℕ) (e : Entry) → At es0 i e → P i e
+pub entries0 : (P : ℕ → Entry → Type 0) → P 0 B0 → P 1 F0 → P 2 FirstWrite → P 3 C0 → P 4 A0 → P 5 K0 → P 6 R0 → P 7 E0 → P 8 O
+    → (i : ℕ) (e : Entry) → At es0 i e → P i e
 entries0 P b f w c a k r e o = all_at P es0 (b, (f, (w, (c, (a, (k, (r, (e, (o, tt)))))))))
 
-pub entries1 : (P : ℕ → Entry → Type 0) → P 0 B1 → P 1 R1 → P 2 A1 → P 3 W1 → P 4 K1 → P 5 E1 → P 6 O → (i : ℕ) (e : Entry) → At es1 i e → P i e
+pub entries1 : (P : ℕ → Entry → Type 0) → P 0 B1 → P 1 RaisedRead → P 2 A1 → P 3 OtherWrite → P 4 K1 → P 5 E1 → P 6 O → (i : ℕ) (e : Entry) → At es1 i e
+    → P i e
 entries1 P b r a w k e o = all_at P es1 (b, (r, (a, (w, (k, (e, (o, tt)))))))
 
 none : (t : ℕ) → 2 < t → R t ≡ []
@@ -105,9 +107,12 @@ none (suc zero) lt = absurd (omega arith)
 none (suc (suc t)) lt = refl
 
 -- each entry of the record
-pub each : (P : Place → Entry → Type 0) → P (at 0 0) B0 → P (at 0 1) F0 → P (at 0 2) W0 → P (at 0 3) C0 → P (at 0 4) A0 → P (at 0 5) K0 → P (at 0 6) R0 → P (at 0 7) E0 → P (at 0 8) O
-    → P (at 1 0) B1 → P (at 1 1) R1 → P (at 1 2) A1 → P (at 1 3) W1 → P (at 1 4) K1 → P (at 1 5) E1 → P (at 1 6) O → (c : Place) (e : Entry) → EntryAt R c e → P c e
-each P b f w c a k r e o b' r' a' w' k' e' o' = each_entry R P (b, (f, (w, (c, (a, (k, (r, (e, (o, tt))))))))) (b', (r', (a', (w', (k', (e', (o', tt))))))) tt none
+pub each : (P : Place → Entry → Type 0) → P (at 0 0) B0 → P (at 0 1) F0 → P (at 0 2) FirstWrite → P (at 0 3) C0 → P (at 0 4) A0 → P (at 0 5) K0
+    → P (at 0 6) R0 → P (at 0 7) E0 → P (at 0 8) O
+    → P (at 1 0) B1 → P (at 1 1) RaisedRead → P (at 1 2) A1 → P (at 1 3) OtherWrite → P (at 1 4) K1 → P (at 1 5) E1 → P (at 1 6) O
+    → (c : Place) (e : Entry) → EntryAt R c e → P c e
+each P b f w c a k r e o b' r' a' w' k' e' o' =
+    each_entry R P (b, (f, (w, (c, (a, (k, (r, (e, (o, tt))))))))) (b', (r', (a', (w', (k', (e', (o', tt))))))) tt none
 
 -- what is in a list of one is that
 pub only : {A : Type 0} (x y : A) → Contains (x ∷ []) y → x ≡ y
@@ -131,7 +136,8 @@ bound x = if x == 5 then 4 else if x == 6 then 5 else if x == 8 then 2 else 0
 abbrev pub Drawn : Place → ℕ → ℕ → Type 0
 Drawn c x k = (c ≡ spot x k) × (k < bound x)
 
-plain_draws : (c : Place) (y n : ℕ) (write : Bool) (v : ℤ) (raised : Bool) → Drawn c y n → (x k : ℕ) → Draws (Plain y n false write v raised) x k → Drawn c x k
+plain_draws : (c : Place) (y n : ℕ) (write : Bool) (v : ℤ) (raised : Bool) → Drawn c y n → (x k : ℕ)
+    → Draws (Plain y n false write v raised) x k → Drawn c x k
 plain_draws c y n write v raised here x k (inl d) = absurd d
 plain_draws c y n write v raised here x k (inr d) = rw (sym d.1, sym d.2) here
 
@@ -144,19 +150,28 @@ cached_draws c x k (inl d) = absurd d
 cached_draws c x k (inr d) = absurd (let z = d.0 in cc)
 
 -- an attempt with one look and one number
-looks_draw : (c : Place) (y a b : ℕ) (v : ℤ) → Drawn c y a → Drawn c y b → (x k : ℕ) → ((value : ℤ) × Contains (look y v a ∷ []) (look x value k)) ⊎ Contains (number y b ∷ []) (number x k) → Drawn c x k
-looks_draw c y a b v first second x k (inl d) = let e = only (look y v a) (look x d.0 k) d.1 in let ex : y ≡ x = ap (λ (l : Look). l.var) e in let ek : a ≡ k = ap (λ (l : Look). l.nth) e in rw (sym ex, sym ek) first
-looks_draw c y a b v first second x k (inr d) = let e = only (number y b) (number x k) d in let ex : y ≡ x = ap (λ (l : Number). l.var) e in let ek : b ≡ k = ap (λ (l : Number). l.nth) e in rw (sym ex, sym ek) second
+looks_draw : (c : Place) (y a b : ℕ) (v : ℤ) → Drawn c y a → Drawn c y b → (x k : ℕ)
+    → ((value : ℤ) × Contains (look y v a ∷ []) (look x value k)) ⊎ Contains (number y b ∷ []) (number x k) → Drawn c x k
+looks_draw c y a b v first second x k (inl d) = let e = only (look y v a) (look x d.0 k) d.1 in let ex : y ≡ x = ap (λ (l : Look). l.var) e
+    in let ek : a ≡ k = ap (λ (l : Look). l.nth) e in rw (sym ex, sym ek) first
+looks_draw c y a b v first second x k (inr d) = let e = only (number y b) (number x k) d in let ex : y ≡ x = ap (λ (l : Number). l.var) e
+    in let ek : b ≡ k = ap (λ (l : Number). l.nth) e in rw (sym ex, sym ek) second
 
 write_draws : (c : Place) (x k : ℕ) → Drawn c 6 1 → Draws K1 x k → Drawn c x k
 write_draws c x k here (inl d) = nothing (look x d.0 k) d.1
-write_draws c x k here (inr d) = let e = only (number 6 1) (number x k) d in let ex : 6 ≡ x = ap (λ (l : Number). l.var) e in let ek : 1 ≡ k = ap (λ (l : Number). l.nth) e in rw (sym ex, sym ek) here
+write_draws c x k here (inr d) = let e = only (number 6 1) (number x k) d in let ex : 6 ≡ x = ap (λ (l : Number). l.var) e in let ek : 1
+    ≡ k = ap (λ (l : Number). l.nth) e in rw (sym ex, sym ek) here
 
 -- each number that an entry draws is below the bound, and stands in its spot
 pub drawn_at : (c : Place) (e : Entry) → EntryAt R c e → (x k : ℕ) → Draws e x k → Drawn c x k
 drawn_at = each (λ c e. (x k : ℕ) → Draws e x k → Drawn c x k)
-    (λ x k d. no_draw (at 0 0) x k d) (λ x k d. no_draw (at 0 1) x k d) (λ x k d. plain_draws (at 0 2) 5 0 true (pos 7) false (refl, omega arith) x k d) (λ x k d. cached_draws (at 0 3) x k d)
-    (λ x k d. looks_draw (at 0 4) 6 0 2 (pos 0) (refl, omega arith) (refl, omega arith) x k d) (λ x k d. looks_draw (at 0 5) 6 3 4 (pos 3) (refl, omega arith) (refl, omega arith) x k d)
-    (λ x k d. plain_draws (at 0 6) 8 1 false (pos 9) false (refl, omega arith) x k d) (λ x k d. no_draw (at 0 7) x k d) (λ x k d. no_draw (at 0 8) x k d)
-    (λ x k d. no_draw (at 1 0) x k d) (λ x k d. plain_draws (at 1 1) 5 1 false (pos 0) true (refl, omega arith) x k d) (λ x k d. looks_draw (at 1 2) 5 2 3 (pos 7) (refl, omega arith) (refl, omega arith) x k d)
-    (λ x k d. plain_draws (at 1 3) 8 0 true (pos 9) false (refl, omega arith) x k d) (λ x k d. write_draws (at 1 4) x k (refl, omega arith) d) (λ x k d. no_draw (at 1 5) x k d) (λ x k d. no_draw (at 1 6) x k d)
+    (λ x k d. no_draw (at 0 0) x k d) (λ x k d. no_draw (at 0 1) x k d)
+    (λ x k d. plain_draws (at 0 2) 5 0 true (pos 7) false (refl, omega arith) x k d) (λ x k d. cached_draws (at 0 3) x k d)
+    (λ x k d. looks_draw (at 0 4) 6 0 2 (pos 0) (refl, omega arith) (refl, omega arith) x k d)
+    (λ x k d. looks_draw (at 0 5) 6 3 4 (pos 3) (refl, omega arith) (refl, omega arith) x k d)
+    (λ x k d. plain_draws (at 0 6) 8 1 false (pos 9) false (refl, omega arith) x k d) (λ x k d. no_draw (at 0 7) x k d)
+    (λ x k d. no_draw (at 0 8) x k d)
+    (λ x k d. no_draw (at 1 0) x k d) (λ x k d. plain_draws (at 1 1) 5 1 false (pos 0) true (refl, omega arith) x k d)
+    (λ x k d. looks_draw (at 1 2) 5 2 3 (pos 7) (refl, omega arith) (refl, omega arith) x k d)
+    (λ x k d. plain_draws (at 1 3) 8 0 true (pos 9) false (refl, omega arith) x k d)
+    (λ x k d. write_draws (at 1 4) x k (refl, omega arith) d) (λ x k d. no_draw (at 1 5) x k d) (λ x k d. no_draw (at 1 6) x k d)

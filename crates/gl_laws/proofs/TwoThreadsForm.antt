@@ -7,7 +7,7 @@ use Rattle.gl_model.specs.Entries.{Entry, Plain, Trim}
 use Rattle.gl_model.specs.Records.{Place, EntryAt, position_of}
 use Rattle.gl_model.specs.Form.{At, Form, ListForm, EntryForm, IsTrim, IsBegin, IsEnd, IsOver, Draws, LookDraws, NumberDraws, HasRight, Numbered}
 use Rattle.gl_laws.proofs.SmallRecords.{at}
-use Rattle.gl_laws.proofs.TwoThreads.{B0, F0, W0, C0, A0, K0, R0, E0, B1, R1, A1, W1, K1, E1, O, es0, es1, R, entries0, entries1, each, look, number, only, nothing, bound, drawn_at}
+use Rattle.gl_laws.proofs.TwoThreads.{B0, F0, FirstWrite, C0, A0, K0, R0, E0, B1, RaisedRead, A1, OtherWrite, K1, E1, O, es0, es1, R, entries0, entries1, each, look, number, only, nothing, bound, drawn_at}
 use native.Mathlib.Decide.{ℕ_discrete}
 
 -- the positions of each list
@@ -19,13 +19,16 @@ Spot1 i p = ((i ≡ 0) × (p ≡ 2)) ⊎ ((i ≡ 4) × (p ≡ 3)) ⊎ ((i ≡ 5)
 
 spots0 : (i : ℕ) (e : Entry) → At es0 i e → (p : ℕ) → position_of e ≡ Some p → Spot0 i p
 spots0 = entries0 (λ i e. (p : ℕ) → position_of e ≡ Some p → Spot0 i p)
-    (λ p z. let a : 0 ≡ p = cc in inl (omega arith, omega arith)) (λ p z. let a : 1 ≡ p = cc in inl (omega arith, omega arith)) (λ p z. absurd (cc)) (λ p z. absurd (cc)) (λ p z. absurd (cc))
-    (λ p z. let a : 4 ≡ p = cc in inr (omega arith, omega arith)) (λ p z. absurd (cc)) (λ p z. let a : 6 ≡ p = cc in inr (omega arith, omega arith)) (λ p z. absurd (cc))
+    (λ p z. let a : 0 ≡ p = cc in inl (omega arith, omega arith)) (λ p z. let a : 1 ≡ p = cc in inl (omega arith, omega arith))
+    (λ p z. absurd (cc)) (λ p z. absurd (cc)) (λ p z. absurd (cc))
+    (λ p z. let a : 4 ≡ p = cc in inr (omega arith, omega arith)) (λ p z. absurd (cc)) (λ p z. let a : 6 ≡ p = cc
+    in inr (omega arith, omega arith)) (λ p z. absurd (cc))
 
 spots1 : (i : ℕ) (e : Entry) → At es1 i e → (p : ℕ) → position_of e ≡ Some p → Spot1 i p
 spots1 = entries1 (λ i e. (p : ℕ) → position_of e ≡ Some p → Spot1 i p)
     (λ p z. let a : 2 ≡ p = cc in inl (refl, omega arith)) (λ p z. absurd (cc)) (λ p z. absurd (cc)) (λ p z. absurd (cc))
-    (λ p z. let a : 3 ≡ p = cc in inr (inl (refl, omega arith))) (λ p z. let a : 5 ≡ p = cc in inr (inr (refl, omega arith))) (λ p z. absurd (cc))
+    (λ p z. let a : 3 ≡ p = cc in inr (inl (refl, omega arith))) (λ p z. let a : 5 ≡ p = cc in inr (inr (refl, omega arith)))
+    (λ p z. absurd (cc))
 
 rise0 : (i j p q : ℕ) → i < j → Spot0 i p → Spot0 j q → p < q
 rise0 i j p q lt a b = omega arith
@@ -52,9 +55,12 @@ cached_none : (x k : ℕ) → Draws C0 x k → ⊥
 cached_none x k (inl d) = d
 cached_none x k (inr d) = let z = d.0 in cc
 
-tx_is : (y a b : ℕ) (v : ℤ) (x k : ℕ) → ((value : ℤ) × Contains (look y v a ∷ []) (look x value k)) ⊎ Contains (number y b ∷ []) (number x k) → (x ≡ y) × ((k ≡ a) ⊎ (k ≡ b))
-tx_is y a b v x k (inl d) = let e = only (look y v a) (look x d.0 k) d.1 in (sym (ap (λ (l : Look). l.var) e), inl (sym (ap (λ (l : Look). l.nth) e)))
-tx_is y a b v x k (inr d) = let e = only (number y b) (number x k) d in (sym (ap (λ (l : Number). l.var) e), inr (sym (ap (λ (l : Number). l.nth) e)))
+tx_is : (y a b : ℕ) (v : ℤ) (x k : ℕ) → ((value : ℤ) × Contains (look y v a ∷ []) (look x value k))
+    ⊎ Contains (number y b ∷ []) (number x k) → (x ≡ y) × ((k ≡ a) ⊎ (k ≡ b))
+tx_is y a b v x k (inl d) = let e = only (look y v a) (look x d.0 k) d.1
+    in (sym (ap (λ (l : Look). l.var) e), inl (sym (ap (λ (l : Look). l.nth) e)))
+tx_is y a b v x k (inr d) = let e = only (number y b) (number x k) d
+    in (sym (ap (λ (l : Number). l.var) e), inr (sym (ap (λ (l : Number). l.nth) e)))
 
 write_is : (x k : ℕ) → Draws K1 x k → (x ≡ 6) × (k ≡ 1)
 write_is x k (inl d) = nothing (look x d.0 k) d.1
@@ -62,14 +68,17 @@ write_is x k (inr d) = let e = only (number 6 1) (number x k) d in (sym (ap (λ 
 
 numbers0 : (i : ℕ) (e : Entry) → At es0 i e → (x k : ℕ) → Draws e x k → Number0 i x k
 numbers0 = entries0 (λ i e. (x k : ℕ) → Draws e x k → Number0 i x k)
-    (λ x k d. no_draw d) (λ x k d. no_draw d) (λ x k d. let z = plain_is 5 0 true (pos 7) false x k d in inl (z.0, refl)) (λ x k d. absurd (cached_none x k d))
-    (λ x k d. let z = tx_is 6 0 2 (pos 0) x k d in inr (inl (z.0, refl, (let y = z.1 in omega arith)))) (λ x k d. let z = tx_is 6 3 4 (pos 3) x k d in inr (inr (inl (z.0, refl, (let y = z.1 in omega arith)))))
+    (λ x k d. no_draw d) (λ x k d. no_draw d) (λ x k d. let z = plain_is 5 0 true (pos 7) false x k d in inl (z.0, refl))
+    (λ x k d. absurd (cached_none x k d))
+    (λ x k d. let z = tx_is 6 0 2 (pos 0) x k d in inr (inl (z.0, refl, (let y = z.1 in omega arith))))
+    (λ x k d. let z = tx_is 6 3 4 (pos 3) x k d in inr (inr (inl (z.0, refl, (let y = z.1 in omega arith)))))
     (λ x k d. let z = plain_is 8 1 false (pos 9) false x k d in inr (inr (inr (z.0, refl)))) (λ x k d. no_draw d) (λ x k d. no_draw d)
 
 numbers1 : (i : ℕ) (e : Entry) → At es1 i e → (x k : ℕ) → Draws e x k → Number1 i x k
 numbers1 = entries1 (λ i e. (x k : ℕ) → Draws e x k → Number1 i x k)
     (λ x k d. no_draw d) (λ x k d. let z = plain_is 5 1 false (pos 0) true x k d in inl (z.0, refl, (let y = z.1 in omega arith)))
-    (λ x k d. let z = tx_is 5 2 3 (pos 7) x k d in inr (inl (z.0, refl, (let y = z.1 in omega arith)))) (λ x k d. let z = plain_is 8 0 true (pos 9) false x k d in inr (inr (inl (z.0, refl))))
+    (λ x k d. let z = tx_is 5 2 3 (pos 7) x k d in inr (inl (z.0, refl, (let y = z.1 in omega arith))))
+    (λ x k d. let z = plain_is 8 0 true (pos 9) false x k d in inr (inr (inl (z.0, refl))))
     (λ x k d. let z = write_is x k d in inr (inr (inr (z.0, refl)))) (λ x k d. no_draw d) (λ x k d. no_draw d)
 
 grow0 : (i j x k m : ℕ) → i < j → Number0 i x k → Number0 j x m → k < m
@@ -79,7 +88,8 @@ grow1 : (i j x k m : ℕ) → i < j → Number1 i x k → Number1 j x m → k < 
 grow1 i j x k m lt a b = omega arith
 
 -- the transactions' own numbers stand behind their looks'
-behind_look : (y a b : ℕ) (v : ℤ) → a < b → (x k m : ℕ) (value : ℤ) → Contains (look y v a ∷ []) (look x value k) → Contains (number y b ∷ []) (number x m) → k < m
+behind_look : (y a b : ℕ) (v : ℤ) → a < b → (x k m : ℕ) (value : ℤ) → Contains (look y v a ∷ []) (look x value k)
+    → Contains (number y b ∷ []) (number x m) → k < m
 behind_look y a b v lt x k m value l n =
     let ek : a ≡ k = ap (λ (z : Look). z.nth) (only (look y v a) (look x value k) l) in
     let em : b ≡ m = ap (λ (z : Number). z.nth) (only (number y b) (number x m) n) in
@@ -97,32 +107,54 @@ three e = absurd (cc)
 
 formed0 : ListForm 0 es0
 formed0 = record {
-  well_formed = entries0 (λ i e. EntryForm 0 e) (λ h. refl) (λ h. absurd h) tt tt
-      (record { variables = refl; after_looks = λ x k m value l n. behind_look 6 0 2 (pos 0) (omega arith) x k m value l n }, (0, (0, omega arith, refl)), three)
-      (record { variables = refl; after_looks = λ x k m value l n. behind_look 6 3 4 (pos 3) (omega arith) x k m value l n }) tt (λ h. refl) tt;
+  well_formed = entries0 (λ i e. EntryForm 0 e) (λ h. refl) (λ h. absurd h) tt tt (
+    record { variables = refl; after_looks = λ x k m value l n. behind_look 6 0 2 (pos 0) (omega arith) x k m value l n },
+    (0, (0, omega arith, refl)),
+    three,
+  )
+      (record { variables = refl; after_looks = λ x k m value l n. behind_look 6 3 4 (pos 3) (omega arith) x k m value l n }) tt
+      (λ h. refl) tt;
   begins = entries0 (λ i e. (IsTrim e → ⊥) → ((j : ℕ) (f : Entry) → At es0 j f → j < i → IsTrim f) → IsBegin e)
-      (λ n b. tt) (λ n b. absurd (b 0 B0 refl (omega arith))) (λ n b. absurd (b 0 B0 refl (omega arith))) (λ n b. absurd (b 0 B0 refl (omega arith))) (λ n b. absurd (b 0 B0 refl (omega arith)))
-      (λ n b. absurd (b 0 B0 refl (omega arith))) (λ n b. absurd (b 0 B0 refl (omega arith))) (λ n b. absurd (b 0 B0 refl (omega arith))) (λ n b. absurd (b 0 B0 refl (omega arith)));
+      (λ n b. tt) (λ n b. absurd (b 0 B0 refl (omega arith))) (λ n b. absurd (b 0 B0 refl (omega arith)))
+      (λ n b. absurd (b 0 B0 refl (omega arith))) (λ n b. absurd (b 0 B0 refl (omega arith)))
+      (λ n b. absurd (b 0 B0 refl (omega arith))) (λ n b. absurd (b 0 B0 refl (omega arith))) (λ n b. absurd (b 0 B0 refl (omega arith)))
+      (λ n b. absurd (b 0 B0 refl (omega arith)));
   positions_rise = λ i j p q e f a b lt x y. rise0 i j p q lt (spots0 i e a p x) (spots0 j f b q y);
   numbers_rise = λ i j x k m e f a b lt d g. grow0 i j x k m lt (numbers0 i e a x k d) (numbers0 j f b x m g);
   lows_rise = λ i j low high a b lt. absurd (no_trim0 i (Trim low) a tt);
   over_after_end = λ i e f a b. over i e a f b;
-  nothing_after = entries0 (λ i e. IsOver e → length es0 ≡ i + 1) (λ o. absurd o) (λ o. absurd o) (λ o. absurd o) (λ o. absurd o) (λ o. absurd o) (λ o. absurd o) (λ o. absurd o) (λ o. absurd o) (λ o. refl);
+  nothing_after = entries0 (λ i e. IsOver e → length es0 ≡ i + 1) (λ o. absurd o) (λ o. absurd o) (λ o. absurd o) (λ o. absurd o)
+      (λ o. absurd o) (λ o. absurd o) (λ o. absurd o) (λ o. absurd o) (λ o. refl);
   cached = λ i x k write value a. right i (Plain x k true write value false) a x k write value refl;
 }
   where
     over : (i : ℕ) (e : Entry) → At es0 i e → (f : Entry) → At es0 (i + 1) f → IsEnd e ↔ IsOver f
     over = entries0 (λ i e. (f : Entry) → At es0 (i + 1) f → IsEnd e ↔ IsOver f)
-        (λ f b. let s : F0 ≡ f = cc in rw (sym s) (λ z. z, λ z. z)) (λ f b. let s : W0 ≡ f = cc in rw (sym s) (λ z. z, λ z. z)) (λ f b. let s : C0 ≡ f = cc in rw (sym s) (λ z. z, λ z. z))
-        (λ f b. let s : A0 ≡ f = cc in rw (sym s) (λ z. z, λ z. z)) (λ f b. let s : K0 ≡ f = cc in rw (sym s) (λ z. z, λ z. z)) (λ f b. let s : R0 ≡ f = cc in rw (sym s) (λ z. z, λ z. z))
-        (λ f b. let s : E0 ≡ f = cc in rw (sym s) (λ z. z, λ z. z)) (λ f b. let s : O ≡ f = cc in rw (sym s) (λ z. tt, λ z. tt)) (λ f b. absurd (cc))
+        (λ f b. let s : F0 ≡ f = cc in rw (sym s) (λ z. z, λ z. z)) (λ f b. let s : FirstWrite ≡ f = cc in rw (sym s) (λ z. z, λ z. z))
+        (λ f b. let s : C0 ≡ f = cc in rw (sym s) (λ z. z, λ z. z))
+        (λ f b. let s : A0 ≡ f = cc in rw (sym s) (λ z. z, λ z. z)) (λ f b. let s : K0 ≡ f = cc in rw (sym s) (λ z. z, λ z. z))
+        (λ f b. let s : R0 ≡ f = cc in rw (sym s) (λ z. z, λ z. z))
+        (λ f b. let s : E0 ≡ f = cc in rw (sym s) (λ z. z, λ z. z)) (λ f b. let s : O ≡ f = cc in rw (sym s) (λ z. tt, λ z. tt))
+        (λ f b. absurd (cc))
 
-    right : (i : ℕ) (e : Entry) → At es0 i e → (x k : ℕ) (write : Bool) (value : ℤ) → e ≡ Plain x k true write value false → HasRight es0 i x k write
+    right : (i : ℕ) (e : Entry) → At es0 i e → (x k : ℕ) (write : Bool) (value : ℤ) → e ≡ Plain x k true write value false
+        → HasRight es0 i x k write
     right = entries0 (λ i e. (x k : ℕ) (write : Bool) (value : ℤ) → e ≡ Plain x k true write value false → HasRight es0 i x k write)
         (λ x k w v e. absurd (cc)) (λ x k w v e. absurd (cc)) (λ x k w v e. absurd (cc))
         (λ x k w v e. let a : 5 ≡ x = cc in let b : 0 ≡ k = cc in let c : false ≡ w = cc in rw (sym a, sym b, sym c)
-        (record { index = 2; entry = W0; there = refl; before = omega arith; by_write = true; gives = (refl, refl, refl, refl, refl); enough = λ z. (cc); no_event = λ j f m l n. absurd (omega arith); latest = λ j m f z q l n. absurd (omega arith) }))
-        (λ x k w v e. absurd (cc)) (λ x k w v e. absurd (cc)) (λ x k w v e. absurd (cc)) (λ x k w v e. absurd (cc)) (λ x k w v e. absurd (cc))
+        (record {
+          index = 2;
+          entry = FirstWrite;
+          there = refl;
+          before = omega arith;
+          by_write = true;
+          gives = (refl, refl, refl, refl, refl);
+          enough = λ z. (cc);
+          no_event = λ j f m l n. absurd (omega arith);
+          latest = λ j m f z q l n. absurd (omega arith);
+        }))
+        (λ x k w v e. absurd (cc)) (λ x k w v e. absurd (cc)) (λ x k w v e. absurd (cc)) (λ x k w v e. absurd (cc))
+        (λ x k w v e. absurd (cc))
 
 formed1 : ListForm 1 es1
 formed1 = record {
@@ -130,20 +162,24 @@ formed1 = record {
       (record { variables = refl; after_looks = λ x k m value l n. behind_look 5 2 3 (pos 7) (omega arith) x k m value l n }) tt
       (record { variables = refl; after_looks = λ x k m value l n. nothing (look x value k) l }) (λ h. refl) tt;
   begins = entries1 (λ i e. (IsTrim e → ⊥) → ((j : ℕ) (f : Entry) → At es1 j f → j < i → IsTrim f) → IsBegin e)
-      (λ n b. tt) (λ n b. absurd (b 0 B1 refl (omega arith))) (λ n b. absurd (b 0 B1 refl (omega arith))) (λ n b. absurd (b 0 B1 refl (omega arith))) (λ n b. absurd (b 0 B1 refl (omega arith)))
+      (λ n b. tt) (λ n b. absurd (b 0 B1 refl (omega arith))) (λ n b. absurd (b 0 B1 refl (omega arith)))
+      (λ n b. absurd (b 0 B1 refl (omega arith))) (λ n b. absurd (b 0 B1 refl (omega arith)))
       (λ n b. absurd (b 0 B1 refl (omega arith))) (λ n b. absurd (b 0 B1 refl (omega arith)));
   positions_rise = λ i j p q e f a b lt x y. rise1 i j p q lt (spots1 i e a p x) (spots1 j f b q y);
   numbers_rise = λ i j x k m e f a b lt d g. grow1 i j x k m lt (numbers1 i e a x k d) (numbers1 j f b x m g);
   lows_rise = λ i j low high a b lt. absurd (no_trim1 i (Trim low) a tt);
   over_after_end = λ i e f a b. over i e a f b;
-  nothing_after = entries1 (λ i e. IsOver e → length es1 ≡ i + 1) (λ o. absurd o) (λ o. absurd o) (λ o. absurd o) (λ o. absurd o) (λ o. absurd o) (λ o. absurd o) (λ o. refl);
+  nothing_after = entries1 (λ i e. IsOver e → length es1 ≡ i + 1) (λ o. absurd o) (λ o. absurd o) (λ o. absurd o) (λ o. absurd o)
+      (λ o. absurd o) (λ o. absurd o) (λ o. refl);
   cached = λ i x k write value a. absurd (no_cached i (Plain x k true write value false) a x k write value refl);
 }
   where
     over : (i : ℕ) (e : Entry) → At es1 i e → (f : Entry) → At es1 (i + 1) f → IsEnd e ↔ IsOver f
     over = entries1 (λ i e. (f : Entry) → At es1 (i + 1) f → IsEnd e ↔ IsOver f)
-        (λ f b. let s : R1 ≡ f = cc in rw (sym s) (λ z. z, λ z. z)) (λ f b. let s : A1 ≡ f = cc in rw (sym s) (λ z. z, λ z. z)) (λ f b. let s : W1 ≡ f = cc in rw (sym s) (λ z. z, λ z. z))
-        (λ f b. let s : K1 ≡ f = cc in rw (sym s) (λ z. z, λ z. z)) (λ f b. let s : E1 ≡ f = cc in rw (sym s) (λ z. z, λ z. z)) (λ f b. let s : O ≡ f = cc in rw (sym s) (λ z. tt, λ z. tt)) (λ f b. absurd (cc))
+        (λ f b. let s : RaisedRead ≡ f = cc in rw (sym s) (λ z. z, λ z. z)) (λ f b. let s : A1 ≡ f = cc in rw (sym s) (λ z. z, λ z. z))
+        (λ f b. let s : OtherWrite ≡ f = cc in rw (sym s) (λ z. z, λ z. z))
+        (λ f b. let s : K1 ≡ f = cc in rw (sym s) (λ z. z, λ z. z)) (λ f b. let s : E1 ≡ f = cc in rw (sym s) (λ z. z, λ z. z))
+        (λ f b. let s : O ≡ f = cc in rw (sym s) (λ z. tt, λ z. tt)) (λ f b. absurd (cc))
 
     no_cached : (i : ℕ) (e : Entry) → At es1 i e → (x k : ℕ) (write : Bool) (value : ℤ) → e ≡ Plain x k true write value false → ⊥
     no_cached = entries1 (λ i e. (x k : ℕ) (write : Bool) (value : ℤ) → e ≡ Plain x k true write value false → ⊥)
@@ -176,8 +212,8 @@ form = record { main = λ e. (let z : length es0 ≡ 0 = ap length e in absurd (
 
 -- each number below the bound is drawn, and its spot is where
 draws_5 : (k : ℕ) → k < 4 → (c : Place) × ((e : Entry) × EntryAt R c e × Draws e 5 k)
-draws_5 zero lt = (at 0 2, (W0, refl, inr (refl, refl, refl)))
-draws_5 (suc zero) lt = (at 1 1, (R1, refl, inr (refl, refl, refl)))
+draws_5 zero lt = (at 0 2, (FirstWrite, refl, inr (refl, refl, refl)))
+draws_5 (suc zero) lt = (at 1 1, (RaisedRead, refl, inr (refl, refl, refl)))
 draws_5 (suc (suc zero)) lt = (at 1 2, (A1, refl, inl (pos 7, (0, omega arith, refl))))
 draws_5 (suc (suc (suc zero))) lt = (at 1 2, (A1, refl, inr (0, omega arith, refl)))
 draws_5 (suc (suc (suc (suc k)))) lt = absurd (omega arith)
@@ -191,7 +227,7 @@ draws_6 (suc (suc (suc (suc zero)))) lt = (at 0 5, (K0, refl, inr (0, omega arit
 draws_6 (suc (suc (suc (suc (suc k))))) lt = absurd (omega arith)
 
 draws_8 : (k : ℕ) → k < 2 → (c : Place) × ((e : Entry) × EntryAt R c e × Draws e 8 k)
-draws_8 zero lt = (at 1 3, (W1, refl, inr (refl, refl, refl)))
+draws_8 zero lt = (at 1 3, (OtherWrite, refl, inr (refl, refl, refl)))
 draws_8 (suc zero) lt = (at 0 6, (R0, refl, inr (refl, refl, refl)))
 draws_8 (suc (suc k)) lt = absurd (omega arith)
 
@@ -213,9 +249,12 @@ draws_below x k lt = elim (ℕ_discrete x 5) [
 -- a look's number is not its transaction's own
 apart : (c : Place) (e : Entry) → EntryAt R c e → (k x : ℕ) → LookDraws e x k → NumberDraws e x k → ⊥
 apart = each (λ c e. (k x : ℕ) → LookDraws e x k → NumberDraws e x k → ⊥)
-    (λ k x l n. l) (λ k x l n. l) (λ k x l n. l) (λ k x l n. l) (λ k x l n. let lt = behind_look 6 0 2 (pos 0) (omega arith) x k k l.0 l.1 n in omega arith)
-    (λ k x l n. let lt = behind_look 6 3 4 (pos 3) (omega arith) x k k l.0 l.1 n in omega arith) (λ k x l n. l) (λ k x l n. l) (λ k x l n. l)
-    (λ k x l n. l) (λ k x l n. l) (λ k x l n. let lt = behind_look 5 2 3 (pos 7) (omega arith) x k k l.0 l.1 n in omega arith) (λ k x l n. l) (λ k x l n. nothing (look x l.0 k) l.1) (λ k x l n. l) (λ k x l n. l)
+    (λ k x l n. l) (λ k x l n. l) (λ k x l n. l) (λ k x l n. l)
+    (λ k x l n. let lt = behind_look 6 0 2 (pos 0) (omega arith) x k k l.0 l.1 n in omega arith)
+    (λ k x l n. let lt = behind_look 6 3 4 (pos 3) (omega arith) x k k l.0 l.1 n in omega arith) (λ k x l n. l) (λ k x l n. l)
+    (λ k x l n. l)
+    (λ k x l n. l) (λ k x l n. l) (λ k x l n. let lt = behind_look 5 2 3 (pos 7) (omega arith) x k k l.0 l.1 n in omega arith)
+    (λ k x l n. l) (λ k x l n. nothing (look x l.0 k) l.1) (λ k x l n. l) (λ k x l n. l)
 
 pub numbered : Numbered R
 numbered x = (

@@ -17,22 +17,31 @@ abbrev pub stamp : ℕ → Event → Stamp
 stamp t e = record { thread = t; event = e }
 
 abbrev pub h : List Stamp
-h = stamp 0 (Does (Begin 0)) ∷ stamp 0 (Does (Fork 1 0)) ∷ stamp 1 (Does (Begin 0)) ∷ stamp 1 (Commits (6 ∷ [])) ∷ stamp 0 (Commits (6 ∷ [])) ∷ stamp 1 (Does End) ∷ stamp 0 (Does End) ∷ []
+h = stamp 0 (Does (Begin 0)) ∷ stamp 0 (Does (Fork 1 0)) ∷ stamp 1 (Does (Begin 0)) ∷ stamp 1 (Commits (6 ∷ []))
+    ∷ stamp 0 (Commits (6 ∷ [])) ∷ stamp 1 (Does End) ∷ stamp 0 (Does End) ∷ []
 
 -- a stamp with this thread and this event is that
 stamp_is : (t : ℕ) (e : Event) (s : Stamp) → Some e ≡ Some s.event → s.thread ≡ t → s ≡ stamp t e
 stamp_is t e s is own = let z : s.event ≡ e = cc in λ i. record { thread = own i; event = z i }
 
 -- each event of the record, with its position: what holds of the seven holds of each
-events : (P : Place → ℕ → Entry → Stamp → Type 0) → P (at 0 0) 0 B0 (stamp 0 (Does (Begin 0))) → P (at 0 1) 1 F0 (stamp 0 (Does (Fork 1 0))) → P (at 1 0) 2 B1 (stamp 1 (Does (Begin 0))) → P (at 1 4) 3 K1 (stamp 1 (Commits (6 ∷ [])))
+events : (P : Place → ℕ → Entry → Stamp → Type 0) → P (at 0 0) 0 B0 (stamp 0 (Does (Begin 0)))
+    → P (at 0 1) 1 F0 (stamp 0 (Does (Fork 1 0))) → P (at 1 0) 2 B1 (stamp 1 (Does (Begin 0)))
+    → P (at 1 4) 3 K1 (stamp 1 (Commits (6 ∷ [])))
     → P (at 0 5) 4 K0 (stamp 0 (Commits (6 ∷ []))) → P (at 1 5) 5 E1 (stamp 1 (Does End)) → P (at 0 7) 6 E0 (stamp 0 (Does End))
-    → (c : Place) (e : Entry) → EntryAt R c e → (p : ℕ) (s : Stamp) → position_of e ≡ Some p → event_of e ≡ Some s.event → s.thread ≡ c.thread → P c p e s
-events P b f b' k' k e' e = each (λ c x. (p : ℕ) (s : Stamp) → position_of x ≡ Some p → event_of x ≡ Some s.event → s.thread ≡ c.thread → P c p x s)
-    (λ p s i j o. let a : 0 ≡ p = cc in rw (sym a, stamp_is 0 (Does (Begin 0)) s j o) b) (λ p s i j o. let a : 1 ≡ p = cc in rw (sym a, stamp_is 0 (Does (Fork 1 0)) s j o) f)
+    → (c : Place) (e : Entry) → EntryAt R c e → (p : ℕ) (s : Stamp) → position_of e ≡ Some p → event_of e ≡ Some s.event → s.thread
+    ≡ c.thread → P c p e s
+events P b f b' k' k e' e = each (λ c x. (p : ℕ) (s : Stamp) → position_of x ≡ Some p → event_of x ≡ Some s.event → s.thread ≡ c.thread
+    → P c p x s)
+    (λ p s i j o. let a : 0 ≡ p = cc in rw (sym a, stamp_is 0 (Does (Begin 0)) s j o) b) (λ p s i j o. let a : 1 ≡ p = cc
+    in rw (sym a, stamp_is 0 (Does (Fork 1 0)) s j o) f)
     (λ p s i j o. absurd (cc)) (λ p s i j o. absurd (cc)) (λ p s i j o. absurd (cc))
-    (λ p s i j o. let a : 4 ≡ p = cc in rw (sym a, stamp_is 0 (Commits (6 ∷ [])) s j o) k) (λ p s i j o. absurd (cc)) (λ p s i j o. let a : 6 ≡ p = cc in rw (sym a, stamp_is 0 (Does End) s j o) e) (λ p s i j o. absurd (cc))
-    (λ p s i j o. let a : 2 ≡ p = cc in rw (sym a, stamp_is 1 (Does (Begin 0)) s j o) b') (λ p s i j o. absurd (cc)) (λ p s i j o. absurd (cc)) (λ p s i j o. absurd (cc))
-    (λ p s i j o. let a : 3 ≡ p = cc in rw (sym a, stamp_is 1 (Commits (6 ∷ [])) s j o) k') (λ p s i j o. let a : 5 ≡ p = cc in rw (sym a, stamp_is 1 (Does End) s j o) e') (λ p s i j o. absurd (cc))
+    (λ p s i j o. let a : 4 ≡ p = cc in rw (sym a, stamp_is 0 (Commits (6 ∷ [])) s j o) k) (λ p s i j o. absurd (cc))
+    (λ p s i j o. let a : 6 ≡ p = cc in rw (sym a, stamp_is 0 (Does End) s j o) e) (λ p s i j o. absurd (cc))
+    (λ p s i j o. let a : 2 ≡ p = cc in rw (sym a, stamp_is 1 (Does (Begin 0)) s j o) b') (λ p s i j o. absurd (cc))
+    (λ p s i j o. absurd (cc)) (λ p s i j o. absurd (cc))
+    (λ p s i j o. let a : 3 ≡ p = cc in rw (sym a, stamp_is 1 (Commits (6 ∷ [])) s j o) k') (λ p s i j o. let a : 5 ≡ p = cc
+    in rw (sym a, stamp_is 1 (Does End) s j o) e') (λ p s i j o. absurd (cc))
 
 abbrev where_is : ℕ → Place
 where_is zero = at 0 0
@@ -51,13 +60,20 @@ listed = record {
 }
   where
     made : (p : ℕ) (s : Stamp) → EventAt h p s → (c : Place) × IsEventAt R c p s
-    made zero s a = let b : stamp 0 (Does (Begin 0)) ≡ s = cc in (at 0 0, rw (sym b) (record { entry = B0; there = refl; position = refl; event = refl; own = refl }))
-    made (suc zero) s a = let b : stamp 0 (Does (Fork 1 0)) ≡ s = cc in (at 0 1, rw (sym b) (record { entry = F0; there = refl; position = refl; event = refl; own = refl }))
-    made (suc (suc zero)) s a = let b : stamp 1 (Does (Begin 0)) ≡ s = cc in (at 1 0, rw (sym b) (record { entry = B1; there = refl; position = refl; event = refl; own = refl }))
-    made (suc (suc (suc zero))) s a = let b : stamp 1 (Commits (6 ∷ [])) ≡ s = cc in (at 1 4, rw (sym b) (record { entry = K1; there = refl; position = refl; event = refl; own = refl }))
-    made (suc (suc (suc (suc zero)))) s a = let b : stamp 0 (Commits (6 ∷ [])) ≡ s = cc in (at 0 5, rw (sym b) (record { entry = K0; there = refl; position = refl; event = refl; own = refl }))
-    made (suc (suc (suc (suc (suc zero))))) s a = let b : stamp 1 (Does End) ≡ s = cc in (at 1 5, rw (sym b) (record { entry = E1; there = refl; position = refl; event = refl; own = refl }))
-    made (suc (suc (suc (suc (suc (suc zero)))))) s a = let b : stamp 0 (Does End) ≡ s = cc in (at 0 7, rw (sym b) (record { entry = E0; there = refl; position = refl; event = refl; own = refl }))
+    made zero s a = let b : stamp 0 (Does (Begin 0)) ≡ s = cc
+        in (at 0 0, rw (sym b) (record { entry = B0; there = refl; position = refl; event = refl; own = refl }))
+    made (suc zero) s a = let b : stamp 0 (Does (Fork 1 0)) ≡ s = cc
+        in (at 0 1, rw (sym b) (record { entry = F0; there = refl; position = refl; event = refl; own = refl }))
+    made (suc (suc zero)) s a = let b : stamp 1 (Does (Begin 0)) ≡ s = cc
+        in (at 1 0, rw (sym b) (record { entry = B1; there = refl; position = refl; event = refl; own = refl }))
+    made (suc (suc (suc zero))) s a = let b : stamp 1 (Commits (6 ∷ [])) ≡ s = cc
+        in (at 1 4, rw (sym b) (record { entry = K1; there = refl; position = refl; event = refl; own = refl }))
+    made (suc (suc (suc (suc zero)))) s a = let b : stamp 0 (Commits (6 ∷ [])) ≡ s = cc
+        in (at 0 5, rw (sym b) (record { entry = K0; there = refl; position = refl; event = refl; own = refl }))
+    made (suc (suc (suc (suc (suc zero))))) s a = let b : stamp 1 (Does End) ≡ s = cc
+        in (at 1 5, rw (sym b) (record { entry = E1; there = refl; position = refl; event = refl; own = refl }))
+    made (suc (suc (suc (suc (suc (suc zero)))))) s a = let b : stamp 0 (Does End) ≡ s = cc
+        in (at 0 7, rw (sym b) (record { entry = E0; there = refl; position = refl; event = refl; own = refl }))
     made (suc (suc (suc (suc (suc (suc (suc p))))))) s a = absurd (cc)
 
     place : (c : Place) (p : ℕ) (s : Stamp) → IsEventAt R c p s → c ≡ where_is p
@@ -117,7 +133,8 @@ pub machine : IsMachineRun trace_setting R h
 machine = record {
   at = states;
   first = refl;
-  steps = λ c p s e. events (λ c p x s. Step trace_setting (states p) s (value_of x) (states (p + 1))) step_begin step_fork step_begun step_commit_1 step_commit_0 step_end_1 step_end_0 c e.entry e.there p s e.position e.event e.own;
+  steps = λ c p s e. events (λ c p x s. Step trace_setting (states p) s (value_of x) (states (p + 1))) step_begin step_fork step_begun
+      step_commit_1 step_commit_0 step_end_1 step_end_0 c e.entry e.there p s e.position e.event e.own;
   lists = λ c p u f v a. forks c (Sync p (Fork u f) v) a p u f v refl;
   ended = ended;
 }
@@ -127,9 +144,11 @@ machine = record {
 
     forks : (c : Place) (e : Entry) → EntryAt R c e → (p u f : ℕ) (v : ℤ) → e ≡ Sync p (Fork u f) v → R u ≢ []
     forks = each (λ c e. (p u f : ℕ) (v : ℤ) → e ≡ Sync p (Fork u f) v → R u ≢ [])
-        (λ p u f v e. absurd (cc)) (λ p u f v e. let a : 1 ≡ u = cc in rw (sym a) some) (λ p u f v e. absurd (cc)) (λ p u f v e. absurd (cc)) (λ p u f v e. absurd (cc)) (λ p u f v e. absurd (cc))
+        (λ p u f v e. absurd (cc)) (λ p u f v e. let a : 1 ≡ u = cc in rw (sym a) some) (λ p u f v e. absurd (cc))
         (λ p u f v e. absurd (cc)) (λ p u f v e. absurd (cc)) (λ p u f v e. absurd (cc))
-        (λ p u f v e. absurd (cc)) (λ p u f v e. absurd (cc)) (λ p u f v e. absurd (cc)) (λ p u f v e. absurd (cc)) (λ p u f v e. absurd (cc)) (λ p u f v e. absurd (cc)) (λ p u f v e. absurd (cc))
+        (λ p u f v e. absurd (cc)) (λ p u f v e. absurd (cc)) (λ p u f v e. absurd (cc))
+        (λ p u f v e. absurd (cc)) (λ p u f v e. absurd (cc)) (λ p u f v e. absurd (cc)) (λ p u f v e. absurd (cc))
+        (λ p u f v e. absurd (cc)) (λ p u f v e. absurd (cc)) (λ p u f v e. absurd (cc))
 
     ended : (t : ℕ) → (s7.threads t ≡ NeverForked) ⊎ (s7.threads t ≡ Ended)
     ended zero = inr refl

@@ -18,7 +18,8 @@ one_if b = if b then 1 else 0
 module _ (t q p : ℕ) (e : Entry) where
   -- where a draw stands: it is an old one, the look, or the attempt's own
   one_of : (b c : Bool) (ds : List Draw) (k : ℕ) (f : Draw) → DrawAt (with_own b t p e (with_look c t q ds)) k f →
-      DrawAt ds k f ⊎ (((c ≡ true) × (k ≡ length ds) × (f ≡ draw t q (Looked (pos 0)))) ⊎ ((b ≡ true) × (k ≡ length ds + one_if c) × (f ≡ draw t p (Entered e))))
+      DrawAt ds k f ⊎ (((c ≡ true) × (k ≡ length ds) × (f ≡ draw t q (Looked (pos 0))))
+      ⊎ ((b ≡ true) × (k ≡ length ds + one_if c) × (f ≡ draw t p (Entered e))))
   one_of true true ds k f (inl a) = inr (inr (refl, a.0 ∙ sym (add-one (length ds)), a.1))
   one_of true true ds k f (inr (inl a)) = inr (inl (refl, a.0, a.1))
   one_of true true ds k f (inr (inr a)) = inl a
@@ -34,19 +35,22 @@ module _ (t q p : ℕ) (e : Entry) where
   stays false true ds k f a = inr a
   stays false false ds k f a = a
 
-  look_at : (b c : Bool) (ds : List Draw) → c ≡ true → DrawAt (with_own b t p e (with_look c t q ds)) (length ds) (draw t q (Looked (pos 0)))
+  look_at : (b c : Bool) (ds : List Draw) → c ≡ true
+      → DrawAt (with_own b t p e (with_look c t q ds)) (length ds) (draw t q (Looked (pos 0)))
   look_at true true ds i = inr (inl (refl, refl))
   look_at true false ds i = absurd (cc)
   look_at false true ds i = inl (refl, refl)
   look_at false false ds i = absurd (cc)
 
-  own_at : (b c : Bool) (ds : List Draw) → b ≡ true → DrawAt (with_own b t p e (with_look c t q ds)) (length ds + one_if c) (draw t p (Entered e))
+  own_at : (b c : Bool) (ds : List Draw) → b ≡ true
+      → DrawAt (with_own b t p e (with_look c t q ds)) (length ds + one_if c) (draw t p (Entered e))
   own_at true true ds i = inl (add-one (length ds), refl)
   own_at true false ds i = inl ((omega arith), refl)
   own_at false c ds i = absurd (cc)
 
   -- how many there are then
-  pub attempt_length : (a b : Bool) (ds : List Draw) → length (with_own (if a then true else b) t p e (with_look a t q ds)) ≡ length ds + one_if a + (if a then 1 else if b then 1 else 0)
+  pub attempt_length : (a b : Bool) (ds : List Draw) → length (with_own (if a then true else b) t p e (with_look a t q ds))
+      ≡ length ds + one_if a + (if a then 1 else if b then 1 else 0)
   attempt_length true b ds = omega arith
   attempt_length false true ds = omega arith
   attempt_length false false ds = omega arith
@@ -56,7 +60,8 @@ pub record IsAttempt (draws : ℕ → List Draw) (e : Entry) (reads writes : Lis
   pub looks : (y k : ℕ) → LookDraws e y k → (is_in y reads ≡ true) × (k ≡ length (draws y))
   pub own : (y k : ℕ) → NumberDraws e y k → (touches reads writes y ≡ true) × (k ≡ length (draws y) + look_count reads y)
   pub look_there : (y : ℕ) → is_in y reads ≡ true → LookDraws e y (length (draws y)) × HasLook e y (length (draws y)) (pos 0)
-  pub own_there : (y : ℕ) → touches reads writes y ≡ true → NumberDraws e y (length (draws y) + look_count reads y) × NumberOn e y (length (draws y) + look_count reads y)
+  pub own_there : (y : ℕ) → touches reads writes y ≡ true → NumberDraws e y (length (draws y) + look_count reads y)
+      × NumberOn e y (length (draws y) + look_count reads y)
   pub number : (y k : ℕ) → NumberOn e y k → NumberDraws e y k
 
 module _ (draws : ℕ → List Draw) (t q p : ℕ) (e : Entry) (reads writes : List ℕ) (is : IsAttempt draws e reads writes) where
@@ -70,24 +75,32 @@ module _ (draws : ℕ → List Draw) (t q p : ℕ) (e : Entry) (reads writes : L
   own = draw t p (Entered e)
 
   pub attempt_cases : (y k : ℕ) (f : Draw) → DrawAt (with_attempt t q p e reads writes draws y) k f →
-      DrawAt (draws y) k f ⊎ (((is_in y reads ≡ true) × (k ≡ length (draws y)) × (f ≡ draw t q (Looked (pos 0)))) ⊎ ((touches reads writes y ≡ true) × (k ≡ length (draws y) + look_count reads y) × (f ≡ draw t p (Entered e))))
+      DrawAt (draws y) k f ⊎ (((is_in y reads ≡ true) × (k ≡ length (draws y)) × (f ≡ draw t q (Looked (pos 0))))
+      ⊎ ((touches reads writes y ≡ true) × (k ≡ length (draws y) + look_count reads y) × (f ≡ draw t p (Entered e))))
   attempt_cases y k f a = one_of t q p e (touches reads writes y) (is_in y reads) (draws y) k f a
 
   pub attempt_kept : (y k : ℕ) (f : Draw) → DrawAt (draws y) k f → DrawAt (with_attempt t q p e reads writes draws y) k f
   attempt_kept y k f a = stays t q p e (touches reads writes y) (is_in y reads) (draws y) k f a
 
-  pub attempt_own : (y : ℕ) → touches reads writes y ≡ true → DrawAt (with_attempt t q p e reads writes draws y) (length (draws y) + look_count reads y) (draw t p (Entered e))
+  pub attempt_own : (y : ℕ) → touches reads writes y ≡ true
+      → DrawAt (with_attempt t q p e reads writes draws y) (length (draws y) + look_count reads y) (draw t p (Entered e))
   attempt_own y i = own_at t q p e (touches reads writes y) (is_in y reads) (draws y) i
 
-  attempt_look : (y : ℕ) → is_in y reads ≡ true → DrawAt (with_attempt t q p e reads writes draws y) (length (draws y)) (draw t q (Looked (pos 0)))
+  attempt_look : (y : ℕ) → is_in y reads ≡ true
+      → DrawAt (with_attempt t q p e reads writes draws y) (length (draws y)) (draw t q (Looked (pos 0)))
   attempt_look y i = look_at t q p e (touches reads writes y) (is_in y reads) (draws y) i
 
   -- another thread's draws
-  pub attempt_other : (u : ℕ) (es : List Entry) → u ≢ t → AreDrawn draws u es [] → AreDrawn (with_attempt t q p e reads writes draws) u es []
+  pub attempt_other : (u : ℕ) (es : List Entry) → u ≢ t → AreDrawn draws u es []
+      → AreDrawn (with_attempt t q p e reads writes draws) u es []
   attempt_other u es apart k = record {
     kept = λ y n f a mine. elim (attempt_cases y n f a) [
       | inl old ↦ k.kept y n f old mine
-      | inr added ↦ absurd (apart (elim added [ inl l ↦ sym mine ∙ ap (λ (z : Draw). z.thread) l.2 | inr o ↦ sym mine ∙ ap (λ (z : Draw). z.thread) o.2 ]))
+      | inr added ↦ absurd (apart (elim added [
+        | inl l ↦ sym mine ∙ ap (λ (z : Draw). z.thread) l.2
+        | inr o ↦ sym mine
+            ∙ ap (λ (z : Draw). z.thread) o.2
+      ]))
     ];
     made = λ y n i f a b. let m = k.made y n i f a b in (m.0, attempt_kept y n m.0 m.1, m.2, m.3, m.4);
     in_flight = λ o c. absurd (let l = c.1 in omega arith);
@@ -110,14 +123,17 @@ module _ (draws : ℕ → List Draw) (t q p : ℕ) (e : Entry) (reads writes : L
     kept : (y n : ℕ) (f : Draw) → DrawAt (new y) n f → f.thread ≡ t → IsKept (es ++ e ∷ []) [] y n f
     kept y n f a mine = elim (attempt_cases y n f a) [
       | inl old ↦ kept_push es (e ∷ []) [] y n f (k.kept y n f old mine)
-      | inr (inl l) ↦ subst (λ z. IsKept (es ++ e ∷ []) [] y n z) (sym l.2) (subst (λ z. IsKept (es ++ e ∷ []) [] y z look) (sym l.1) (look_kept y l.0))
-      | inr (inr o) ↦ subst (λ z. IsKept (es ++ e ∷ []) [] y n z) (sym o.2) (subst (λ z. IsKept (es ++ e ∷ []) [] y z own) (sym o.1) (own_kept y o.0))
+      | inr (inl l) ↦ subst (λ z. IsKept (es ++ e ∷ []) [] y n z) (sym l.2)
+          (subst (λ z. IsKept (es ++ e ∷ []) [] y z look) (sym l.1) (look_kept y l.0))
+      | inr (inr o) ↦ subst (λ z. IsKept (es ++ e ∷ []) [] y n z) (sym o.2)
+          (subst (λ z. IsKept (es ++ e ∷ []) [] y z own) (sym o.1) (own_kept y o.0))
     ]
 
     Made : ℕ → ℕ → Entry → Type 0
     Made y n f = (g : Draw) × DrawAt (new y) n g × (g.thread ≡ t) × IsKept (es ++ e ∷ []) [] y n g × IsFor g.what f y n
 
-    made_new : (y n : ℕ) → Draws e y n → (g : Draw) × DrawAt (new y) n g × (g.thread ≡ t) × IsKept (es ++ e ∷ []) [] y n g × IsFor g.what e y n
+    made_new : (y n : ℕ) → Draws e y n → (g : Draw) × DrawAt (new y) n g × (g.thread ≡ t) × IsKept (es ++ e ∷ []) [] y n g
+        × IsFor g.what e y n
     made_new y n (inl l) =
         let i = is.looks y n l in
         subst (λ z. (g : Draw) × DrawAt (new y) z g × (g.thread ≡ t) × IsKept (es ++ e ∷ []) [] y z g × IsFor g.what e y z) (sym i.1)
@@ -127,10 +143,12 @@ module _ (draws : ℕ → List Draw) (t q p : ℕ) (e : Entry) (reads writes : L
         subst (λ z. (g : Draw) × DrawAt (new y) z g × (g.thread ≡ t) × IsKept (es ++ e ∷ []) [] y z g × IsFor g.what e y z) (sym i.1)
         (own, attempt_own y i.0, refl, own_kept y i.0, (refl, (is.own_there y i.0).1))
 
-    made : (y n i : ℕ) (f : Entry) → At (es ++ e ∷ []) i f → Draws f y n → (g : Draw) × DrawAt (new y) n g × (g.thread ≡ t) × IsKept (es ++ e ∷ []) [] y n g × IsFor g.what f y n
+    made : (y n i : ℕ) (f : Entry) → At (es ++ e ∷ []) i f → Draws f y n → (g : Draw) × DrawAt (new y) n g × (g.thread ≡ t)
+        × IsKept (es ++ e ∷ []) [] y n g × IsFor g.what f y n
     made y n i f a b = elim (at_cases es e f i a) [
       | inl old ↦ (let m = k.made y n i f old b in (m.0, attempt_kept y n m.0 m.1, m.2, kept_push es (e ∷ []) [] y n m.0 m.3, m.4))
-      | inr added ↦ subst (λ z. (g : Draw) × DrawAt (new y) n g × (g.thread ≡ t) × IsKept (es ++ e ∷ []) [] y n g × IsFor g.what z y n) (sym added.1) (made_new y n (subst (λ z. Draws z y n) added.1 b))
+      | inr added ↦ subst (λ z. (g : Draw) × DrawAt (new y) n g × (g.thread ≡ t) × IsKept (es ++ e ∷ []) [] y n g × IsFor g.what z y n)
+          (sym added.1) (made_new y n (subst (λ z. Draws z y n) added.1 b))
     ]
 
     above : (y n : ℕ) → Draws e y n → length (draws y) ≤ n

@@ -18,7 +18,8 @@ module _ (reads writes : List ℕ) (numbers : ℕ → ℕ) where
   tx = line_tx reads writes numbers
 
   pub its_variables : variables_of (line_tx reads writes numbers) ≡ with_all writes reads
-  its_variables = ap (λ ws. with_all ws (map (λ l. l.var) (line_tx reads writes numbers).looks)) (map_back (λ w. w.var) (λ x. record { var = x; value = pos 0 }) (λ x. refl) writes)
+  its_variables = ap (λ ws. with_all ws (map (λ l. l.var) (line_tx reads writes numbers).looks))
+      (map_back (λ w. w.var) (λ x. record { var = x; value = pos 0 }) (λ x. refl) writes)
       ∙ ap (λ rs. with_all writes rs) (map_back (λ l. l.var) (λ x. record { var = x; value = pos 0; nth = numbers x }) (λ x. refl) reads)
 
   pub its_writes : map (λ w. w.var) (line_tx reads writes numbers).writes ≡ writes
@@ -28,21 +29,33 @@ module _ (reads writes : List ℕ) (numbers : ℕ → ℕ) where
   its_numbers = map_back (λ n. n.var) (λ x. record { var = x; nth = numbers x + look_count reads x }) (λ x. refl) (with_all writes reads)
 
   -- a look of y has the number that comes next there, and the value 0
-  pub look_is : (y k : ℕ) (v : ℤ) → Contains (line_tx reads writes numbers).looks (record { var = y; value = v; nth = k }) → (is_in y reads ≡ true) × (k ≡ numbers y) × (v ≡ pos 0)
+  pub look_is : (y k : ℕ) (v : ℤ) → Contains (line_tx reads writes numbers).looks (record { var = y; value = v; nth = k })
+      → (is_in y reads ≡ true) × (k ≡ numbers y) × (v ≡ pos 0)
   look_is y k v c =
       let m = contains_map (λ x. record { var = x; value = pos 0; nth = numbers x }) reads (record { var = y; value = v; nth = k }) c in
-      let var : m.0 ≡ y = ap (λ l. l.var) m.2 in
-      (contains-is_in y reads (subst (Contains reads) var m.1), sym (sym (ap numbers var) ∙ ap (λ l. l.nth) m.2), sym (ap (λ l. l.value) m.2))
+      let var : m.0 ≡ y = ap (λ l. l.var) m.2 in (
+        contains-is_in y reads (subst (Contains reads) var m.1),
+        sym (sym (ap numbers var) ∙ ap (λ l. l.nth) m.2),
+        sym
+            (ap (λ l. l.value) m.2),
+      )
 
-  pub look_there : (y : ℕ) → is_in y reads ≡ true → Contains (line_tx reads writes numbers).looks (record { var = y; value = pos 0; nth = numbers y })
+  pub look_there : (y : ℕ) → is_in y reads ≡ true
+      → Contains (line_tx reads writes numbers).looks (record { var = y; value = pos 0; nth = numbers y })
   look_there y is = map_contains (λ x. record { var = x; value = pos 0; nth = numbers x }) reads y (is_in-contains y reads is)
 
   -- its own number on y is the one behind that
-  pub number_is : (y k : ℕ) → Contains (line_tx reads writes numbers).numbers (record { var = y; nth = k }) → (touches reads writes y ≡ true) × (k ≡ numbers y + look_count reads y)
+  pub number_is : (y k : ℕ) → Contains (line_tx reads writes numbers).numbers (record { var = y; nth = k })
+      → (touches reads writes y ≡ true) × (k ≡ numbers y + look_count reads y)
   number_is y k c =
-      let m = contains_map (λ x. record { var = x; nth = numbers x + look_count reads x }) (with_all writes reads) (record { var = y; nth = k }) c in
-      let var : m.0 ≡ y = ap (λ l. l.var) m.2 in
-      (sym (is_in-touches reads writes y) ∙ contains-is_in y (with_all writes reads) (subst (Contains (with_all writes reads)) var m.1), sym (sym (ap (λ z. numbers z + look_count reads z) var) ∙ ap (λ l. l.nth) m.2))
+      let m = contains_map (λ x. record { var = x; nth = numbers x + look_count reads x }) (with_all writes reads)
+      (record { var = y; nth = k }) c in
+      let var : m.0 ≡ y = ap (λ l. l.var) m.2 in (
+        sym (is_in-touches reads writes y) ∙ contains-is_in y (with_all writes reads) (subst (Contains (with_all writes reads)) var m.1),
+        sym (sym (ap (λ z. numbers z + look_count reads z) var) ∙ ap (λ l. l.nth) m.2),
+      )
 
-  pub number_there : (y : ℕ) → touches reads writes y ≡ true → Contains (line_tx reads writes numbers).numbers (record { var = y; nth = numbers y + look_count reads y })
-  number_there y is = map_contains (λ x. record { var = x; nth = numbers x + look_count reads x }) (with_all writes reads) y (is_in-contains y (with_all writes reads) (is_in-touches reads writes y ∙ is))
+  pub number_there : (y : ℕ) → touches reads writes y ≡ true
+      → Contains (line_tx reads writes numbers).numbers (record { var = y; nth = numbers y + look_count reads y })
+  number_there y is = map_contains (λ x. record { var = x; nth = numbers x + look_count reads x }) (with_all writes reads) y
+      (is_in-contains y (with_all writes reads) (is_in-touches reads writes y ∙ is))

@@ -30,7 +30,9 @@ use Rattle.gl_draws.proofs.Runs.{allows_push}
 use Rattle.gl_lines.proofs.TraceEvents.{DrawFits, fits_grow, IsGoing, IsRecorded, zero_push, each_list, alone_push, formed_push, zeros_push, going_grows, going_new}
 use Rattle.gl_lines.proofs.TracePlain.{going_push, block_is, block_here, block_goes_on, own_below}
 
-pub each_attempt : (P : Draw → List Draw → Type 0) (t q p : ℕ) (e : Entry) (b c : Bool) (ds : List Draw) → (c ≡ true → P (draw t q (Looked (pos 0))) ds) → (b ≡ true → P (draw t p (Entered e)) (with_look c t q ds)) → EachDraw P ds → EachDraw P (with_own b t p e (with_look c t q ds))
+pub each_attempt : (P : Draw → List Draw → Type 0) (t q p : ℕ) (e : Entry) (b c : Bool) (ds : List Draw)
+    → (c ≡ true → P (draw t q (Looked (pos 0))) ds) → (b ≡ true → P (draw t p (Entered e)) (with_look c t q ds)) → EachDraw P ds
+    → EachDraw P (with_own b t p e (with_look c t q ds))
 each_attempt P t q p e true true ds look own all = (own refl, (look refl, all))
 each_attempt P t q p e true false ds look own all = (own refl, all)
 each_attempt P t q p e false true ds look own all = (look refl, all)
@@ -41,7 +43,8 @@ look_length t q true ds = omega arith
 look_length t q false ds = omega arith
 
 -- among an old draw and the look
-pub among_cases : (P : Draw → Type 0) (t q : ℕ) (c : Bool) (ds : List Draw) → P (draw t q (Looked (pos 0))) → ((a : Draw) → Among ds a → P a) → (a : Draw) → Among (with_look c t q ds) a → P a
+pub among_cases : (P : Draw → Type 0) (t q : ℕ) (c : Bool) (ds : List Draw) → P (draw t q (Looked (pos 0)))
+    → ((a : Draw) → Among ds a → P a) → (a : Draw) → Among (with_look c t q ds) a → P a
 among_cases P t q true ds look old a (inl same) = subst P (sym same) look
 among_cases P t q true ds look old a (inr m) = old a m
 among_cases P t q false ds look old a m = old a m
@@ -51,12 +54,14 @@ pub zero_in : (x : ℕ) (ws : List ℕ) → value_in x (map (λ w. record { var 
 zero_in x [] = refl
 zero_in x (w ∷ ws) = here (x == w) (zero_in x ws)
   where
-    here : (b : Bool) → value_in x (map (λ w. record { var = w; value = pos 0 }) ws) ≡ pos 0 → (if b then pos 0 else value_in x (map (λ w. record { var = w; value = pos 0 }) ws)) ≡ pos 0
+    here : (b : Bool) → value_in x (map (λ w. record { var = w; value = pos 0 }) ws) ≡ pos 0
+        → (if b then pos 0 else value_in x (map (λ w. record { var = w; value = pos 0 }) ws)) ≡ pos 0
     here true r = refl
     here false r = r
 
 -- the word after an attempt whose entry writes this value, or does not write
-word_after : (x t q p : ℕ) (e : Entry) (b c : Bool) (ds : List Draw) → (is_write x (Entered e) ≡ true → written x (Entered e) ≡ pos 0) → word_of x ds ≡ pos 0 → word_of x (with_own b t p e (with_look c t q ds)) ≡ pos 0
+word_after : (x t q p : ℕ) (e : Entry) (b c : Bool) (ds : List Draw) → (is_write x (Entered e) ≡ true → written x (Entered e) ≡ pos 0)
+    → word_of x ds ≡ pos 0 → word_of x (with_own b t p e (with_look c t q ds)) ≡ pos 0
 word_after x t q p e b c ds value old = own b
   where
     look : (c : Bool) → word_of x (with_look c t q ds) ≡ pos 0
@@ -78,27 +83,37 @@ module _ (s : Traced) (now : State) (r : IsRecorded s now) (t : ℕ) (running : 
   abbrev q : ℕ
   q = block_of t s
 
-  numbers : (p : ℕ) (e : Entry) (y : ℕ) → with_numbers reads writes s.tracing.numbers y ≡ length (with_attempt t (block_of t s) p e reads writes s.draws y)
-  numbers p e y = ap (λ n. n + look_count reads y + own_count reads writes y) (r.numbers y) ∙ sym (attempt_length t (block_of t s) p e (is_in y reads) (is_in y writes) (s.draws y))
+  numbers : (p : ℕ) (e : Entry) (y : ℕ) → with_numbers reads writes s.tracing.numbers y
+      ≡ length (with_attempt t (block_of t s) p e reads writes s.draws y)
+  numbers p e y = ap (λ n. n + look_count reads y + own_count reads writes y) (r.numbers y)
+      ∙ sym (attempt_length t (block_of t s) p e (is_in y reads) (is_in y writes) (s.draws y))
 
-  number_here : (y : ℕ) → touches reads writes y ≡ true → Contains (line_tx reads writes s.tracing.numbers).numbers (record { var = y; nth = length (with_look (is_in y reads) t (block_of t s) (s.draws y)) })
-  number_here y i = subst (λ n. Contains (line_tx reads writes s.tracing.numbers).numbers (record { var = y; nth = n })) (ap (λ n. n + look_count reads y) (r.numbers y) ∙ sym (look_length t (block_of t s) (is_in y reads) (s.draws y))) (number_there reads writes s.tracing.numbers y i)
+  number_here : (y : ℕ) → touches reads writes y ≡ true
+      → Contains (line_tx reads writes s.tracing.numbers).numbers
+      (record { var = y; nth = length (with_look (is_in y reads) t (block_of t s) (s.draws y)) })
+  number_here y i = subst (λ n. Contains (line_tx reads writes s.tracing.numbers).numbers (record { var = y; nth = n }))
+      (ap (λ n. n + look_count reads y) (r.numbers y) ∙ sym (look_length t (block_of t s) (is_in y reads) (s.draws y)))
+      (number_there reads writes s.tracing.numbers y i)
 
   pub look_placed : IsPlaced s.history (draw t (block_of t s) (Looked (pos 0)))
-  look_placed = let b = block_here s now r t running in record { event = b.event; here = b.here; own = b.own; goes_on = block_goes_on s now r t running; is = tt }
+  look_placed = let b = block_here s now r t running
+      in record { event = b.event; here = b.here; own = b.own; goes_on = block_goes_on s now r t running; is = tt }
 
   block_near : block_of t s < length s.history
   block_near = let b = block_here s now r t running in slice_get_within s.history (block_of t s) b.event b.here
 
   old_near : (y : ℕ) (a : Draw) → Among (s.draws y) a → a.block < length s.history
-  old_near y a among = let f = each_at (DrawFits s.history y) (s.draws y) a (r.fit y) among in slice_get_within s.history a.block f.1.placed.event f.1.placed.here
+  old_near y a among = let f = each_at (DrawFits s.history y) (s.draws y) a (r.fit y) among
+      in slice_get_within s.history a.block f.1.placed.event f.1.placed.here
 
   pub commit_attempt : IsAttempt s.draws (Commit s.tracing.next (line_tx reads writes s.tracing.numbers)) reads writes
   commit_attempt = record {
     looks = λ y k l. let i = look_is reads writes s.tracing.numbers y k l.0 l.1 in (i.0, i.1 ∙ r.numbers y);
     own = λ y k o. let i = number_is reads writes s.tracing.numbers y k o in (i.0, i.1 ∙ ap (λ n. n + look_count reads y) (r.numbers y));
-    look_there = λ y i. let c = subst (λ n. Contains (line_tx reads writes s.tracing.numbers).looks (record { var = y; value = pos 0; nth = n })) (r.numbers y) (look_there reads writes s.tracing.numbers y i) in ((pos 0, c), c);
-    own_there = λ y i. let c = subst (λ n. Contains (line_tx reads writes s.tracing.numbers).numbers (record { var = y; nth = n + look_count reads y })) (r.numbers y) (number_there reads writes s.tracing.numbers y i) in (c, c);
+    look_there = λ y i. let c = subst (λ n. Contains (line_tx reads writes s.tracing.numbers).looks
+        (record { var = y; value = pos 0; nth = n })) (r.numbers y) (look_there reads writes s.tracing.numbers y i) in ((pos 0, c), c);
+    own_there = λ y i. let c = subst (λ n. Contains (line_tx reads writes s.tracing.numbers).numbers
+        (record { var = y; nth = n + look_count reads y })) (r.numbers y) (number_there reads writes s.tracing.numbers y i) in (c, c);
     number = λ y k n. n;
   }
 
@@ -106,8 +121,10 @@ module _ (s : Traced) (now : State) (r : IsRecorded s now) (t : ℕ) (running : 
   refused_attempt var = record {
     looks = λ y k l. let i = look_is reads writes s.tracing.numbers y k l.0 l.1 in (i.0, i.1 ∙ r.numbers y);
     own = λ y k o. let i = number_is reads writes s.tracing.numbers y k o in (i.0, i.1 ∙ ap (λ n. n + look_count reads y) (r.numbers y));
-    look_there = λ y i. let c = subst (λ n. Contains (line_tx reads writes s.tracing.numbers).looks (record { var = y; value = pos 0; nth = n })) (r.numbers y) (look_there reads writes s.tracing.numbers y i) in ((pos 0, c), c);
-    own_there = λ y i. let c = subst (λ n. Contains (line_tx reads writes s.tracing.numbers).numbers (record { var = y; nth = n + look_count reads y })) (r.numbers y) (number_there reads writes s.tracing.numbers y i) in (c, c);
+    look_there = λ y i. let c = subst (λ n. Contains (line_tx reads writes s.tracing.numbers).looks
+        (record { var = y; value = pos 0; nth = n })) (r.numbers y) (look_there reads writes s.tracing.numbers y i) in ((pos 0, c), c);
+    own_there = λ y i. let c = subst (λ n. Contains (line_tx reads writes s.tracing.numbers).numbers
+        (record { var = y; nth = n + look_count reads y })) (r.numbers y) (number_there reads writes s.tracing.numbers y i) in (c, c);
     number = λ y k n. n;
   }
 
@@ -123,18 +140,27 @@ module _ (s : Traced) (now : State) (r : IsRecorded s now) (t : ℕ) (running : 
         let b = n.1 in omega arith;
   }
 
-  pub look_fits : (h : List Stamp) (y : ℕ) → IsPlaced h (draw t (block_of t s) (Looked (pos 0))) → DrawFits h y (draw t (block_of t s) (Looked (pos 0))) (s.draws y)
-  look_fits h y p = record { placed = p; rises = λ a among own. own_below s now r t running y a among own; agrees = λ a among c f. absurd f; named = tt }
+  pub look_fits : (h : List Stamp) (y : ℕ) → IsPlaced h (draw t (block_of t s) (Looked (pos 0)))
+      → DrawFits h y (draw t (block_of t s) (Looked (pos 0))) (s.draws y)
+  look_fits h y p = record {
+    placed = p;
+    rises = λ a among own. own_below s now r t running y a among own;
+    agrees = λ a among c f. absurd f;
+    named = tt;
+  }
 
   -- a refused commit
   module _ (var : ℕ) where
     abbrev f : Entry
     f = Abort (line_tx reads writes s.tracing.numbers) (Raised var)
 
-    pub refused_fits : (y : ℕ) → touches reads writes y ≡ true → DrawFits s.history y (draw t (block_of t s) (Entered f)) (with_look (is_in y reads) t (block_of t s) (s.draws y))
+    pub refused_fits : (y : ℕ) → touches reads writes y ≡ true
+        → DrawFits s.history y (draw t (block_of t s) (Entered f)) (with_look (is_in y reads) t (block_of t s) (s.draws y))
     refused_fits y i = record {
-      placed = (let b = block_here s now r t running in record { event = b.event; here = b.here; own = b.own; goes_on = block_goes_on s now r t running; is = tt });
-      rises = among_cases (λ a. a.thread ≡ t → a.block ≤ block_of t s) t (block_of t s) (is_in y reads) (s.draws y) (λ own. omega arith) (λ a among own. own_below s now r t running y a among own);
+      placed = (let b = block_here s now r t running
+          in record { event = b.event; here = b.here; own = b.own; goes_on = block_goes_on s now r t running; is = tt });
+      rises = among_cases (λ a. a.thread ≡ t → a.block ≤ block_of t s) t (block_of t s) (is_in y reads) (s.draws y) (λ own. omega arith)
+          (λ a among own. own_below s now r t running y a among own);
       agrees = λ a among c z. absurd z;
       named = (number_here y i, tt);
     }
@@ -144,15 +170,21 @@ module _ (s : Traced) (now : State) (r : IsRecorded s now) (t : ℕ) (running : 
       allowed = r.allowed;
       next = r.next;
       numbers = numbers (block_of t s) f;
-      events = each_list (λ w es. AreEvents s.history w es) s.tracing.lists t f (events_push s.history t (s.tracing.lists t) (r.events t) f refl) (λ w other. r.events w);
+      events = each_list (λ w es. AreEvents s.history w es) s.tracing.lists t f
+          (events_push s.history t (s.tracing.lists t) (r.events t) f refl) (λ w other. r.events w);
       drawn = each_list (λ w es. AreDrawn (with_attempt t (block_of t s) (block_of t s) f reads writes s.draws) w es []) s.tracing.lists t f
-          (attempt_drawn s.draws t (block_of t s) (block_of t s) f reads writes (refused_attempt var) (s.tracing.lists t) (r.drawn t) (block_new (s.tracing.lists t) f (block_of t s) refl (block_is s now r t running)))
-          (λ w other. attempt_other s.draws t (block_of t s) (block_of t s) f reads writes (refused_attempt var) w (s.tracing.lists w) other (r.drawn w));
-      going = each_list (λ w es. now.threads w ≡ Running → IsGoing s.history w es) s.tracing.lists t f (λ runs. going_push s.history t (s.tracing.lists t) f refl (r.going t runs)) (λ w other runs. r.going w runs);
-      fit = λ y. each_attempt (DrawFits s.history y) t (block_of t s) (block_of t s) f (touches reads writes y) (is_in y reads) (s.draws y) (λ i. look_fits s.history y look_placed) (λ i. refused_fits y i) (r.fit y);
+          (attempt_drawn s.draws t (block_of t s) (block_of t s) f reads writes (refused_attempt var) (s.tracing.lists t) (r.drawn t)
+          (block_new (s.tracing.lists t) f (block_of t s) refl (block_is s now r t running)))
+          (λ w other. attempt_other s.draws t (block_of t s) (block_of t s) f reads writes (refused_attempt var) w (s.tracing.lists w)
+          other (r.drawn w));
+      going = each_list (λ w es. now.threads w ≡ Running → IsGoing s.history w es) s.tracing.lists t f
+          (λ runs. going_push s.history t (s.tracing.lists t) f refl (r.going t runs)) (λ w other runs. r.going w runs);
+      fit = λ y. each_attempt (DrawFits s.history y) t (block_of t s) (block_of t s) f (touches reads writes y) (is_in y reads) (s.draws y)
+          (λ i. look_fits s.history y look_placed) (λ i. refused_fits y i) (r.fit y);
       alone = alone_push s.tracing.lists t f r.alone (λ z. z);
       formed = formed_push s.tracing.lists t f r.formed names;
-      words = λ y. word_after y t (block_of t s) (block_of t s) f (touches reads writes y) (is_in y reads) (s.draws y) (λ w. absurd (let z : false ≡ true = w in cc)) (r.words y);
+      words = λ y. word_after y t (block_of t s) (block_of t s) f (touches reads writes y) (is_in y reads) (s.draws y)
+          (λ w. absurd (let z : false ≡ true = w in cc)) (r.words y);
       zeros = zeros_push s.tracing.lists t f r.zeros refl;
       quiet = r.quiet;
       zero_run = r.zero_run;
@@ -177,25 +209,38 @@ module _ (s : Traced) (now : State) (r : IsRecorded s now) (t : ℕ) (running : 
     is = ap Commits (sym (its_variables reads writes s.tracing.numbers));
   }
 
-  pub commit_fits : (y : ℕ) → touches reads writes y ≡ true → DrawFits (s.history ++ x ∷ []) y (draw t s.tracing.next (Entered e)) (with_look (is_in y reads) t (block_of t s) (s.draws y))
+  pub commit_fits : (y : ℕ) → touches reads writes y ≡ true
+      → DrawFits (s.history ++ x ∷ []) y (draw t s.tracing.next (Entered e)) (with_look (is_in y reads) t (block_of t s) (s.draws y))
   commit_fits y i = record {
     placed = commit_placed;
     rises = λ a among own. near a among;
     agrees = λ a among c z. near a among;
-    named = (number_here y i, subst (λ vs. Contains vs y) (sym (its_variables reads writes s.tracing.numbers)) (is_in-contains y (with_all writes reads) (is_in-touches reads writes y ∙ i)));
+    named = (
+      number_here y i,
+      subst (λ vs. Contains vs y) (sym (its_variables reads writes s.tracing.numbers))
+          (is_in-contains y (with_all writes reads) (is_in-touches reads writes y ∙ i)),
+    );
   }
     where
       near : (a : Draw) → Among (with_look (is_in y reads) t (block_of t s) (s.draws y)) a → a.block < s.tracing.next
-      near = among_cases (λ a. a.block < s.tracing.next) t (block_of t s) (is_in y reads) (s.draws y) (let b = block_near in let n = r.next in omega arith) (λ a among. let b = old_near y a among in let n = r.next in omega arith)
+      near = among_cases (λ a. a.block < s.tracing.next) t (block_of t s) (is_in y reads) (s.draws y) (let b = block_near in let n = r.next
+          in omega arith) (λ a among. let b = old_near y a among in let n = r.next in omega arith)
 
   block_new_event : BlockAt (s.tracing.lists t ++ e ∷ []) (length (s.tracing.lists t)) s.tracing.next
   block_new_event =
       let es = s.tracing.lists t in
-      let whole : take (suc (length es)) (es ++ e ∷ []) ≡ es ++ e ∷ [] = take_all (suc (length es)) (es ++ e ∷ []) (omega (arith, length-append es (e ∷ []))) in
+      let whole : take (suc (length es)) (es ++ e ∷ []) ≡ es ++ e
+      ∷ [] = take_all (suc (length es)) (es ++ e ∷ []) (omega (arith, length-append es (e ∷ []))) in
       ap last_position whole ∙ last_push es e
 
   pub look_grown : IsPlaced (s.history ++ x ∷ []) (draw t (block_of t s) (Looked (pos 0)))
-  look_grown = let p = look_placed in record { event = p.event; here = event_kept s.history (x ∷ []) (block_of t s) p.event p.here; own = p.own; goes_on = p.goes_on; is = tt }
+  look_grown = let p = look_placed in record {
+    event = p.event;
+    here = event_kept s.history (x ∷ []) (block_of t s) p.event p.here;
+    own = p.own;
+    goes_on = p.goes_on;
+    is = tt;
+  }
 
   step : Step trace_setting now x (pos 0) now
   step = record { may = running; effect = refl }
@@ -205,17 +250,25 @@ module _ (s : Traced) (now : State) (r : IsRecorded s now) (t : ℕ) (running : 
     allowed = allows_push trace_setting (start trace_setting) now now s.history x (pos 0) step r.allowed;
     next = ap (λ n. n + 1) r.next ∙ sym (length-append s.history (x ∷ []));
     numbers = numbers s.tracing.next e;
-    events = each_list (λ w es. AreEvents (s.history ++ x ∷ []) w es) s.tracing.lists t e (events_own s.history t (s.tracing.lists t) (r.events t) x e refl at (ap (λ vs. Some (Commits vs)) (its_variables reads writes s.tracing.numbers))) (λ w other. events_other s.history w (s.tracing.lists w) (r.events w) x (λ eq. other (sym eq)));
+    events = each_list (λ w es. AreEvents (s.history ++ x ∷ []) w es) s.tracing.lists t e
+        (events_own s.history t (s.tracing.lists t) (r.events t) x e refl at
+        (ap (λ vs. Some (Commits vs)) (its_variables reads writes s.tracing.numbers)))
+        (λ w other. events_other s.history w (s.tracing.lists w) (r.events w) x (λ eq. other (sym eq)));
     drawn = each_list (λ w es. AreDrawn (with_attempt t (block_of t s) s.tracing.next e reads writes s.draws) w es []) s.tracing.lists t e
-        (attempt_drawn s.draws t (block_of t s) s.tracing.next e reads writes commit_attempt (s.tracing.lists t) (r.drawn t) block_new_event)
-        (λ w other. attempt_other s.draws t (block_of t s) s.tracing.next e reads writes commit_attempt w (s.tracing.lists w) other (r.drawn w));
+        (attempt_drawn s.draws t (block_of t s) s.tracing.next e reads writes commit_attempt (s.tracing.lists t) (r.drawn t)
+        block_new_event)
+        (λ w other. attempt_other s.draws t (block_of t s) s.tracing.next e reads writes commit_attempt w (s.tracing.lists w) other
+        (r.drawn w));
     going = each_list (λ w es. now.threads w ≡ Running → IsGoing (s.history ++ x ∷ []) w es) s.tracing.lists t e
         (λ runs. going_new s.history t (s.tracing.lists t) x e at (λ over. cc))
         (λ w other runs. going_grows s.history (x ∷ []) w (s.tracing.lists w) (r.events w) (r.going w runs));
-    fit = λ y. each_attempt (DrawFits (s.history ++ x ∷ []) y) t (block_of t s) s.tracing.next e (touches reads writes y) (is_in y reads) (s.draws y) (λ i. look_fits (s.history ++ x ∷ []) y look_grown) (λ i. commit_fits y i) (fits_grow s.history (x ∷ []) y (s.draws y) (r.fit y));
+    fit = λ y. each_attempt (DrawFits (s.history ++ x ∷ []) y) t (block_of t s) s.tracing.next e (touches reads writes y) (is_in y reads)
+        (s.draws y) (λ i. look_fits (s.history ++ x ∷ []) y look_grown) (λ i. commit_fits y i)
+        (fits_grow s.history (x ∷ []) y (s.draws y) (r.fit y));
     alone = alone_push s.tracing.lists t e r.alone (λ z. z);
     formed = formed_push s.tracing.lists t e r.formed names;
-    words = λ y. word_after y t (block_of t s) s.tracing.next e (touches reads writes y) (is_in y reads) (s.draws y) (λ w. zero_in y writes) (r.words y);
+    words = λ y. word_after y t (block_of t s) s.tracing.next e (touches reads writes y) (is_in y reads) (s.draws y)
+        (λ w. zero_in y writes) (r.words y);
     zeros = zeros_push s.tracing.lists t e r.zeros refl;
     quiet = r.quiet;
     zero_run = zero_push trace_setting (start trace_setting) now now s.history x step r.zero_run;

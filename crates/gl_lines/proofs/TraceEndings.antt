@@ -44,9 +44,13 @@ over_recorded s now t r = record {
   allowed = r.allowed;
   next = r.next;
   numbers = r.numbers;
-  events = each_list (λ w es. AreEvents s.history w es) s.tracing.lists t (Over Halt) (events_push s.history t (s.tracing.lists t) (r.events t) (Over Halt) refl) (λ w other. r.events w);
-  drawn = each_list (λ w es. AreDrawn s.draws w es []) s.tracing.lists t (Over Halt) (drawn_push s.draws t (s.tracing.lists t) [] (Over Halt) (λ x k d. elim d [ inl a ↦ a | inr a ↦ a ]) (r.drawn t)) (λ w other. r.drawn w);
-  going = each_list (λ w es. now.threads w ≡ Running → IsGoing s.history w es) s.tracing.lists t (Over Halt) (λ runs. going_push s.history t (s.tracing.lists t) (Over Halt) refl (r.going t runs)) (λ w other runs. r.going w runs);
+  events = each_list (λ w es. AreEvents s.history w es) s.tracing.lists t (Over Halt)
+      (events_push s.history t (s.tracing.lists t) (r.events t) (Over Halt) refl) (λ w other. r.events w);
+  drawn = each_list (λ w es. AreDrawn s.draws w es []) s.tracing.lists t (Over Halt)
+      (drawn_push s.draws t (s.tracing.lists t) [] (Over Halt) (λ x k d. elim d [ inl a ↦ a | inr a ↦ a ]) (r.drawn t))
+      (λ w other. r.drawn w);
+  going = each_list (λ w es. now.threads w ≡ Running → IsGoing s.history w es) s.tracing.lists t (Over Halt)
+      (λ runs. going_push s.history t (s.tracing.lists t) (Over Halt) refl (r.going t runs)) (λ w other runs. r.going w runs);
   fit = r.fit;
   alone = alone_push s.tracing.lists t (Over Halt) r.alone (λ z. z);
   formed = formed_push s.tracing.lists t (Over Halt) r.formed tt;
@@ -63,7 +67,8 @@ IsOpen started over es now u = IsShaped over es × (is_empty es ≡ not started)
 -- and one whose list was
 abbrev pub IsClosed : Bool → List Entry → State → ℕ → Type 0
 IsClosed false es now u = (es ≡ []) × (now.threads u ≡ NeverForked)
-IsClosed true es now u = (before : List Entry) × (es ≡ before ++ Over Halt ∷ []) × IsShaped true before × (is_empty before ≡ false) × (now.threads u ≡ Ended)
+IsClosed true es now u = (before : List Entry) × (es ≡ before ++ Over Halt ∷ []) × IsShaped true before × (is_empty before ≡ false)
+    × (now.threads u ≡ Ended)
 
 -- the lists of the threads below n have ended
 pub record IsClosing (started : ℕ → Bool) (n : ℕ) (s : Traced) (now : State) : Type 0 where
@@ -76,9 +81,14 @@ pub record IsClosing (started : ℕ → Bool) (n : ℕ) (s : Traced) (now : Stat
   pub forks : (w i p u f : ℕ) (value : ℤ) → At (s.tracing.lists w) i (Sync p (Fork u f) value) → started u ≡ true
 
 module _ (started : ℕ → Bool) (n : ℕ) (s : Traced) (now : State) (k : IsClosing started n s now) where
-  kept_by : (e : Entry) → ((p u f : ℕ) (value : ℤ) → e ≡ Sync p (Fork u f) value → ⊥) → (R : Lists) → ((w i p u f : ℕ) (value : ℤ) → At (R w) i (Sync p (Fork u f) value) → started u ≡ true) → (w i p u f : ℕ) (value : ℤ) → At (with_entry R n e w) i (Sync p (Fork u f) value) → started u ≡ true
+  kept_by : (e : Entry) → ((p u f : ℕ) (value : ℤ) → e ≡ Sync p (Fork u f) value → ⊥) → (R : Lists)
+      → ((w i p u f : ℕ) (value : ℤ) → At (R w) i (Sync p (Fork u f) value) → started u ≡ true) → (w i p u f : ℕ) (value : ℤ)
+      → At (with_entry R n e w) i (Sync p (Fork u f) value) → started u ≡ true
   kept_by e no_fork R forks w i p u f value a = each_list (λ w es. (i : ℕ) → At es i (Sync p (Fork u f) value) → started u ≡ true) R n e
-      (λ i a. elim (at_cases (R n) e (Sync p (Fork u f) value) i a) [ inl old ↦ forks n i p u f value old | inr new ↦ absurd (no_fork p u f value (sym new.1)) ])
+      (λ i a. elim (at_cases (R n) e (Sync p (Fork u f) value) i a) [
+        | inl old ↦ forks n i p u f value old
+        | inr new ↦ absurd (no_fork p u f value (sym new.1))
+      ])
       (λ w other i a. forks w i p u f value a) w i a
 
   -- the thread never began
@@ -86,7 +96,10 @@ module _ (started : ℕ → Bool) (n : ℕ) (s : Traced) (now : State) (k : IsCl
   never e = record {
     recorded = k.recorded;
     open' = λ u le. k.open' u (omega arith);
-    closed = λ u lt. elim (cases_lt u n) [ inl less ↦ k.closed u less | inr ge ↦ (let same : n ≡ u = omega arith in subst (λ w. IsClosed (started w) (s.tracing.lists w) now w) same here) ];
+    closed = λ u lt. elim (cases_lt u n) [
+      | inl less ↦ k.closed u less
+      | inr ge ↦ (let same : n ≡ u = omega arith in subst (λ w. IsClosed (started w) (s.tracing.lists w) now w) same here)
+    ];
     few = k.few;
     began = k.began;
     forks = k.forks;
@@ -100,28 +113,46 @@ module _ (started : ℕ → Bool) (n : ℕ) (s : Traced) (now : State) (k : IsCl
       here =
           let o = k.open' n (omega arith) in
           let over = alive (s.tracing.ended n) refl in
-          subst (λ b. IsClosed b (s.tracing.lists n) now n) (sym e) (empty_is (s.tracing.lists n) (o.1 ∙ ap not e), o.2 ∙ ap (λ b. thread_of b (s.tracing.ended n)) e ∙ ap (thread_of false) over)
+          subst (λ b. IsClosed b (s.tracing.lists n) now n) (sym e) (
+            empty_is (s.tracing.lists n) (o.1 ∙ ap not e),
+            o.2
+                ∙ ap (λ b. thread_of b (s.tracing.ended n)) e ∙ ap (thread_of false) over,
+          )
 
   -- its list gets its Over, after its End
-  shut : (s' : Traced) (new : State) → IsRecorded s' new → started n ≡ true → (before : List Entry) → s'.tracing.lists n ≡ before → IsShaped true before → is_empty before ≡ false → new.threads n ≡ Ended →
-      ((u : ℕ) → u ≢ n → s'.tracing.lists u ≡ s.tracing.lists u) → ((u : ℕ) → u ≢ n → new.threads u ≡ now.threads u) → ((u : ℕ) → u ≢ n → s'.tracing.ended u ≡ s.tracing.ended u) →
-      ((w i p u f : ℕ) (value : ℤ) → At (s'.tracing.lists w) i (Sync p (Fork u f) value) → started u ≡ true) → IsClosing started (suc n) (over_of n s') new
+  shut : (s' : Traced) (new : State) → IsRecorded s' new → started n ≡ true → (before : List Entry) → s'.tracing.lists n ≡ before
+      → IsShaped true before → is_empty before ≡ false → new.threads n ≡ Ended →
+      ((u : ℕ) → u ≢ n → s'.tracing.lists u ≡ s.tracing.lists u) → ((u : ℕ) → u ≢ n → new.threads u ≡ now.threads u)
+      → ((u : ℕ) → u ≢ n → s'.tracing.ended u ≡ s.tracing.ended u) →
+      ((w i p u f : ℕ) (value : ℤ) → At (s'.tracing.lists w) i (Sync p (Fork u f) value) → started u ≡ true)
+      → IsClosing started (suc n) (over_of n s') new
   shut s' new r there before is shape some over lists threads ends forks = record {
     recorded = over_recorded s' new n r;
     open' = λ u le.
         let other : u ≢ n = (λ z. omega arith) in
         let o = k.open' u (omega arith) in
-        let list : with_entry s'.tracing.lists n (Over Halt) u ≡ s.tracing.lists u = entry_else s'.tracing.lists n u (Over Halt) other ∙ lists u other in
-        (subst (λ b. IsShaped b (with_entry s'.tracing.lists n (Over Halt) u)) (sym (ends u other)) (subst (IsShaped (s.tracing.ended u)) (sym list) o.0), ap is_empty list ∙ o.1, threads u other ∙ o.2 ∙ ap (thread_of (started u)) (sym (ends u other)));
+        let list : with_entry s'.tracing.lists n (Over Halt) u ≡ s.tracing.lists u = entry_else s'.tracing.lists n u (Over Halt) other
+        ∙ lists u other in (
+          subst (λ b. IsShaped b (with_entry s'.tracing.lists n (Over Halt) u)) (sym (ends u other))
+              (subst (IsShaped (s.tracing.ended u)) (sym list) o.0),
+          ap is_empty list ∙ o.1,
+          threads u other ∙ o.2
+              ∙ ap (thread_of (started u)) (sym (ends u other)),
+        );
     closed = λ u lt. elim (cases_lt u n) [
       | inl less ↦
           (let other : u ≢ n = (λ z. omega arith) in
-          let list : with_entry s'.tracing.lists n (Over Halt) u ≡ s.tracing.lists u = entry_else s'.tracing.lists n u (Over Halt) other ∙ lists u other in
+          let list : with_entry s'.tracing.lists n (Over Halt) u ≡ s.tracing.lists u = entry_else s'.tracing.lists n u (Over Halt) other
+          ∙ lists u other in
           moved (started u) u (sym list) (sym (threads u other)) (k.closed u less))
-      | inr ge ↦ (let same : n ≡ u = omega arith in subst (λ w. IsClosed (started w) (with_entry s'.tracing.lists n (Over Halt) w) new w) same here)
+      | inr ge ↦ (let same : n ≡ u = omega arith
+          in subst (λ w. IsClosed (started w) (with_entry s'.tracing.lists n (Over Halt) w) new w) same here)
     ];
     few = k.few;
-    began = λ u z. elim (ℕ_discrete u n) [ yes same ↦ subst (λ w. started w ≡ true) (sym same) there | no other ↦ k.began u (sym (ends u other) ∙ z) ];
+    began = λ u z. elim (ℕ_discrete u n) [
+      | yes same ↦ subst (λ w. started w ≡ true) (sym same) there
+      | no other ↦ k.began u (sym (ends u other) ∙ z)
+    ];
     forks = kept_by (Over Halt) (λ p u f v z. cc) s'.tracing.lists forks;
   }
     where
@@ -130,18 +161,26 @@ module _ (started : ℕ → Bool) (n : ℕ) (s : Traced) (now : State) (k : IsCl
       moved true u same t c = (c.0, sym same ∙ c.1, c.2, c.3, sym t ∙ c.4)
 
       here : IsClosed (started n) (with_entry s'.tracing.lists n (Over Halt) n) new n
-      here = subst (λ b. IsClosed b (with_entry s'.tracing.lists n (Over Halt) n) new n) (sym there) (before, entry_own s'.tracing.lists n (Over Halt) ∙ ap (λ es. es ++ Over Halt ∷ []) is, shape, some, over)
+      here = subst (λ b. IsClosed b (with_entry s'.tracing.lists n (Over Halt) n) new n) (sym there)
+          (before, entry_own s'.tracing.lists n (Over Halt) ∙ ap (λ es. es ++ Over Halt ∷ []) is, shape, some, over)
 
   ended_before : started n ≡ true → s.tracing.ended n ≡ true → (new : State) × IsClosing started (suc n) (over_of n s) new
   ended_before there over =
-      let o = k.open' n (omega arith) in
-      (now, shut s now k.recorded there (s.tracing.lists n) refl (subst (λ b. IsShaped b (s.tracing.lists n)) over o.0) (o.1 ∙ ap not there) (o.2 ∙ ap (thread_of (started n)) over) (λ u z. refl) (λ u z. refl) (λ u z. refl) k.forks)
+      let o = k.open' n (omega arith) in (
+        now,
+        shut s now k.recorded there (s.tracing.lists n) refl (subst (λ b. IsShaped b (s.tracing.lists n)) over o.0) (o.1
+            ∙ ap not there) (o.2 ∙ ap (thread_of (started n)) over) (λ u z. refl) (λ u z. refl) (λ u z. refl) k.forks,
+      )
 
   runs_still : started n ≡ true → s.tracing.ended n ≡ false → (new : State) × IsClosing started (suc n) (over_of n (with_last n s)) new
   runs_still there alive = (
     new,
-    shut (with_last n s) new recorded there (s.tracing.lists n ++ Sync s.tracing.next End (pos 0) ∷ []) (entry_own s.tracing.lists n (Sync s.tracing.next End (pos 0))) (shaped_end (s.tracing.lists n) s.tracing.next (subst (λ b. IsShaped b (s.tracing.lists n)) alive o.0) some) (some_more (s.tracing.lists n)) (with_at-here now.threads n Ended)
-        (λ u other. entry_else s.tracing.lists n u (Sync s.tracing.next End (pos 0)) other) (λ u other. with_at-else now.threads n u Ended other) (λ u other. ended_else u other)
+    shut (with_last n s) new recorded there (s.tracing.lists n ++ Sync s.tracing.next End (pos 0) ∷ [])
+        (entry_own s.tracing.lists n (Sync s.tracing.next End (pos 0)))
+        (shaped_end (s.tracing.lists n) s.tracing.next (subst (λ b. IsShaped b (s.tracing.lists n)) alive o.0) some)
+        (some_more (s.tracing.lists n)) (with_at-here now.threads n Ended)
+        (λ u other. entry_else s.tracing.lists n u (Sync s.tracing.next End (pos 0)) other)
+        (λ u other. with_at-else now.threads n u Ended other) (λ u other. ended_else u other)
         (kept_by (Sync s.tracing.next End (pos 0)) (λ p u f v z. cc) s.tracing.lists k.forks),
   )
     where
@@ -168,16 +207,21 @@ module _ (started : ℕ → Bool) (n : ℕ) (s : Traced) (now : State) (k : IsCl
       step = record { may = running; effect = refl }
 
       recorded : IsRecorded (with_last n s) (record now { threads = with_at now.threads n Ended })
-      recorded = last_recorded s (record now { threads = with_at now.threads n Ended }) n (event_recorded s now k.recorded n End (record now { threads = with_at now.threads n Ended }) step k.recorded.quiet (λ r. absurd (let z : Ended ≡ Running = sym (with_at-here now.threads n Ended) ∙ r in cc)) (λ w other r. sym (with_at-else now.threads n w Ended other) ∙ r))
+      recorded = last_recorded s (record now { threads = with_at now.threads n Ended }) n
+          (event_recorded s now k.recorded n End (record now { threads = with_at now.threads n Ended }) step k.recorded.quiet
+          (λ r. absurd (let z : Ended ≡ Running = sym (with_at-here now.threads n Ended) ∙ r in cc))
+          (λ w other r. sym (with_at-else now.threads n w Ended other) ∙ r))
 
   pub one_closed : (new : State) × IsClosing started (suc n) (ending_of n s) new
   one_closed = outer (started n) refl (is_empty (s.tracing.lists n)) ((k.open' n (omega arith)).1)
     where
-      inner : started n ≡ true → (b : Bool) → s.tracing.ended n ≡ b → (new : State) × IsClosing started (suc n) (over_of n (if b then s else with_last n s)) new
+      inner : started n ≡ true → (b : Bool) → s.tracing.ended n ≡ b → (new : State)
+          × IsClosing started (suc n) (over_of n (if b then s else with_last n s)) new
       inner there true e = ended_before there e
       inner there false e = runs_still there e
 
-      outer : (a : Bool) → started n ≡ a → (b : Bool) → b ≡ not (started n) → (new : State) × IsClosing started (suc n) (if b then s else over_of n (if s.tracing.ended n then s else with_last n s)) new
+      outer : (a : Bool) → started n ≡ a → (b : Bool) → b ≡ not (started n) → (new : State)
+          × IsClosing started (suc n) (if b then s else over_of n (if s.tracing.ended n then s else with_last n s)) new
       outer false e true z = (now, never e)
       outer false e false z = absurd (let y : false ≡ true = z ∙ ap not e in cc)
       outer true e true z = absurd (let y : true ≡ false = z ∙ ap not e in cc)
@@ -187,7 +231,8 @@ module _ (started : ℕ → Bool) (n : ℕ) (s : Traced) (now : State) (k : IsCl
 ending_tracing : (t : ℕ) (s : Traced) → (ending_of t s).tracing ≡ with_ending t s.tracing
 ending_tracing t s = outer (is_empty (s.tracing.lists t)) (s.tracing.ended t)
   where
-    outer : (a b : Bool) → (if a then s else over_of t (if b then s else with_last t s)).tracing ≡ (if a then s.tracing else with_over t (if b then s.tracing else with_end t s.tracing))
+    outer : (a b : Bool) → (if a then s else over_of t (if b then s else with_last t s)).tracing
+        ≡ (if a then s.tracing else with_over t (if b then s.tracing else with_end t s.tracing))
     outer true b = refl
     outer false true = refl
     outer false false = refl
@@ -217,4 +262,5 @@ module _ (lines : List Line) (sound : AreSound lines) where
   all_closed = closing THREADS
 
   pub whole_lists : (endings_of THREADS (traced lines)).tracing.lists ≡ trace_record lines
-  whole_lists = ap (λ (z : Tracing). z.lists) (endings_tracing THREADS (traced lines)) ∙ ap (λ (z : Tracing). (with_endings THREADS z).lists) (each_tracing lines Rattle.gl_lines.specs.Traced.at_first)
+  whole_lists = ap (λ (z : Tracing). z.lists) (endings_tracing THREADS (traced lines))
+      ∙ ap (λ (z : Tracing). (with_endings THREADS z).lists) (each_tracing lines Rattle.gl_lines.specs.Traced.at_first)

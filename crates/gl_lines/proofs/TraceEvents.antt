@@ -33,11 +33,13 @@ pub record DrawFits (h : List Stamp) (x : ℕ) (d : Draw) (ds : List Draw) : Typ
   pub named : IsNamed x (length ds) d.what
 
 -- with what was said of it
-pub fits_holds : (h : List Stamp) (x : ℕ) (d : Draw) (ds : List Draw) → DrawFits h x d ds → IsRight h x ds d.thread d.block d.what → DrawHolds h x d ds
+pub fits_holds : (h : List Stamp) (x : ℕ) (d : Draw) (ds : List Draw) → DrawFits h x d ds → IsRight h x ds d.thread d.block d.what
+    → DrawHolds h x d ds
 fits_holds h x d ds f r = record { placed = f.placed; rises = f.rises; agrees = f.agrees; named = f.named; right = r }
 
 pub fits_grow : (h more : List Stamp) (x : ℕ) (ds : List Draw) → EachDraw (DrawFits h x) ds → EachDraw (DrawFits (h ++ more) x) ds
-fits_grow h more x ds all = each_map (DrawFits h x) (DrawFits (h ++ more) x) (λ d es f. record { placed = placed_grows h more d f.placed; rises = f.rises; agrees = f.agrees; named = f.named }) ds all
+fits_grow h more x ds all = each_map (DrawFits h x) (DrawFits (h ++ more) x)
+    (λ d es f. record { placed = placed_grows h more d f.placed; rises = f.rises; agrees = f.agrees; named = f.named }) ds all
 
 -- thread t has a last event, which is no End
 pub record IsGoing (h : List Stamp) (t : ℕ) (es : List Entry) : Type 0 where
@@ -50,7 +52,8 @@ abbrev pub RunsZero : Setting → State → List Stamp → State → Type 0
 RunsZero setting old [] new = new ≡ old
 RunsZero setting old (s ∷ rest) new = (mid : State) × Step setting old s (pos 0) mid × RunsZero setting mid rest new
 
-pub zero_push : (setting : Setting) (old mid new : State) (l : List Stamp) (s : Stamp) → Step setting mid s (pos 0) new → RunsZero setting old l mid → RunsZero setting old (l ++ s ∷ []) new
+pub zero_push : (setting : Setting) (old mid new : State) (l : List Stamp) (s : Stamp) → Step setting mid s (pos 0) new
+    → RunsZero setting old l mid → RunsZero setting old (l ++ s ∷ []) new
 zero_push setting old mid new [] s step r = (new, subst (λ k. Step setting k s (pos 0) new) r step, refl)
 zero_push setting old mid new (x ∷ l) s step r = (r.0, r.1, zero_push setting r.0 mid new l s step r.2)
 
@@ -78,44 +81,70 @@ entry_own R t e = let b : (t == t) ≡ true = eq-eqb t t refl in rw b refl
 pub entry_else : (R : Lists) (t w : ℕ) (e : Entry) → w ≢ t → with_entry R t e w ≡ R w
 entry_else R t w e other = let b : (w == t) ≡ false = ne_eqb w t other in rw b refl
 
-pub each_list : (P : ℕ → List Entry → Type 0) (R : Lists) (t : ℕ) (e : Entry) → P t (R t ++ e ∷ []) → ((w : ℕ) → w ≢ t → P w (R w)) → (w : ℕ) → P w (with_entry R t e w)
+pub each_list : (P : ℕ → List Entry → Type 0) (R : Lists) (t : ℕ) (e : Entry) → P t (R t ++ e ∷ []) → ((w : ℕ) → w ≢ t → P w (R w))
+    → (w : ℕ) → P w (with_entry R t e w)
 each_list P R t e own others w = elim (ℕ_discrete w t) [
   | yes same ↦ subst (λ z. P z (with_entry R t e z)) (sym same) (subst (P t) (sym (entry_own R t e)) own)
   | no other ↦ subst (P w) (sym (entry_else R t w e other)) (others w other)
 ]
 
 -- no repeat comes by an entry that is none
-pub alone_push : (R : Lists) (t : ℕ) (e : Entry) → ((c : Place) (f : Entry) → EntryAt R c f → IsRepeat f → ⊥) → (IsRepeat e → ⊥) → (c : Place) (f : Entry) → EntryAt (with_entry R t e) c f → IsRepeat f → ⊥
+pub alone_push : (R : Lists) (t : ℕ) (e : Entry) → ((c : Place) (f : Entry) → EntryAt R c f → IsRepeat f → ⊥) → (IsRepeat e → ⊥)
+    → (c : Place) (f : Entry) → EntryAt (with_entry R t e) c f → IsRepeat f → ⊥
 alone_push R t e alone none c f there = each_list (λ w es. (i : ℕ) (g : Entry) → At es i g → IsRepeat g → ⊥) R t e
-    (λ i g at r. elim (at_cases (R t) e g i at) [ inl old ↦ alone (record { thread = t; index = i }) g old r | inr new ↦ none (subst IsRepeat new.1 r) ])
+    (λ i g at r. elim (at_cases (R t) e g i at) [
+      | inl old ↦ alone (record { thread = t; index = i }) g old r
+      | inr new ↦ none (subst IsRepeat new.1 r)
+    ])
     (λ w other i g at. alone (record { thread = w; index = i }) g at) c.thread c.index f there
 
 -- so does the form of each entry
-pub formed_push : (R : Lists) (t : ℕ) (e : Entry) → ((c : Place) (f : Entry) → EntryAt R c f → EntryForm c.thread f) → EntryForm t e → (c : Place) (f : Entry) → EntryAt (with_entry R t e) c f → EntryForm c.thread f
+pub formed_push : (R : Lists) (t : ℕ) (e : Entry) → ((c : Place) (f : Entry) → EntryAt R c f → EntryForm c.thread f) → EntryForm t e
+    → (c : Place) (f : Entry) → EntryAt (with_entry R t e) c f → EntryForm c.thread f
 formed_push R t e formed form c f there = each_list (λ w es. (i : ℕ) (g : Entry) → At es i g → EntryForm w g) R t e
-    (λ i g at. elim (at_cases (R t) e g i at) [ inl old ↦ formed (record { thread = t; index = i }) g old | inr new ↦ subst (EntryForm t) (sym new.1) form ])
+    (λ i g at. elim (at_cases (R t) e g i at) [
+      | inl old ↦ formed (record { thread = t; index = i }) g old
+      | inr new ↦ subst (EntryForm t) (sym new.1) form
+    ])
     (λ w other i g at. formed (record { thread = w; index = i }) g at) c.thread c.index f there
 
 -- and its value
-pub zeros_push : (R : Lists) (t : ℕ) (e : Entry) → ((c : Place) (f : Entry) → EntryAt R c f → value_of f ≡ pos 0) → value_of e ≡ pos 0 → (c : Place) (f : Entry) → EntryAt (with_entry R t e) c f → value_of f ≡ pos 0
+pub zeros_push : (R : Lists) (t : ℕ) (e : Entry) → ((c : Place) (f : Entry) → EntryAt R c f → value_of f ≡ pos 0) → value_of e ≡ pos 0
+    → (c : Place) (f : Entry) → EntryAt (with_entry R t e) c f → value_of f ≡ pos 0
 zeros_push R t e zeros own c f there = each_list (λ w es. (i : ℕ) (g : Entry) → At es i g → value_of g ≡ pos 0) R t e
-    (λ i g at. elim (at_cases (R t) e g i at) [ inl old ↦ zeros (record { thread = t; index = i }) g old | inr new ↦ ap value_of new.1 ∙ own ])
+    (λ i g at. elim (at_cases (R t) e g i at) [
+      | inl old ↦ zeros (record { thread = t; index = i }) g old
+      | inr new ↦ ap value_of new.1
+          ∙ own
+    ])
     (λ w other i g at. zeros (record { thread = w; index = i }) g at) c.thread c.index f there
 
 -- a thread that goes on does so when the list of events grows
 pub going_grows : (h more : List Stamp) (t : ℕ) (es : List Entry) → AreEvents h t es → IsGoing h t es → IsGoing (h ++ more) t es
 going_grows h more t es k g =
     let l = last_own h t es k g.position g.last in
-    record { position = g.position; last = g.last; goes_on = λ s e. g.goes_on s (event_back h more g.position s (slice_get_within h g.position l.event l.here) e) }
+    record {
+      position = g.position;
+      last = g.last;
+      goes_on = λ s e. g.goes_on s (event_back h more g.position s (slice_get_within h g.position l.event l.here) e);
+    }
 
 -- the list of a thread whose own event is new
-pub going_new : (h : List Stamp) (t : ℕ) (es : List Entry) (x : Stamp) (e : Entry) → position_of e ≡ Some (length h) → x.event ≢ Does End → IsGoing (h ++ x ∷ []) t (es ++ e ∷ [])
-going_new h t es x e at goes = record { position = length h; last = last_push es e ∙ ap (λ o. Rattle.gl_draws.specs.Ties.or_else o (last_position es)) at; goes_on = λ s here over. goes (rw (same s here) over) }
+pub going_new : (h : List Stamp) (t : ℕ) (es : List Entry) (x : Stamp) (e : Entry) → position_of e ≡ Some (length h) → x.event ≢ Does End
+    → IsGoing (h ++ x ∷ []) t (es ++ e ∷ [])
+going_new h t es x e at goes = record {
+  position = length h;
+  last = last_push es e
+      ∙ ap (λ o. Rattle.gl_draws.specs.Ties.or_else o (last_position es)) at;
+  goes_on = λ s here over. goes (rw (same s here) over);
+}
   where
     same : (s : Stamp) → EventAt (h ++ x ∷ []) (length h) s → x.event ≡ s.event
     same s here = let new = new_event h x in let eq : x ≡ s = cc in ap (λ (z : Stamp). z.event) eq
 
-module _ (s : Traced) (now : State) (r : IsRecorded s now) (t : ℕ) (act : Act) (new : State) (step : Step trace_setting now (record { thread = t; event = Does act }) (pos 0) new) (calm : (v : ℕ) → new.volatiles v ≡ pos 0) (stays : new.threads t ≡ Running → act ≢ End) (others : (w : ℕ) → w ≢ t → new.threads w ≡ Running → now.threads w ≡ Running) where
+module _ (s : Traced) (now : State) (r : IsRecorded s now) (t : ℕ) (act : Act) (new : State)
+    (step : Step trace_setting now (record { thread = t; event = Does act }) (pos 0) new) (calm : (v : ℕ) → new.volatiles v ≡ pos 0)
+    (stays : new.threads t ≡ Running → act ≢ End) (others : (w : ℕ) → w ≢ t → new.threads w ≡ Running → now.threads w ≡ Running) where
   abbrev x : Stamp
   x = record { thread = t; event = Does act }
 
@@ -134,8 +163,11 @@ module _ (s : Traced) (now : State) (r : IsRecorded s now) (t : ℕ) (act : Act)
     allowed = allows_push trace_setting (start trace_setting) now new s.history x (pos 0) step r.allowed;
     next = ap (λ n. n + 1) r.next ∙ sym (length-append s.history (x ∷ []));
     numbers = r.numbers;
-    events = each_list (λ w es. AreEvents (s.history ++ x ∷ []) w es) s.tracing.lists t e (events_own s.history t (s.tracing.lists t) (r.events t) x e refl at refl) (λ w other. events_other s.history w (s.tracing.lists w) (r.events w) x (λ eq. other (sym eq)));
-    drawn = each_list (λ w es. AreDrawn s.draws w es []) s.tracing.lists t e (drawn_push s.draws t (s.tracing.lists t) [] e none (r.drawn t)) (λ w other. r.drawn w);
+    events = each_list (λ w es. AreEvents (s.history ++ x ∷ []) w es) s.tracing.lists t e
+        (events_own s.history t (s.tracing.lists t) (r.events t) x e refl at refl)
+        (λ w other. events_other s.history w (s.tracing.lists w) (r.events w) x (λ eq. other (sym eq)));
+    drawn = each_list (λ w es. AreDrawn s.draws w es []) s.tracing.lists t e
+        (drawn_push s.draws t (s.tracing.lists t) [] e none (r.drawn t)) (λ w other. r.drawn w);
     going = each_list (λ w es. new.threads w ≡ Running → IsGoing (s.history ++ x ∷ []) w es) s.tracing.lists t e
         (λ runs. going_new s.history t (s.tracing.lists t) x e at (λ over. stays runs (let z : act ≡ End = cc in z)))
         (λ w other runs. going_grows s.history (x ∷ []) w (s.tracing.lists w) (r.events w) (r.going w (others w other runs)));
@@ -150,4 +182,18 @@ module _ (s : Traced) (now : State) (r : IsRecorded s now) (t : ℕ) (act : Act)
 
 -- the same with the mark that the thread has ended
 pub last_recorded : (s : Traced) (now : State) (t : ℕ) → IsRecorded (with_event t End s) now → IsRecorded (with_last t s) now
-last_recorded s now t r = record { allowed = r.allowed; next = r.next; numbers = r.numbers; events = r.events; drawn = r.drawn; going = r.going; fit = r.fit; alone = r.alone; formed = r.formed; words = r.words; zeros = r.zeros; quiet = r.quiet; zero_run = r.zero_run }
+last_recorded s now t r = record {
+  allowed = r.allowed;
+  next = r.next;
+  numbers = r.numbers;
+  events = r.events;
+  drawn = r.drawn;
+  going = r.going;
+  fit = r.fit;
+  alone = r.alone;
+  formed = r.formed;
+  words = r.words;
+  zeros = r.zeros;
+  quiet = r.quiet;
+  zero_run = r.zero_run;
+}

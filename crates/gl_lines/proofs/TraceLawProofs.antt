@@ -34,7 +34,8 @@ act_tracing t (VWrite v) s = refl
 act_tracing t (Fork u f) s = refl
 act_tracing t (Join u) s = here (s.tracing.ended u)
   where
-    here : (b : Bool) → (if b then with_event t (Join u) s else with_event t (Join u) (with_last u s)).tracing ≡ (if b then (with_event t (Join u) s).tracing else (with_event t (Join u) (with_last u s)).tracing)
+    here : (b : Bool) → (if b then with_event t (Join u) s else with_event t (Join u) (with_last u s)).tracing
+        ≡ (if b then (with_event t (Join u) s).tracing else (with_event t (Join u) (with_last u s)).tracing)
     here true = refl
     here false = refl
 act_tracing t (Alloc c) s = refl
@@ -42,7 +43,8 @@ act_tracing t Print s = refl
 act_tracing t Input s = refl
 act_tracing t (Fail c) s = refl
 
-item_tracing : (t : ℕ) (item : Item) (judged : Judged) (s : Traced) → (after_item t item judged s).tracing ≡ with_item t item judged s.tracing
+item_tracing : (t : ℕ) (item : Item) (judged : Judged) (s : Traced) → (after_item t item judged s).tracing
+    ≡ with_item t item judged s.tracing
 item_tracing t (Acts act) judged s = act_tracing t act s
 item_tracing t (Access x write) NoAccess s = refl
 item_tracing t (Access x write) Performed s = refl
@@ -80,8 +82,10 @@ module _ (lines : List Line) (l : Line) (sound : AreSound (lines ++ l ∷ [])) w
     in_range = λ k m e. sound.in_range k m (get_front lines (l ∷ []) k m e);
     clean = λ k s e.
         let near = slice_get_within (steps_of lines) k s e in
-        let f = sound.clean k s (subst (λ ss. slice_get ss k ≡ Some s) (sym (steps_push lines l)) (get_front (steps_of lines) ((l.thread, l.item) ∷ []) k s e)) in
-        subst (λ ss. step_fault ss s.0 s.1 ≡ None) (ap (take k) (steps_push lines l) ∙ take-append-le k (steps_of lines) ((l.thread, l.item) ∷ []) (omega arith)) f;
+        let f = sound.clean k s (subst (λ ss. slice_get ss k ≡ Some s) (sym (steps_push lines l))
+        (get_front (steps_of lines) ((l.thread, l.item) ∷ []) k s e)) in
+        subst (λ ss. step_fault ss s.0 s.1 ≡ None) (ap (take k) (steps_push lines l)
+        ∙ take-append-le k (steps_of lines) ((l.thread, l.item) ∷ []) (omega arith)) f;
   }
 
   pub last_in_range : IsStep (l.thread, l.item)
@@ -89,13 +93,19 @@ module _ (lines : List Line) (l : Line) (sound : AreSound (lines ++ l ∷ [])) w
 
   pub last_clean : step_fault (steps_of lines) l.thread l.item ≡ None
   last_clean =
-      let e : slice_get (steps_of lines ++ (l.thread, l.item) ∷ []) (length (steps_of lines)) ≡ Some (l.thread, l.item) = get_last (steps_of lines) (l.thread, l.item) in
-      let f = sound.clean (length (steps_of lines)) (l.thread, l.item) (subst (λ ss. slice_get ss (length (steps_of lines)) ≡ Some (l.thread, l.item)) (sym (steps_push lines l)) e) in
-      let front : take (length (steps_of lines)) (steps_of (lines ++ l ∷ [])) ≡ steps_of lines = ap (take (length (steps_of lines))) (steps_push lines l) ∙ (take-append-le (length (steps_of lines)) (steps_of lines) ((l.thread, l.item) ∷ []) (omega arith) ∙ take_all (length (steps_of lines)) (steps_of lines) (omega arith)) in
+      let e : slice_get (steps_of lines ++ (l.thread, l.item) ∷ []) (length (steps_of lines))
+      ≡ Some (l.thread, l.item) = get_last (steps_of lines) (l.thread, l.item) in
+      let f = sound.clean (length (steps_of lines)) (l.thread, l.item)
+      (subst (λ ss. slice_get ss (length (steps_of lines)) ≡ Some (l.thread, l.item)) (sym (steps_push lines l)) e) in
+      let front : take (length (steps_of lines)) (steps_of (lines ++ l ∷ []))
+      ≡ steps_of lines = ap (take (length (steps_of lines))) (steps_push lines l)
+      ∙ (take-append-le (length (steps_of lines)) (steps_of lines) ((l.thread, l.item) ∷ []) (omega arith)
+      ∙ take_all (length (steps_of lines)) (steps_of lines) (omega arith)) in
       subst (λ ss. step_fault ss l.thread l.item ≡ None) front f
 
   pub last_runs : is_running (steps_of lines) l.thread ≡ true
-  last_runs = (clean_parts (is_too_wide l.item) (is_running (steps_of lines) l.thread) (item_fault (steps_of lines) l.thread l.item) last_clean).1
+  last_runs = (clean_parts (is_too_wide l.item) (is_running (steps_of lines) l.thread) (item_fault (steps_of lines) l.thread l.item)
+      last_clean).1
 
 -- what is said of a line, in the record behind it
 abbrev pub JudgedThere : List Line → Line → Type 0
@@ -119,7 +129,8 @@ verdicts_push lines l all last k m e = elim (cases_lt k (length lines)) [
       let at = get_last lines l in
       let e' : slice_get (lines ++ l ∷ []) (length lines) ≡ Some m = subst (λ j. slice_get (lines ++ l ∷ []) j ≡ Some m) here e in
       let same : l ≡ m = cc in
-      let whole : take (k + 1) (lines ++ l ∷ []) ≡ lines ++ l ∷ [] = take_all (k + 1) (lines ++ l ∷ []) (omega (arith, length-append lines (l ∷ []))) in
+      let whole : take (k + 1) (lines ++ l ∷ []) ≡ lines ++ l
+      ∷ [] = take_all (k + 1) (lines ++ l ∷ []) (omega (arith, length-append lines (l ∷ []))) in
       subst (λ ls. JudgedThere ls m) (sym whole) (subst (λ (z : Line). JudgedThere (lines ++ l ∷ []) z) same last))
 ]
 
@@ -134,13 +145,19 @@ tied_law lines sound = let t = sound_traced lines sound in made t.0 t.1
   where
     made : (now : State) → IsTraced (steps_of lines) (traced lines) now → AreTraced lines
     made now t = record {
-      events = subst (λ (R : Lists). (u : ℕ) → Rattle.gl_draws.specs.Events.AreEvents (history lines) u (R u)) (lists_are lines) t.recorded.events;
-      tied = record { at = subst (λ (R : Lists). (u : ℕ) → Rattle.gl_draws.specs.Ties.AreDrawn (draws_of lines) u (R u) []) (lists_are lines) t.recorded.drawn };
-      alone = subst (λ (R : Lists). (c : Place) (e : Rattle.gl_model.specs.Entries.Entry) → Rattle.gl_model.specs.Records.EntryAt R c e → Rattle.gl_draws.specs.Ties.IsRepeat e → ⊥) (lists_are lines) t.recorded.alone;
+      events = subst (λ (R : Lists). (u : ℕ) → Rattle.gl_draws.specs.Events.AreEvents (history lines) u (R u)) (lists_are lines)
+          t.recorded.events;
+      tied = record {
+        at = subst (λ (R : Lists). (u : ℕ) → Rattle.gl_draws.specs.Ties.AreDrawn (draws_of lines) u (R u) [])
+            (lists_are lines) t.recorded.drawn;
+      };
+      alone = subst (λ (R : Lists). (c : Place) (e : Rattle.gl_model.specs.Entries.Entry) → Rattle.gl_model.specs.Records.EntryAt R c e
+          → Rattle.gl_draws.specs.Ties.IsRepeat e → ⊥) (lists_are lines) t.recorded.alone;
     }
 
 module _ (lines : List Line) (sound : AreSound lines) (right : AreVerdicts lines) where
-  holds_to : (k : ℕ) → k ≤ length lines → (x : ℕ) → DrawsHold (after_each (take k lines) at_first).history x ((after_each (take k lines) at_first).draws x)
+  holds_to : (k : ℕ) → k ≤ length lines → (x : ℕ)
+      → DrawsHold (after_each (take k lines) at_first).history x ((after_each (take k lines) at_first).draws x)
   holds_to zero le x = tt
   holds_to (suc k) le x = elim ((slice_get_cases lines k).1) [
     | inl c ↦
@@ -149,15 +166,21 @@ module _ (lines : List Line) (sound : AreSound lines) (right : AreVerdicts lines
         let before = up_to lines sound k (omega arith) in
         let s = after_each (take k lines) at_first in
         let clean = sound.clean k (l.thread, l.item) (step_at lines sound k l e) in
-        let parts = clean_parts (is_too_wide l.item) (is_running (take k (steps_of lines)) l.thread) (item_fault (take k (steps_of lines)) l.thread l.item) clean in
+        let parts = clean_parts (is_too_wide l.item) (is_running (take k (steps_of lines)) l.thread)
+        (item_fault (take k (steps_of lines)) l.thread l.item) clean in
         let running = runs (take k (steps_of lines)) before.0 before.1.state l.thread parts.1 in
         let more : k + 1 ≡ suc k = add-one k in
-        let whole : after_each (take (suc k) lines) at_first ≡ after_line l s = ap (λ ls. after_each ls at_first) (take_one lines k l e) ∙ each_push (take k lines) l at_first in
-        let lists : lists_behind (take (k + 1) lines) ≡ (after_line l s).tracing.lists = ap (λ n. lists_behind (take n lines)) more ∙ sym (lists_are (take (suc k) lines)) ∙ ap (λ (z : Traced). z.tracing.lists) whole in
-        let judged : IsJudgedRightly (after_line l s).tracing.lists (last_place (after_line l s).tracing.lists l.thread) l.item l.judged = subst (λ (R : Lists). IsJudgedRightly R (last_place R l.thread) l.item l.judged) lists (right k l e) in
-        subst (λ (z : Traced). (x : ℕ) → DrawsHold z.history x (z.draws x)) (sym whole) (item_holds s before.0 before.1.recorded l.thread running (λ y. holds_to k (omega arith) y) l.item l.judged judged) x)
+        let whole : after_each (take (suc k) lines) at_first ≡ after_line l s = ap (λ ls. after_each ls at_first) (take_one lines k l e)
+        ∙ each_push (take k lines) l at_first in
+        let lists : lists_behind (take (k + 1) lines) ≡ (after_line l s).tracing.lists = ap (λ n. lists_behind (take n lines)) more
+        ∙ sym (lists_are (take (suc k) lines)) ∙ ap (λ (z : Traced). z.tracing.lists) whole in
+        let judged : IsJudgedRightly (after_line l s).tracing.lists (last_place (after_line l s).tracing.lists l.thread) l.item l.judged =
+        subst (λ (R : Lists). IsJudgedRightly R (last_place R l.thread) l.item l.judged) lists (right k l e) in
+        subst (λ (z : Traced). (x : ℕ) → DrawsHold z.history x (z.draws x)) (sym whole)
+        (item_holds s before.0 before.1.recorded l.thread running (λ y. holds_to k (omega arith) y) l.item l.judged judged) x)
     | inr c ↦ absurd (let m = c.0 in omega arith)
   ]
 
 pub hold_law : VerdictsHold
-hold_law lines sound right = subst (λ ls. (x : ℕ) → DrawsHold (history ls) x (draws_of ls x)) (take_all (length lines) lines (omega arith)) (holds_to lines sound right (length lines) (omega arith))
+hold_law lines sound right = subst (λ ls. (x : ℕ) → DrawsHold (history ls) x (draws_of ls x)) (take_all (length lines) lines (omega arith))
+    (holds_to lines sound right (length lines) (omega arith))

@@ -21,7 +21,12 @@ use Rattle.gl_lines.proofs.TraceMachine.{with_at-here, with_at-else}
 
 -- an entry that is no event leaves its thread where it is
 pub going_push : (h : List Stamp) (t : ℕ) (es : List Entry) (e : Entry) → position_of e ≡ None → IsGoing h t es → IsGoing h t (es ++ e ∷ [])
-going_push h t es e none g = record { position = g.position; last = last_push es e ∙ ap (λ o. or_else o (last_position es)) none ∙ g.last; goes_on = g.goes_on }
+going_push h t es e none g = record {
+  position = g.position;
+  last = last_push es e ∙ ap (λ o. or_else o (last_position es)) none
+      ∙ g.last;
+  goes_on = g.goes_on;
+}
 
 module _ (s : Traced) (now : State) (r : IsRecorded s now) (t : ℕ) (running : now.threads t ≡ Running) where
   g : IsGoing s.history t (s.tracing.lists t)
@@ -37,8 +42,10 @@ module _ (s : Traced) (now : State) (r : IsRecorded s now) (t : ℕ) (running : 
   same_block : g.position ≡ block_of t s
   same_block = let a = g.last in let b = block_is in cc
 
-  pub block_goes_on : block_here.event.event ≡ Rattle.gl_model.specs.declared.event.Event.TheVariants.Act Rattle.gl_model.specs.declared.event.Act.TheVariants.End → ⊥
-  block_goes_on over = g.goes_on block_here.event (subst (λ p. Rattle.gl_model.specs.Edges.EventAt s.history p block_here.event) (sym same_block) block_here.here) over
+  pub block_goes_on : block_here.event.event
+      ≡ Rattle.gl_model.specs.declared.event.Event.TheVariants.Act Rattle.gl_model.specs.declared.event.Act.TheVariants.End → ⊥
+  block_goes_on over = g.goes_on block_here.event
+      (subst (λ p. Rattle.gl_model.specs.Edges.EventAt s.history p block_here.event) (sym same_block) block_here.here) over
 
   -- its own draws were made there or before
   pub own_below : (y : ℕ) (a : Draw) → Among (s.draws y) a → a.thread ≡ t → a.block ≤ block_of t s
@@ -73,10 +80,17 @@ module _ (s : Traced) (now : State) (r : IsRecorded s now) (t : ℕ) (running : 
     placed = record { event = block_here.event; here = block_here.here; own = block_here.own; goes_on = block_goes_on; is = tt }
 
     pub plain_fits : DrawFits s.history x d (s.draws x)
-    plain_fits = record { placed = placed; rises = λ a among own. own_below x a among own; agrees = λ a among c f. absurd f; named = ((refl, r.numbers x), tt) }
+    plain_fits = record {
+      placed = placed;
+      rises = λ a among own. own_below x a among own;
+      agrees = λ a among c f. absurd f;
+      named = ((refl, r.numbers x), tt);
+    }
 
     drawn_here : AreDrawn new t (s.tracing.lists t ++ e ∷ []) []
-    drawn_here = subst (λ n. AreDrawn (with_at s.draws x (draw t (block_of t s) (Entered (Plain x n false write (pos 0) raised)) ∷ s.draws x)) t (s.tracing.lists t ++ Plain x n false write (pos 0) raised ∷ []) []) (sym (r.numbers x)) (drawn_mark s.draws x t (block_of t s) (s.tracing.lists t) [] write raised (pos 0) block_is (r.drawn t))
+    drawn_here = subst (λ n. AreDrawn (with_at s.draws x (draw t (block_of t s) (Entered (Plain x n false write (pos 0) raised))
+        ∷ s.draws x)) t (s.tracing.lists t ++ Plain x n false write (pos 0) raised ∷ []) []) (sym (r.numbers x))
+        (drawn_mark s.draws x t (block_of t s) (s.tracing.lists t) [] write raised (pos 0) block_is (r.drawn t))
 
     form : (b : Bool) → EntryForm t (Plain x (s.tracing.numbers x) false write (pos 0) b)
     form true = (refl, λ z. refl)
@@ -91,9 +105,12 @@ module _ (s : Traced) (now : State) (r : IsRecorded s now) (t : ℕ) (running : 
       allowed = r.allowed;
       next = r.next;
       numbers = numbers;
-      events = each_list (λ w es. AreEvents s.history w es) s.tracing.lists t e (events_push s.history t (s.tracing.lists t) (r.events t) e refl) (λ w other. r.events w);
-      drawn = each_list (λ w es. AreDrawn new w es []) s.tracing.lists t e drawn_here (λ w other. drawn_other s.draws x d w (s.tracing.lists w) [] (λ eq. other (sym eq)) (r.drawn w));
-      going = each_list (λ w es. now.threads w ≡ Running → IsGoing s.history w es) s.tracing.lists t e (λ runs. going_push s.history t (s.tracing.lists t) e refl (r.going t runs)) (λ w other runs. r.going w runs);
+      events = each_list (λ w es. AreEvents s.history w es) s.tracing.lists t e
+          (events_push s.history t (s.tracing.lists t) (r.events t) e refl) (λ w other. r.events w);
+      drawn = each_list (λ w es. AreDrawn new w es []) s.tracing.lists t e drawn_here
+          (λ w other. drawn_other s.draws x d w (s.tracing.lists w) [] (λ eq. other (sym eq)) (r.drawn w));
+      going = each_list (λ w es. now.threads w ≡ Running → IsGoing s.history w es) s.tracing.lists t e
+          (λ runs. going_push s.history t (s.tracing.lists t) e refl (r.going t runs)) (λ w other runs. r.going w runs);
       fit = each_variable (λ y ds. EachDraw (DrawFits s.history y) ds) (plain_fits, r.fit x) (λ y other. r.fit y);
       alone = alone_push s.tracing.lists t e r.alone (λ z. let k : false ≡ true = z in cc);
       formed = formed_push s.tracing.lists t e r.formed (form raised);

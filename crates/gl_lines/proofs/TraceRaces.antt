@@ -23,10 +23,12 @@ pub tied_of : (s : Traced) (now : State) → IsRecorded s now → AreTied s.trac
 tied_of s now r = record { at = r.drawn }
 
 -- s is followed by the entry e of thread t, at the place d; on y it has the number m, and all other entries of y are in s's draws
-module _ (s s' : Traced) (now now' : State) (r : IsRecorded s now) (r' : IsRecorded s' now') (e : Entry) (v : Option (List ℕ)) (d : Place) (here : EntryAt s'.tracing.lists d e) (y m : ℕ) (number : NumberOn e y m) (one : (k : ℕ) → NumberOn e y k → k ≡ m)
+module _ (s s' : Traced) (now now' : State) (r : IsRecorded s now) (r' : IsRecorded s' now') (e : Entry) (v : Option (List ℕ)) (d : Place)
+    (here : EntryAt s'.tracing.lists d e) (y m : ℕ) (number : NumberOn e y m) (one : (k : ℕ) → NumberOn e y k → k ≡ m)
     (old : (k : ℕ) (o : Draw) (g : Entry) → DrawAt (s'.draws y) k o → o.what ≡ Entered g → k < m → Among (s.draws y) o)
     (fresh : (o : Draw) → Among (s.draws y) o → (k : ℕ) × (k < m) × DrawAt (s'.draws y) k o)
-    (alike : (o : Draw) (c : Place) → IsPlaced s.history o → StandsFor s'.tracing.lists c (access_of o) → c ≢ d → HappensBeforeNext s.history (access_of o) d.thread v ↔ HappensBefore s'.tracing.lists c d) where
+    (alike : (o : Draw) (c : Place) → IsPlaced s.history o → StandsFor s'.tracing.lists c (access_of o) → c ≢ d
+    → HappensBeforeNext s.history (access_of o) d.thread v ↔ HappensBefore s'.tracing.lists c d) where
   added : IsAdded s.history s'.history s'.tracing.lists s.draws s'.draws d e y m
   added = record {
     listed = is_list s'.tracing.lists s'.history r'.events;

@@ -32,8 +32,10 @@ record IsSoFar (s : Tracing) : Type 0 where
 -- an event
 act_so_far : (t : ℕ) (act : Act) (s : Tracing) → IsSoFar s → IsSoFar (with_act t act s)
 act_so_far t act s k = record {
-  below = below_push s.lists s.next s.numbers k.below t (Sync s.next act (pos 0)) (s.next + 1) s.numbers (omega arith) (λ x. omega arith) (λ p e. let is : s.next ≡ p = cc in omega arith) (λ x m n. absurd n);
-  races = races_push s.lists s.next s.numbers k.below t (Sync s.next act (pos 0)) (λ p e. let is : s.next ≡ p = cc in omega arith) (λ x m n. absurd n) k.races tt;
+  below = below_push s.lists s.next s.numbers k.below t (Sync s.next act (pos 0)) (s.next + 1) s.numbers (omega arith) (λ x. omega arith)
+      (λ p e. let is : s.next ≡ p = cc in omega arith) (λ x m n. absurd n);
+  races = races_push s.lists s.next s.numbers k.below t (Sync s.next act (pos 0)) (λ p e. let is : s.next ≡ p = cc in omega arith)
+      (λ x m n. absurd n) k.races tt;
 }
 
 end_so_far : (t : ℕ) (s : Tracing) → IsSoFar s → IsSoFar (with_end t s)
@@ -71,15 +73,19 @@ module _ (t x : ℕ) (write : Bool) (s : Tracing) (k : IsSoFar s) where
   own : (raised : Bool) (y m : ℕ) → NumberOn (e raised) y m → m < (if y == x then s.numbers x + 1 else s.numbers y)
   own raised y m n = let b : (y == x) ≡ true = eq-eqb y x (sym n.0) in let i : s.numbers x ≡ m = n.1 in rw b (omega arith)
 
-  plain_so_far : (raised : Bool) → IsRaisedRightly (with_entry s.lists t (e raised)) (end_place s.lists t) (e raised) → IsSoFar (with_plain t x write raised s)
+  plain_so_far : (raised : Bool) → IsRaisedRightly (with_entry s.lists t (e raised)) (end_place s.lists t) (e raised)
+      → IsSoFar (with_plain t x write raised s)
   plain_so_far raised right = record {
-    below = below_push s.lists s.next s.numbers k.below t (e raised) s.next (λ y. if y == x then s.numbers x + 1 else s.numbers y) (omega arith) more (λ p z. absurd (cc)) (own raised);
-    races = races_push s.lists s.next s.numbers k.below t (e raised) (λ p z. absurd (cc)) (λ y m n. let i : s.numbers x ≡ m = n.1 in let v : s.numbers x ≡ s.numbers y = ap s.numbers n.0 in omega arith) k.races right;
+    below = below_push s.lists s.next s.numbers k.below t (e raised) s.next (λ y. if y == x then s.numbers x + 1 else s.numbers y)
+        (omega arith) more (λ p z. absurd (cc)) (own raised);
+    races = races_push s.lists s.next s.numbers k.below t (e raised) (λ p z. absurd (cc)) (λ y m n. let i : s.numbers x ≡ m = n.1
+        in let v : s.numbers x ≡ s.numbers y = ap s.numbers n.0 in omega arith) k.races right;
   }
 
   only : (raised : Bool) (y : ℕ) → IsRacy (with_entry s.lists t (e raised)) (end_place s.lists t) y → x ≡ y
   only raised y racy =
-      let same = same_entry (with_entry s.lists t (e raised)) (end_place s.lists t) racy.before.second (e raised) racy.before.here (new_place s.lists s.next s.numbers k.below t (e raised)) in
+      let same = same_entry (with_entry s.lists t (e raised)) (end_place s.lists t) racy.before.second (e raised) racy.before.here
+      (new_place s.lists s.next s.numbers k.below t (e raised)) in
       (subst (λ f. NumberOn f y racy.before.later) same racy.before.also_numbered).0
 
 -- a commit that was judged rightly
@@ -92,10 +98,13 @@ module _ (t : ℕ) (reads writes : List ℕ) (s : Tracing) (k : IsSoFar s) where
   counted y false true i = refl
   counted y false false i = absurd (cc)
 
-  inside : (f : Entry) → ((y m : ℕ) → NumberOn f y m → Rattle.std.specs.Prelude.Contains (line_tx reads writes s.numbers).numbers (record { var = y; nth = m })) → (y m : ℕ) → NumberOn f y m → (s.numbers y ≤ m) × (m < with_numbers reads writes s.numbers y)
+  inside : (f : Entry) → ((y m : ℕ) → NumberOn f y m
+      → Rattle.std.specs.Prelude.Contains (line_tx reads writes s.numbers).numbers (record { var = y; nth = m })) → (y m : ℕ)
+      → NumberOn f y m → (s.numbers y ≤ m) × (m < with_numbers reads writes s.numbers y)
   inside f of y m n =
       let i = number_is reads writes s.numbers y m (of y m n) in
-      let c : own_count reads writes y ≡ 1 = counted y (Rattle.gl_model.specs.Trace.is_in y reads) (Rattle.gl_model.specs.Trace.is_in y writes) i.0 in
+      let c : own_count reads writes y ≡ 1 = counted y (Rattle.gl_model.specs.Trace.is_in y reads)
+      (Rattle.gl_model.specs.Trace.is_in y writes) i.0 in
       let at = i.1 in (omega arith, omega arith)
 
   grown : (y : ℕ) → s.numbers y ≤ with_numbers reads writes s.numbers y
@@ -106,24 +115,31 @@ module _ (t : ℕ) (reads writes : List ℕ) (s : Tracing) (k : IsSoFar s) where
 
   commit_so_far : ((y : ℕ) → IsRacy (with_entry s.lists t f) (end_place s.lists t) y → ⊥) → IsSoFar (with_commit t reads writes Performed s)
   commit_so_far right = record {
-    below = below_push s.lists s.next s.numbers k.below t f (s.next + 1) (with_numbers reads writes s.numbers) (omega arith) grown (λ p z. let is : s.next ≡ p = cc in omega arith) (λ y m n. (inside f (λ y m n. n) y m n).1);
-    races = races_push s.lists s.next s.numbers k.below t f (λ p z. let is : s.next ≡ p = cc in omega arith) (λ y m n. (inside f (λ y m n. n) y m n).0) k.races right;
+    below = below_push s.lists s.next s.numbers k.below t f (s.next + 1) (with_numbers reads writes s.numbers) (omega arith) grown
+        (λ p z. let is : s.next ≡ p = cc in omega arith) (λ y m n. (inside f (λ y m n. n) y m n).1);
+    races = races_push s.lists s.next s.numbers k.below t f (λ p z. let is : s.next ≡ p = cc in omega arith)
+        (λ y m n. (inside f (λ y m n. n) y m n).0) k.races right;
   }
 
   abbrev g : ℕ → Entry
   g var = Abort (line_tx reads writes s.numbers) (WasRaised var)
 
-  refused_so_far : (var : ℕ) → IsRaisedRightly (with_entry s.lists t (g var)) (end_place s.lists t) (g var) → IsSoFar (with_commit t reads writes (Raised var) s)
+  refused_so_far : (var : ℕ) → IsRaisedRightly (with_entry s.lists t (g var)) (end_place s.lists t) (g var)
+      → IsSoFar (with_commit t reads writes (Raised var) s)
   refused_so_far var right = record {
-    below = below_push s.lists s.next s.numbers k.below t (g var) s.next (with_numbers reads writes s.numbers) (omega arith) grown (λ p z. absurd (cc)) (λ y m n. (inside (g var) (λ y m n. n) y m n).1);
-    races = races_push s.lists s.next s.numbers k.below t (g var) (λ p z. absurd (cc)) (λ y m n. (inside (g var) (λ y m n. n) y m n).0) k.races right;
+    below = below_push s.lists s.next s.numbers k.below t (g var) s.next (with_numbers reads writes s.numbers) (omega arith) grown
+        (λ p z. absurd (cc)) (λ y m n. (inside (g var) (λ y m n. n) y m n).1);
+    races = races_push s.lists s.next s.numbers k.below t (g var) (λ p z. absurd (cc)) (λ y m n. (inside (g var) (λ y m n. n) y m n).0)
+        k.races right;
   }
 
 -- one line
 moved : (P : Place → Type 0) (R : Lists) (t : ℕ) (e : Entry) → P (last_place (with_entry R t e) t) → P (end_place R t)
 moved P R t e p = subst P (last_is R t e) p
 
-item_so_far : (t : ℕ) (item : Item) (judged : Judged) (s : Tracing) → IsSoFar s → IsJudgedRightly (with_item t item judged s).lists (last_place (with_item t item judged s).lists t) item judged → IsSoFar (with_item t item judged s)
+item_so_far : (t : ℕ) (item : Item) (judged : Judged) (s : Tracing) → IsSoFar s
+    → IsJudgedRightly (with_item t item judged s).lists (last_place (with_item t item judged s).lists t) item judged
+    → IsSoFar (with_item t item judged s)
 item_so_far t (Acts act) judged s k j = line_so_far t act s k
 item_so_far t (AccessTo x write) NoAccess s k j = absurd j
 item_so_far t (AccessTo x write) Performed s k j =
@@ -132,16 +148,24 @@ item_so_far t (AccessTo x write) Performed s k j =
 item_so_far t (AccessTo x write) (Raised var) s k j =
     let racy = moved (λ c. IsRacy (with_entry s.lists t (e t x write s k true)) c var) s.lists t (e t x write s k true) j.0 in
     let same = only t x write s k true var racy in
-    plain_so_far t x write s k true (λ i. subst (IsRacy (with_entry s.lists t (e t x write s k true)) (end_place s.lists t)) (sym same) racy, λ r. refl)
+    plain_so_far t x write s k true (
+      λ i. subst (IsRacy (with_entry s.lists t (e t x write s k true)) (end_place s.lists t)) (sym same)
+          racy,
+      λ r. refl,
+    )
 item_so_far t (CommitsOn reads writes) NoAccess s k j = absurd j
-item_so_far t (CommitsOn reads writes) Performed s k j = commit_so_far t reads writes s k (moved (λ c. (y : ℕ) → IsRacy (with_entry s.lists t (f t reads writes s k)) c y → ⊥) s.lists t (f t reads writes s k) j)
+item_so_far t (CommitsOn reads writes) Performed s k j =
+    commit_so_far t reads writes s k (moved (λ c. (y : ℕ) → IsRacy (with_entry s.lists t (f t reads writes s k)) c y → ⊥) s.lists t
+    (f t reads writes s k) j)
 item_so_far t (CommitsOn reads writes) (Raised var) s k j =
-    refused_so_far t reads writes s k var (moved (λ c. IsRacy (with_entry s.lists t (g t reads writes s k var)) c var × ((y : ℕ) → y < var → IsRacy (with_entry s.lists t (g t reads writes s k var)) c y → ⊥)) s.lists t (g t reads writes s k var) j)
+    refused_so_far t reads writes s k var (moved (λ c. IsRacy (with_entry s.lists t (g t reads writes s k var)) c var
+    × ((y : ℕ) → y < var → IsRacy (with_entry s.lists t (g t reads writes s k var)) c y → ⊥)) s.lists t (g t reads writes s k var) j)
 
 -- the endings
 over_so_far : (t : ℕ) (s : Tracing) → IsSoFar s → IsSoFar (with_over t s)
 over_so_far t s k = record {
-  below = below_push s.lists s.next s.numbers k.below t (Over Halt) s.next s.numbers (omega arith) (λ x. omega arith) (λ p z. absurd (cc)) (λ x m n. absurd n);
+  below = below_push s.lists s.next s.numbers k.below t (Over Halt) s.next s.numbers (omega arith) (λ x. omega arith) (λ p z. absurd (cc))
+      (λ x m n. absurd n);
   races = races_push s.lists s.next s.numbers k.below t (Over Halt) (λ p z. absurd (cc)) (λ x m n. absurd n) k.races tt;
 }
 
@@ -161,9 +185,14 @@ endings_so_far zero s k = k
 endings_so_far (suc n) s k = ending_so_far n (with_endings n s) (endings_so_far n s k)
 
 first_so_far : IsSoFar before_lines
-first_so_far = act_so_far 0 (Begin 0) (record { lists = λ _. []; next = 0; numbers = λ _. 0; ended = λ _. false }) (record { below = record { positions = λ c e p there is. absurd (cc); drawn = λ c e x k there n. absurd (cc) }; races = λ c e there. absurd (cc) })
+first_so_far = act_so_far 0 (Begin 0) (record { lists = λ _. []; next = 0; numbers = λ _. 0; ended = λ _. false })
+    (record {
+      below = record { positions = λ c e p there is. absurd (cc); drawn = λ c e x k there n. absurd (cc) };
+      races = λ c e there. absurd (cc);
+    })
 
-after_push : (lines : List Line) (l : Line) (s : Tracing) → after_lines (lines ++ l ∷ []) s ≡ with_item l.thread l.item l.judged (after_lines lines s)
+after_push : (lines : List Line) (l : Line) (s : Tracing) → after_lines (lines ++ l ∷ []) s
+    ≡ with_item l.thread l.item l.judged (after_lines lines s)
 after_push [] l s = refl
 after_push (m ∷ lines) l s = after_push lines l (with_item m.thread m.item m.judged s)
 
@@ -174,15 +203,23 @@ lines_so_far lines right (suc k) le = elim ((slice_get_cases lines k).1) [
       (let l = c.0 in
       let at : slice_get lines k ≡ Some l = c.2 in
       let s = after_lines (take k lines) before_lines in
-      let whole : after_lines (take (suc k) lines) before_lines ≡ with_item l.thread l.item l.judged s = ap (λ ls. after_lines ls before_lines) (take_one lines k l at) ∙ after_push (take k lines) l before_lines in
+      let whole : after_lines (take (suc k) lines) before_lines
+      ≡ with_item l.thread l.item l.judged s = ap (λ ls. after_lines ls before_lines) (take_one lines k l at)
+      ∙ after_push (take k lines) l before_lines in
       let one : k + 1 ≡ suc k = add-one k in
-      let lists : (after_lines (take (k + 1) lines) before_lines).lists ≡ (with_item l.thread l.item l.judged s).lists = ap (λ n. (after_lines (take n lines) before_lines).lists) one ∙ ap (λ (z : Tracing). z.lists) whole in
-      let j : IsJudgedRightly (with_item l.thread l.item l.judged s).lists (last_place (with_item l.thread l.item l.judged s).lists l.thread) l.item l.judged = subst (λ (R : Lists). IsJudgedRightly R (last_place R l.thread) l.item l.judged) lists (right k l at) in
+      let lists : (after_lines (take (k + 1) lines) before_lines).lists
+      ≡ (with_item l.thread l.item l.judged s).lists = ap (λ n. (after_lines (take n lines) before_lines).lists) one
+      ∙ ap (λ (z : Tracing). z.lists) whole in
+      let j : IsJudgedRightly (with_item l.thread l.item l.judged s).lists
+      (last_place (with_item l.thread l.item l.judged s).lists l.thread) l.item l.judged =
+      subst (λ (R : Lists). IsJudgedRightly R (last_place R l.thread) l.item l.judged) lists (right k l at) in
       subst IsSoFar (sym whole) (item_so_far l.thread l.item l.judged s (lines_so_far lines right k (omega arith)) j))
   | inr c ↦ absurd (let m = c.0 in omega arith)
 ]
 
 pub record_races : RecordRaces
 record_races lines right =
-    let k : IsSoFar (after_lines lines before_lines) = subst (λ ls. IsSoFar (after_lines ls before_lines)) (take_all (length lines) lines (omega arith)) (lines_so_far lines right (length lines) (omega arith)) in
+    let k : IsSoFar (after_lines lines before_lines) =
+    subst (λ ls. IsSoFar (after_lines ls before_lines)) (take_all (length lines) lines (omega arith))
+    (lines_so_far lines right (length lines) (omega arith)) in
     (endings_so_far THREADS (after_lines lines before_lines) k).races

@@ -30,8 +30,17 @@ nothing_recorded = record {
   allowed = refl;
   next = refl;
   numbers = λ x. refl;
-  events = λ t. record { listed = λ i p e ev a b c. absurd (cc); made = λ p s e own. absurd (cc); rise = λ i j p q e f a b lt c d. absurd (cc) };
-  drawn = λ t. record { kept = λ x k d a own. absurd a; made = λ x k i e a b. absurd (cc); in_flight = λ o c. absurd (let l = c.1 in omega arith); rise = λ x k m i j e f a b lt c d. absurd (cc) };
+  events = λ t. record {
+    listed = λ i p e ev a b c. absurd (cc);
+    made = λ p s e own. absurd (cc);
+    rise = λ i j p q e f a b lt c d. absurd (cc);
+  };
+  drawn = λ t. record {
+    kept = λ x k d a own. absurd a;
+    made = λ x k i e a b. absurd (cc);
+    in_flight = λ o c. absurd (let l = c.1 in omega arith);
+    rise = λ x k m i j e f a b lt c d. absurd (cc);
+  };
   going = λ t runs. absurd (none_runs (t == 0) runs);
   fit = λ x. tt;
   alone = λ c e there r. cc;
@@ -51,12 +60,18 @@ first_recorded = event_recorded nothing (start trace_setting) nothing_recorded 0
     others : (w : ℕ) → (w ≡ 0 → ⊥) → first_state.threads w ≡ Running → (start trace_setting).threads w ≡ Running
     others w other r = here (w == 0) refl r
       where
-        here : (b : Bool) → (w == 0) ≡ b → (if b then Running else if b then Forked 0 (pos 0) else NeverForked) ≡ Running → (start trace_setting).threads w ≡ Running
+        here : (b : Bool) → (w == 0) ≡ b → (if b then Running else if b then Forked 0 (pos 0) else NeverForked) ≡ Running
+            → (start trace_setting).threads w ≡ Running
         here true e i = absurd (other (Rattle.std.proofs.lemmas.Bool.eqb-true w 0 e))
         here false e i = absurd (cc)
 
 pub first_traced : IsTraced [] at_first first_state
-first_traced = record { recorded = first_recorded; state = record { threads = λ t. here (t == 0); monitors = λ m. refl }; kept = none_kept; ended = λ u. refl }
+first_traced = record {
+  recorded = first_recorded;
+  state = record { threads = λ t. here (t == 0); monitors = λ m. refl };
+  kept = none_kept;
+  ended = λ u. refl;
+}
   where
     here : (b : Bool) → (if b then Running else if b then Forked 0 (pos 0) else NeverForked) ≡ thread_of (b || false) false
     here true = refl
@@ -80,7 +95,8 @@ take_one (y ∷ xs) (suc k) x e = ap (λ ys. y ∷ ys) (take_one xs k x e)
 
 module _ (lines : List Line) (sound : AreSound lines) where
   pub step_at : (k : ℕ) (l : Line) → slice_get lines k ≡ Some l → slice_get (steps_of lines) k ≡ Some (l.thread, l.item)
-  step_at k l e = slice_get-map (λ (l : Line). (l.thread, l.item)) lines k ∙ ap (Rattle.std.specs.Prelude.option_map (λ (l : Line). (l.thread, l.item))) e
+  step_at k l e = slice_get-map (λ (l : Line). (l.thread, l.item)) lines k
+      ∙ ap (Rattle.std.specs.Prelude.option_map (λ (l : Line). (l.thread, l.item))) e
 
   pub up_to : (k : ℕ) → k ≤ length lines → (now : State) × IsTraced (take k (steps_of lines)) (after_each (take k lines) at_first) now
   up_to zero le = (first_state, first_traced)
@@ -89,13 +105,23 @@ module _ (lines : List Line) (sound : AreSound lines) where
         (let e : slice_get lines k ≡ Some c.0 = c.2 in
         let before = up_to k (omega arith) in
         let f = sound.clean k (c.0.thread, c.0.item) (step_at k c.0 e) in
-        let n = next_traced (take k (steps_of lines)) (after_each (take k lines) at_first) before.0 before.1 c.0 (sound.in_range k c.0 e) f in
-        (n.0, subst (λ ss. IsTraced ss (after_each (take (suc k) lines) at_first) n.0) (sym (take_one (steps_of lines) k (c.0.thread, c.0.item) (step_at k c.0 e))) (subst (λ z. IsTraced (take k (steps_of lines) ++ (c.0.thread, c.0.item) ∷ []) z n.0) (sym (ap (λ ls. after_each ls at_first) (take_one lines k c.0 e) ∙ each_push (take k lines) c.0 at_first)) n.1)))
+        let n = next_traced (take k (steps_of lines)) (after_each (take k lines) at_first) before.0 before.1 c.0 (sound.in_range k c.0 e) f
+        in (
+          n.0,
+          subst (λ ss. IsTraced ss (after_each (take (suc k) lines) at_first) n.0)
+              (sym (take_one (steps_of lines) k (c.0.thread, c.0.item) (step_at k c.0 e)))
+              (subst (λ z. IsTraced (take k (steps_of lines) ++ (c.0.thread, c.0.item) ∷ []) z n.0)
+              (sym (ap (λ ls. after_each ls at_first) (take_one lines k c.0 e) ∙ each_push (take k lines) c.0 at_first)) n.1),
+        ))
     | inr c ↦ absurd (let m = c.0 in omega arith)
   ]
 
   pub sound_traced : (now : State) × IsTraced (steps_of lines) (traced lines) now
   sound_traced =
       let u = up_to (length lines) (omega arith) in
-      let n : length (steps_of lines) ≡ length lines = length-map lines (λ (l : Line). (l.thread, l.item)) in
-      (u.0, subst (λ ss. IsTraced ss (traced lines) u.0) (take_all (length lines) (steps_of lines) (omega arith)) (subst (λ ls. IsTraced (take (length lines) (steps_of lines)) (after_each ls at_first) u.0) (take_all (length lines) lines (omega arith)) u.1))
+      let n : length (steps_of lines) ≡ length lines = length-map lines (λ (l : Line). (l.thread, l.item)) in (
+        u.0,
+        subst (λ ss. IsTraced ss (traced lines) u.0) (take_all (length lines) (steps_of lines) (omega arith))
+            (subst (λ ls. IsTraced (take (length lines) (steps_of lines)) (after_each ls at_first) u.0)
+            (take_all (length lines) lines (omega arith)) u.1),
+      )

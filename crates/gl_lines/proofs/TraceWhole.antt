@@ -36,7 +36,8 @@ module _ (t : ℕ) (before : List Entry) (k : IsShaped true before) (some : is_e
   abbrev es : List Entry
   es = before ++ Over Halt ∷ []
 
-  begins : (before' : List Entry) → IsShaped true before' → is_empty before' ≡ false → (i : ℕ) (e : Entry) → At (before' ++ Over Halt ∷ []) i e → ((j : ℕ) (f : Entry) → At (before' ++ Over Halt ∷ []) j f → j < i → IsTrim f) → IsBegin e
+  begins : (before' : List Entry) → IsShaped true before' → is_empty before' ≡ false → (i : ℕ) (e : Entry)
+      → At (before' ++ Over Halt ∷ []) i e → ((j : ℕ) (f : Entry) → At (before' ++ Over Halt ∷ []) j f → j < i → IsTrim f) → IsBegin e
   begins [] k' some' i e a all = absurd (cc)
   begins (x ∷ rest) k' some' zero e a all = k'.first e a
   begins (x ∷ rest) k' some' (suc i) e a all = absurd (begin_no_trim x (k'.first x refl) (all 0 x refl (omega arith)))
@@ -62,13 +63,21 @@ module _ (t : ℕ) (before : List Entry) (k : IsShaped true before) (some : is_e
   ]
 
   over_last : (i : ℕ) (e : Entry) → At es i e → IsOver e → length es ≡ i + 1
-  over_last i e a o = elim (at_cases before (Over Halt) e i a) [ inl old ↦ absurd (k.no_over i e old o) | inr new ↦ (let at = new.0 in omega (arith, length-append before (Over Halt ∷ []))) ]
+  over_last i e a o = elim (at_cases before (Over Halt) e i a) [
+    | inl old ↦ absurd (k.no_over i e old o)
+    | inr new ↦ (let at = new.0 in omega (arith, length-append before (Over Halt ∷ [])))
+  ]
 
   no_trims : (i low : ℕ) → At es i (Trim low) → ⊥
-  no_trims i low a = elim (at_cases before (Over Halt) (Trim low) i a) [ inl old ↦ k.no_trim i (Trim low) old tt | inr new ↦ (let z = new.1 in cc) ]
+  no_trims i low a = elim (at_cases before (Over Halt) (Trim low) i a) [
+    | inl old ↦ k.no_trim i (Trim low) old tt
+    | inr new ↦ (let z = new.1 in cc)
+  ]
 
-pub list_form : (t : ℕ) (es : List Entry) → ((i : ℕ) (e : Entry) → At es i e → EntryForm t e) → ((i j p q : ℕ) (e f : Entry) → At es i e → At es j f → i < j → position_of e ≡ Some p → position_of f ≡ Some q → p < q) →
-    ((x k m i j : ℕ) (e f : Entry) → At es i e → At es j f → i < j → Draws e x k → Draws f x m → k < m) → ((i : ℕ) (e : Entry) → At es i e → IsRepeat e → ⊥) → IsEnded es → ListForm t es
+pub list_form : (t : ℕ) (es : List Entry) → ((i : ℕ) (e : Entry) → At es i e → EntryForm t e)
+    → ((i j p q : ℕ) (e f : Entry) → At es i e → At es j f → i < j → position_of e ≡ Some p → position_of f ≡ Some q → p < q) →
+    ((x k m i j : ℕ) (e f : Entry) → At es i e → At es j f → i < j → Draws e x k → Draws f x m → k < m)
+    → ((i : ℕ) (e : Entry) → At es i e → IsRepeat e → ⊥) → IsEnded es → ListForm t es
 list_form t es formed positions numbers alone (inl none) = record {
   well_formed = formed;
   begins = λ i e a n b. absurd (nothing i e a);
@@ -110,8 +119,10 @@ behind : State → (ℕ → State) → ℕ → State
 behind old at zero = old
 behind old at (suc p) = at p
 
-first_step : (setting : Setting) (old mid next : State) (x s : Stamp) → Step setting old x (pos 0) mid → x ≡ s → mid ≡ next → Step setting old s (pos 0) next
-first_step setting old mid next x s step e f = subst (λ z. Step setting old s (pos 0) z) f (subst (λ z. Step setting old z (pos 0) mid) e step)
+first_step : (setting : Setting) (old mid next : State) (x s : Stamp) → Step setting old x (pos 0) mid → x ≡ s → mid ≡ next
+    → Step setting old s (pos 0) next
+first_step setting old mid next x s step e f =
+    subst (λ z. Step setting old s (pos 0) z) f (subst (λ z. Step setting old z (pos 0) mid) e step)
 
 zero_trail : (setting : Setting) (h : List Stamp) (old now : State) → RunsZero setting old h now → ZeroTrail setting old h now
 unfolding behind
@@ -120,7 +131,8 @@ zero_trail setting (x ∷ h) old now r =
     let t : ZeroTrail setting r.0 h now = zero_trail setting h r.0 now r.2 in
     record { at = behind old t.at; first = refl; last = t.last; steps = steps t }
   where
-    steps : (t : ZeroTrail setting r.0 h now) → (p : ℕ) (s : Stamp) → EventAt (x ∷ h) p s → Step setting (behind old t.at p) s (pos 0) (behind old t.at (suc p))
+    steps : (t : ZeroTrail setting r.0 h now) → (p : ℕ) (s : Stamp) → EventAt (x ∷ h) p s
+        → Step setting (behind old t.at p) s (pos 0) (behind old t.at (suc p))
     steps t zero s e = first_step setting old r.0 (t.at zero) x s r.1 (let same : x ≡ s = cc in same) (sym t.first)
     steps t (suc p) s e = t.steps p s e
 
@@ -147,15 +159,20 @@ module _ (started : ℕ → Bool) (main : started 0 ≡ true) (s : Traced) (now 
 
   started_list : (u : ℕ) → started u ≡ true → s.tracing.lists u ≢ []
   started_list u e none = elim (cases_lt u THREADS) [
-    | inl near ↦ (let c : IsClosed true (s.tracing.lists u) now u = subst (λ b. IsClosed b (s.tracing.lists u) now u) e (k.closed u near) in not_empty c.0 (sym c.1 ∙ none))
+    | inl near ↦ (let c : IsClosed true (s.tracing.lists u) now u = subst (λ b. IsClosed b (s.tracing.lists u) now u) e (k.closed u near)
+        in not_empty c.0 (sym c.1 ∙ none))
     | inr far ↦ (let f = k.few u far in let z : true ≡ false = sym e ∙ f in cc)
   ]
 
   form : Form s.tracing.lists
   form = record {
     main = started_list 0 main;
-    formed = λ t. list_form t (s.tracing.lists t) (λ i e a. r.formed (record { thread = t; index = i }) e a) (r.events t).rise (r.drawn t).rise (λ i e a. r.alone (record { thread = t; index = i }) e a) (ended_of t);
-    ends = λ t some. elim (ended_of t) [ inl none ↦ absurd (some none) | inr c ↦ (length c.0, (Over Halt, subst (λ es. At es (length c.0) (Over Halt)) (sym c.1) (at_new c.0 (Over Halt)), tt)) ];
+    formed = λ t. list_form t (s.tracing.lists t) (λ i e a. r.formed (record { thread = t; index = i }) e a) (r.events t).rise
+        (r.drawn t).rise (λ i e a. r.alone (record { thread = t; index = i }) e a) (ended_of t);
+    ends = λ t some. elim (ended_of t) [
+      | inl none ↦ absurd (some none)
+      | inr c ↦ (length c.0, (Over Halt, subst (λ es. At es (length c.0) (Over Halt)) (sym c.1) (at_new c.0 (Over Halt)), tt))
+    ];
   }
 
   numbered : Numbered s.tracing.lists
@@ -179,11 +196,13 @@ module _ (started : ℕ → Bool) (main : started 0 ≡ true) (s : Traced) (now 
     steps = λ c p e ev.
         let here = (is_list s.tracing.lists s.history r.events).listed c p e ev in
         let zero' : value_of ev.entry ≡ pos 0 = r.zeros c ev.entry ev.there in
-        subst (λ v. Step trace_setting (trail.at p) e v (trail.at (p + 1))) (sym zero') (subst (λ n. Step trace_setting (trail.at p) e (pos 0) (trail.at n)) (sym (add-one p)) (trail.steps p e here));
+        subst (λ v. Step trace_setting (trail.at p) e v (trail.at (p + 1))) (sym zero')
+        (subst (λ n. Step trace_setting (trail.at p) e (pos 0) (trail.at n)) (sym (add-one p)) (trail.steps p e here));
     lists = λ c p u f value there. started_list u (k.forks c.thread c.index p u f value there);
     ended = λ t. subst (λ (z : State). (z.threads t ≡ NeverForked) ⊎ (z.threads t ≡ Ended)) (sym trail.last) (elim (cases_lt t THREADS) [
       | inl near ↦ over_cases (started t) t (k.closed t near)
-      | inr far ↦ (let none = k.few t far in inl ((k.open' t far).2 ∙ ap (λ b. thread_of b (s.tracing.ended t)) none ∙ ap (thread_of false) (alive t none (s.tracing.ended t) refl)))
+      | inr far ↦ (let none = k.few t far in inl ((k.open' t far).2 ∙ ap (λ b. thread_of b (s.tracing.ended t)) none
+          ∙ ap (thread_of false) (alive t none (s.tracing.ended t) refl)))
     ]);
   }
 
@@ -195,11 +214,18 @@ module _ (started : ℕ → Bool) (main : started 0 ≡ true) (s : Traced) (now 
     made : IsMachineRun trace_setting S events
 
   whole : Whole s.tracing.lists
-  whole = record { is_form = form; is_numbered = numbered; events = s.history; listed = is_list s.tracing.lists s.history r.events; made = machine }
+  whole = record {
+    is_form = form;
+    is_numbered = numbered;
+    events = s.history;
+    listed = is_list s.tracing.lists s.history r.events;
+    made = machine;
+  }
 
 pub whole_law : RecordIsWhole
 whole_law lines sound =
     let c = all_closed lines sound in
     let s = endings_of THREADS (traced lines) in
-    let w = subst (λ S. Whole (is_started (steps_of lines)) refl s c.0 c.1 S) (whole_lists lines sound) (whole (is_started (steps_of lines)) refl s c.0 c.1) in
+    let w = subst (λ S. Whole (is_started (steps_of lines)) refl s c.0 c.1 S) (whole_lists lines sound)
+    (whole (is_started (steps_of lines)) refl s c.0 c.1) in
     record { form = w.is_form; numbered = w.is_numbered; events = w.events; listed = w.listed; machine = w.made }

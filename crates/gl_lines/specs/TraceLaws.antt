@@ -27,11 +27,13 @@ lists_behind lines = (after_lines lines before_lines).lists
 
 -- the machine allows the events of a sound trace, and its state is then as the steps leave it
 abbrev pub TraceIsAllowed : Type 0
-TraceIsAllowed = (lines : List Line) → AreSound lines → (now : State) × Allows trace_setting (history lines) now × IsStateOf (steps_of lines) now
+TraceIsAllowed = (lines : List Line) → AreSound lines → (now : State) × Allows trace_setting (history lines) now
+    × IsStateOf (steps_of lines) now
 
 -- a thread runs in that state exactly where the steps say so
 abbrev pub RunsAsSaid : Type 0
-RunsAsSaid = (lines : List Line) (now : State) → IsStateOf (steps_of lines) now → (t : ℕ) → (now.threads t ≡ Running) ↔ (is_running (steps_of lines) t ≡ true)
+RunsAsSaid = (lines : List Line) (now : State) → IsStateOf (steps_of lines) now → (t : ℕ)
+    → (now.threads t ≡ Running) ↔ (is_running (steps_of lines) t ≡ true)
 
 -- the lists are those of the events and of the draws, and no entry is a repeat
 pub record AreTraced (lines : List Line) : Type 0 where
@@ -76,7 +78,8 @@ LastIsRacy =
 abbrev pub NextIsAmong : Type 0
 NextIsAmong =
     (lines : List Line) (l : Line) → AreSound (lines ++ l ∷ []) → (f : Entry) (y : ℕ) →
-    IsRacyNext (history lines) y (draws_of lines y) l.thread None f ↔ IsRacyAmong (history lines) y (draws_of lines y) l.thread (block_of l.thread (traced lines)) f
+    IsRacyNext (history lines) y (draws_of lines y) l.thread None f ↔ IsRacyAmong (history lines) y (draws_of lines y) l.thread
+    (block_of l.thread (traced lines)) f
 
 -- the question is what a line of thread t asks of the variable y
 pub record Asks (t : ℕ) (item : Item) (y : ℕ) (question : Question) : Type 0 where
@@ -95,13 +98,15 @@ IsJudgedBy fails item (Raised var) = Accesses item var × fails var × ((y : ℕ
 abbrev pub RacesAreVerdicts : Type 0
 RacesAreVerdicts =
     (lines : List Line) (l : Line) → AreSound (lines ++ l ∷ []) → AreVerdicts lines →
-    IsJudgedBy (λ y. IsRacyNext (history lines) y (draws_of lines y) l.thread (commit_of l.item) (entered l.item l.judged (traced lines))) l.item l.judged → AreVerdicts (lines ++ l ∷ [])
+    IsJudgedBy (λ y. IsRacyNext (history lines) y (draws_of lines y) l.thread (commit_of l.item) (entered l.item l.judged (traced lines)))
+    l.item l.judged → AreVerdicts (lines ++ l ∷ [])
 
 -- what is rightly said of the last line is settled by the lines before it and by what it says
 abbrev pub LastIsSettled : Type 0
 LastIsSettled =
     (lines : List Line) (t : ℕ) (item : Item) (a b : Judged) → AreSound (lines ++ record { thread = t; item = item; judged = a } ∷ []) →
-    AreVerdicts (lines ++ record { thread = t; item = item; judged = a } ∷ []) → AreVerdicts (lines ++ record { thread = t; item = item; judged = b } ∷ []) → a ≡ b
+    AreVerdicts (lines ++ record { thread = t; item = item; judged = a } ∷ [])
+    → AreVerdicts (lines ++ record { thread = t; item = item; judged = b } ∷ []) → a ≡ b
 
 -- over rows that stand, a line that is judged by them is judged rightly, where the lines before are
 abbrev pub VerdictsGrow : Type 0

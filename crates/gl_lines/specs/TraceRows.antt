@@ -35,7 +35,8 @@ access_at lines l = record { thread = l.thread; block = block_at lines l.thread 
 -- the row of y stands on where the line does not access y, or was raised
 abbrev pub RowsStay : Type 0
 RowsStay =
-    (lines : List Line) (l : Line) → AreSound (lines ++ l ∷ []) → (y : ℕ) (row : Row) → RowStands trace_setting (history lines) y (draws_of lines y) row →
+    (lines : List Line) (l : Line) → AreSound (lines ++ l ∷ []) → (y : ℕ) (row : Row)
+    → RowStands trace_setting (history lines) y (draws_of lines y) row →
     (Accesses l.item y → IsRaised l.judged) → RowStands trace_setting (history (lines ++ l ∷ [])) y (draws_of (lines ++ l ∷ []) y) row
 
 -- the row has the Info of the line's access noted: a write is the last write and drops the reads, a read takes its thread's place
@@ -47,6 +48,8 @@ pub record IsNotedBy (t : ℕ) (item : Item) (y : ℕ) (i : Info) (old new : Row
 -- the row of y stands with the line's access noted, where its Info stands for that
 abbrev pub RowsFollow : Type 0
 RowsFollow =
-    (lines : List Line) (l : Line) → AreSound (lines ++ l ∷ []) → (y : ℕ) (old new : Row) (i : Info) → RowStands trace_setting (history lines) y (draws_of lines y) old →
-    Accesses l.item y → (IsRaised l.judged → ⊥) → InfoFor trace_setting (history (lines ++ l ∷ [])) i (access_at lines l) i.write → ((i.write ≡ true) ↔ WritesTo l.item y) →
+    (lines : List Line) (l : Line) → AreSound (lines ++ l ∷ []) → (y : ℕ) (old new : Row) (i : Info)
+    → RowStands trace_setting (history lines) y (draws_of lines y) old →
+    Accesses l.item y → (IsRaised l.judged → ⊥) → InfoFor trace_setting (history (lines ++ l ∷ [])) i (access_at lines l) i.write
+    → ((i.write ≡ true) ↔ WritesTo l.item y) →
     IsNotedBy l.thread l.item y i old new → RowStands trace_setting (history (lines ++ l ∷ [])) y (draws_of (lines ++ l ∷ []) y) new

@@ -23,10 +23,12 @@ pub added_one :
 added_one uses c v k less x = by_test (v == x) refl where
   by_test :
       (b : Bool) → (v == x) ≡ b →
-      get_or (set uses v (get_or uses v [] ++ use_of c k ∷ [])) x [] ≡ get_or uses x [] ++ map (λ n. use_of c n) (if v == x then k ∷ [] else [])
+      get_or (set uses v (get_or uses v [] ++ use_of c k ∷ [])) x [] ≡ get_or uses x []
+      ++ map (λ n. use_of c n) (if v == x then k ∷ [] else [])
   by_test true is =
       let same : v ≡ x = eqb-true v x is in
-      rw is (get_or-set_at uses v x (get_or uses v [] ++ use_of c k ∷ []) [] (sym same) less ∙ ap (λ n. get_or uses n [] ++ use_of c k ∷ []) same)
+      rw is (get_or-set_at uses v x (get_or uses v [] ++ use_of c k ∷ []) [] (sym same) less
+      ∙ ap (λ n. get_or uses n [] ++ use_of c k ∷ []) same)
   by_test false is =
       let other : x ≢ v = λ same. let e : (v == x) ≡ true = rw same (eq-eqb v v refl) in cc in
       rw is (get_or-set_other uses v x (get_or uses v [] ++ use_of c k ∷ []) [] other ∙ sym (append-nil (get_or uses x [])))
@@ -37,7 +39,8 @@ pub set_one :
     f new ≡ f (get_or items v d) ++ (c, k) ∷ [] → IsAdded c (λ x. if v == x then k ∷ [] else []) (map f items) (map f (set items v new))
 set_one f items c v k d new less is x =
     let within : v < length (map f items) = (let same = length-map items f in omega arith) in
-    let one : f new ≡ get_or (map f items) v [] ++ use_of c k ∷ [] = is ∙ ap (λ us. us ++ use_of c k ∷ []) (sym (get_or-map f items v d [] less)) in
+    let one : f new ≡ get_or (map f items) v [] ++ use_of c k ∷ [] = is
+    ∙ ap (λ us. us ++ use_of c k ∷ []) (sym (get_or-map f items v d [] less)) in
     ap (λ us. get_or us x []) (map-set f items v new ∙ ap (λ u. set (map f items) v u) one) ∙ added_one (map f items) c v k within x
 
 -- two additions
@@ -47,10 +50,6 @@ added_then c f g a b d one other x =
     other x ∙ ap (λ us. us ++ map (λ k. use_of c k) (g x)) (one x)
     ∙ append_assoc (get_or a x []) (map (λ k. use_of c k) (f x)) (map (λ k. use_of c k) (g x))
     ∙ ap (λ us. get_or a x [] ++ us) (sym (map-append (λ k. use_of c k) (f x) (g x)))
-
--- no number
-pub added_none : (c : Place) (uses : List (List Use)) → IsAdded c (λ x. []) uses uses
-added_none c uses x = sym (append-nil (get_or uses x []))
 
 -- the numbers of parts of a transaction, one part more at a time
 module _ {A : Type 0} (number var : A → ℕ) where
@@ -75,7 +74,8 @@ module _ {A : Type 0} (number var : A → ℕ) where
         IsAdded c (picks (take (i + 1) parts)) old new
     picked_more a new at added x =
         let within = slice_get_within parts i a at in
-        let grown : take (i + 1) parts ≡ take i parts ++ a ∷ [] = take_more parts i a within ∙ ap (λ b. take i parts ++ b ∷ []) (get_or_from_slice_get parts i a a at) in
+        let grown : take (i + 1) parts ≡ take i parts ++ a ∷ [] = take_more parts i a within
+        ∙ ap (λ b. take i parts ++ b ∷ []) (get_or_from_slice_get parts i a a at) in
         let numbers : picks (take (i + 1) parts) x ≡ picks (take i parts) x ++ (if var a == x then number a ∷ [] else []) =
         ap (λ ps. picks ps x) grown ∙ picks_one x (take i parts) a in
         added_then c (picks (take i parts)) (λ y. if var a == y then number a ∷ [] else []) old now new are added x
@@ -114,7 +114,8 @@ item_seen f items uses i v are is less = ap f is ∙ sym (get_or-map f items i v
 
 -- the list of a thread keeps to what lists keep to
 pub list_kept :
-    (made : List (ℕ × List Entry)) → AllByRecursion IsListKept made → (t : ℕ) (es : List Entry) → list_of made t ≡ Some es → IsListKept (t, es)
+    (made : List (ℕ × List Entry)) → AllByRecursion IsListKept made → (t : ℕ) (es : List Entry) → list_of made t ≡ Some es
+    → IsListKept (t, es)
 list_kept [] all t es at = cc
 list_kept (l ∷ ls) all t es at = by_test (l.0 == t) refl (λ a. list_kept ls all.1 t es a) where
   by_test : (b : Bool) → (l.0 == t) ≡ b → (list_of ls t ≡ Some es → IsListKept (t, es)) → IsListKept (t, es)

@@ -134,7 +134,8 @@ abbrev OwnAt : Tx → ℕ → ℕ → Type 0
 OwnAt tx y p = Contains tx.numbers (record { var = y; nth = p })
 
 look_in : (y p : ℕ) (tx : Tx) → LooksAt tx y p → IsAmong (look_picks y tx) p
-look_in y p tx (value, is) = (let at = at_of tx.looks _ is in picked (λ (l : Look). l.nth) (λ (l : Look). l.var) y tx.looks at.0 _ at.1 refl)
+look_in y p tx (value, is) = (let at = at_of tx.looks _ is
+    in picked (λ (l : Look). l.nth) (λ (l : Look). l.var) y tx.looks at.0 _ at.1 refl)
 
 own_in : (y p : ℕ) (tx : Tx) → OwnAt tx y p → IsAmong (own_picks y tx) p
 own_in y p tx is = (let at = at_of tx.numbers _ is in picked (λ (n : Number). n.nth) (λ (n : Number). n.var) y tx.numbers at.0 _ at.1 refl)
@@ -160,7 +161,10 @@ own_is y p tx among =
       named a b m n same equal = rw (same, equal) refl
 
 tx_once : (y : ℕ) (tx : Tx) → IsTxKept tx → ((p : ℕ) → LooksAt tx y p → OwnAt tx y p → ⊥) → IsOnce (look_picks y tx ++ own_picks y tx)
-tx_once y tx kept apart = once_two (look_picks y tx) (own_picks y tx) (few_picked (λ (l : Look). l.nth) (λ (l : Look). l.var) y tx.looks kept.0.1) (few_picked (λ (n : Number). n.nth) (λ (n : Number). n.var) y tx.numbers kept.2.1) (λ p one other. apart p (look_is y p tx one) (own_is y p tx other))
+tx_once y tx kept apart = once_two (look_picks y tx) (own_picks y tx)
+    (few_picked (λ (l : Look). l.nth) (λ (l : Look). l.var) y tx.looks kept.0.1)
+    (few_picked (λ (n : Number). n.nth) (λ (n : Number). n.var) y tx.numbers kept.2.1)
+    (λ p one other. apart p (look_is y p tx one) (own_is y p tx other))
 
 tx_in : (y p : ℕ) (tx : Tx) → LooksAt tx y p ⊎ OwnAt tx y p → IsAmong (look_picks y tx ++ own_picks y tx) p
 tx_in y p tx (inl look) = among_front (look_picks y tx) (own_picks y tx) p (look_in y p tx look)
@@ -198,7 +202,8 @@ plain_of true s nth p k at = cc
 pub draws_are : (y p : ℕ) (e : Entry) → IsAmong (draws_on y e) p → Draws e y p
 draws_are y p (Commit at tx) among = tx_of y p tx among
 draws_are y p (Abort tx why) among = tx_of y p tx among
-draws_are y p (Plain var nth cached write value raised) (k, at) = (let x = plain_of cached (var == y) nth p k at in inr (x.0, eqb-true var y x.1, x.2))
+draws_are y p (Plain var nth cached write value raised) (k, at) =
+    (let x = plain_of cached (var == y) nth p k at in inr (x.0, eqb-true var y x.1, x.2))
 draws_are y p (Sync at act value) (k, there) = cc
 draws_are y p (Trim low) (k, there) = cc
 draws_are y p (Over ending) (k, there) = cc

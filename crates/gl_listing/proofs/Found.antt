@@ -15,7 +15,8 @@ use Rattle.gl_listing.proofs.Marking.{IsFirstWrong}
 
 -- the uses of a record are in order
 pub uses_in_order : (f : Entry → List ℕ) (made : List (ℕ × List Entry)) → Rises (map (λ l. l.0) made) → AreInOrder (uses_of f made)
-uses_in_order f made rises = λ j k u v less at also before. in_order (uses_of f made) j k u v (record_ordered f made rises) less at also before
+uses_in_order f made rises = λ j k u v less at also before. in_order (uses_of f made) j k u v (record_ordered f made rises) less at also
+    before
 
 before_itself : (c : Place) → Before c c → ⊥
 before_itself c (inl less) = omega arith
@@ -29,7 +30,8 @@ module _ (us : List Use) where
   pub nowhere : ((k : ℕ) → IsWrongAt (numbers_in us) k → ⊥) → (c : Place) → UseFailsAt us c → ⊥
   nowhere right c x = right x.index x.wrong
 
-  pub first_place : AreInOrder us → (k : ℕ) (u : Use) → slice_get us k ≡ Some u → IsFirstWrong (numbers_in us) k → IsFirstBy Before (UseFailsAt us) u.0
+  pub first_place : AreInOrder us → (k : ℕ) (u : Use) → slice_get us k ≡ Some u → IsFirstWrong (numbers_in us) k
+      → IsFirstBy Before (UseFailsAt us) u.0
   first_place ordered k u at first = (fails, earlier) where
     fails : UseFailsAt us u.0
     fails = record { number = u.1; index = k; there = at; wrong = first.fails }
@@ -52,7 +54,8 @@ IsFound Fails found = MatchOption found ((c : Place) → Fails c → ⊥) (λ c.
 
 -- what is found speaks of another way to fail that is the same
 pub same_found :
-    (F N : Place → Type 0) → ((c : Place) → F c → N c) → ((c : Place) → N c → F c) → (found : Option StoredPlace) → IsFound F found → IsFound N found
+    (F N : Place → Type 0) → ((c : Place) → F c → N c) → ((c : Place) → N c → F c) → (found : Option StoredPlace) → IsFound F found
+    → IsFound N found
 same_found F N to from None is = λ c fails. is c (from c fails)
 same_found F N to from (Some d) is = (to (seen d) is.0, λ c fails. is.1 c (from c fails))
 
@@ -85,29 +88,44 @@ before_after : (c d e : Place) → Before e d → Before d c → Before e c
 before_after c d e (inl less) (inl more) = inl (omega arith)
 before_after c d e (inl less) (inr both) = (let same = both.0 in inl (omega arith))
 before_after c d e (inr both) (inl more) = (let same = both.0 in inl (omega arith))
-before_after c d e (inr one) (inr other) = (let a = one.0 in let b = one.1 in let f = other.0 in let g = other.1 in inr (omega arith, omega arith))
+before_after c d e (inr one) (inr other) =
+    (let a = one.0 in let b = one.1 in let f = other.0 in let g = other.1 in inr (omega arith, omega arith))
 
 -- the first place of two ways to fail is the earlier one
-module _ (F H N : Place → Type 0) (either : (c : Place) → N c → F c ⊎ H c) (one : (c : Place) → F c → N c) (other : (c : Place) → H c → N c) where
+module _ (F H N : Place → Type 0) (either : (c : Place) → N c → F c ⊎ H c) (one : (c : Place) → F c → N c) (other : (c : Place) → H c
+    → N c) where
   moved : (next found : Option StoredPlace) → next ≡ found → IsFound N found → IsFound N next
   moved next found same is = subst (IsFound N) (sym same) is
 
-  pub earlier_found : (first found next : Option StoredPlace) → IsFound F first → IsFound H found → IsEarlier first found next → IsFound N next
+  pub earlier_found : (first found next : Option StoredPlace) → IsFound F first → IsFound H found → IsEarlier first found next
+      → IsFound N next
   earlier_found None None next no_first none is =
       moved next None is (λ c fails. elim (either c fails) [ inl f ↦ no_first c f | inr h ↦ none c h ])
   earlier_found None (Some d) next no_first there is =
-      moved next (Some d) is (other (seen d) there.0, λ c fails less. elim (either c fails) [ inl f ↦ no_first c f | inr h ↦ there.1 c h less ])
+      moved next (Some d) is (
+        other (seen d) there.0,
+        λ c fails less. elim (either c fails) [
+          | inl f ↦ no_first c f
+          | inr h ↦ there.1 c h less
+        ],
+      )
   earlier_found (Some c) None next here none is =
       moved next (Some c) is (one (seen c) here.0, λ e fails less. elim (either e fails) [ inl f ↦ here.1 e f less | inr h ↦ none e h ])
   earlier_found (Some c) (Some d) next here there (inl (is, before)) =
       moved next (Some d) is (
         other (seen d) there.0,
-        λ e fails less. elim (either e fails) [ inl f ↦ here.1 e f (before_after (seen c) (seen d) e less before) | inr h ↦ there.1 e h less ],
+        λ e fails less. elim (either e fails) [
+          | inl f ↦ here.1 e f (before_after (seen c) (seen d) e less before)
+          | inr h ↦ there.1 e h less
+        ],
       )
   earlier_found (Some c) (Some d) next here there (inr (is, not_before)) =
       moved next (Some c) is (
         one (seen c) here.0,
-        λ e fails less. elim (either e fails) [ inl f ↦ here.1 e f less | inr h ↦ there.1 e h (before_through (seen c) (seen d) e less not_before) ],
+        λ e fails less. elim (either e fails) [
+          | inl f ↦ here.1 e f less
+          | inr h ↦ there.1 e h (before_through (seen c) (seen d) e less not_before)
+        ],
       )
 
 -- some use of a variable below this one fails there
@@ -121,21 +139,22 @@ found_none uses = λ c fails. (let less = fails.1 in omega arith)
 pub found_more :
     (uses : List (List Use)) (i : ℕ) (first found next : Option StoredPlace) → IsFound (FailsBelow uses i) first →
     IsFound (UseFailsAt (slice_index_or uses i [])) found → IsEarlier first found next → IsFound (FailsBelow uses (i + 1)) next
-found_more uses i = earlier_found (FailsBelow uses i) (UseFailsAt (slice_index_or uses i [])) (FailsBelow uses (i + 1)) either one other where
-  either : (c : Place) → FailsBelow uses (i + 1) c → FailsBelow uses i c ⊎ UseFailsAt (slice_index_or uses i []) c
-  either c (x, less, fails) = elim (cases_lt x i) [
-    | inl lt ↦ inl (x, lt, fails)
-    | inr ge ↦
-        (let same : x ≡ i = omega arith in
-        let P : ℕ → Type 0 = λ y. UseFailsAt (slice_index_or uses y []) c in
-        inr (subst P same fails))
-  ]
+found_more uses i = earlier_found (FailsBelow uses i) (UseFailsAt (slice_index_or uses i [])) (FailsBelow uses (i + 1)) either one other
+  where
+    either : (c : Place) → FailsBelow uses (i + 1) c → FailsBelow uses i c ⊎ UseFailsAt (slice_index_or uses i []) c
+    either c (x, less, fails) = elim (cases_lt x i) [
+      | inl lt ↦ inl (x, lt, fails)
+      | inr ge ↦
+          (let same : x ≡ i = omega arith in
+          let P : ℕ → Type 0 = λ y. UseFailsAt (slice_index_or uses y []) c in
+          inr (subst P same fails))
+    ]
 
-  one : (c : Place) → FailsBelow uses i c → FailsBelow uses (i + 1) c
-  one c (x, less, fails) = (x, omega arith, fails)
+    one : (c : Place) → FailsBelow uses i c → FailsBelow uses (i + 1) c
+    one c (x, less, fails) = (x, omega arith, fails)
 
-  other : (c : Place) → UseFailsAt (slice_index_or uses i []) c → FailsBelow uses (i + 1) c
-  other c fails = (i, omega arith, fails)
+    other : (c : Place) → UseFailsAt (slice_index_or uses i []) c → FailsBelow uses (i + 1) c
+    other c fails = (i, omega arith, fails)
 
 -- all variables are looked at
 pub found_all :

@@ -44,16 +44,9 @@ replicate_long : (n : ℕ) → length (replicate n false) ≡ n
 replicate_long zero = refl
 replicate_long (suc n) = (let more = replicate_long n in omega arith)
 
-pub met_none : (ns : List ℕ) (met : List Bool) → met ≡ replicate (length ns) false → HasMet ns 0 met
-met_none ns met is = record {
-  long = ap length is ∙ replicate_long (length ns);
-  only = λ i there. absurd (none_set (length ns) i (ap (λ bs. slice_get bs i) (sym is) ∙ there));
-  each = λ i j less at. absurd (omega arith);
-  right = λ j less wrong. absurd (omega arith);
-}
-
 -- the next number is not wrong, or is the first that is
-not_wrong : (ns : List ℕ) (k n : ℕ) (met : List Bool) → HasMet ns k met → slice_get ns k ≡ Some n → slice_get met n ≡ Some false → IsWrongAt ns k → ⊥
+not_wrong : (ns : List ℕ) (k n : ℕ) (met : List Bool) → HasMet ns k met → slice_get ns k ≡ Some n → slice_get met n ≡ Some false
+    → IsWrongAt ns k → ⊥
 not_wrong ns k n met has at fresh wrong = by_fault wrong.wrong where
   same : wrong.number ≡ n
   same = (let there = wrong.there in cc)
@@ -66,7 +59,8 @@ not_wrong ns k n met has at fresh wrong = by_fault wrong.wrong where
       omega arith
   by_fault (inr (j, less, there)) = (let marked = has.each n j less (there ∙ ap Some same) in cc)
 
-pub met_more : (ns : List ℕ) (k n : ℕ) (met new : List Bool) → HasMet ns k met → slice_get ns k ≡ Some n → IsMarked met n new → HasMet ns (k + 1) new
+pub met_more : (ns : List ℕ) (k n : ℕ) (met new : List Bool) → HasMet ns k met → slice_get ns k ≡ Some n → IsMarked met n new
+    → HasMet ns (k + 1) new
 met_more ns k n met new has at marks = record {
   long = ap length marks.after_is ∙ set_length met n true ∙ has.long;
   only = λ i there. only i there (cases_order i n);
@@ -90,13 +84,16 @@ met_more ns k n met new has at marks = record {
   before : (i j : ℕ) → j < k + 1 → slice_get ns j ≡ Some i → i ≢ n → j < k
   before i j less there other = elim (cases_lt j k) [
     | inl lt ↦ lt
-    | inr ge ↦ absurd (let is : j ≡ k = omega arith in let moved : slice_get ns j ≡ Some n = rw is at in let same : i ≡ n = cc in other same)
+    | inr ge ↦ absurd (let is : j ≡ k = omega arith in let moved : slice_get ns j ≡ Some n = rw is at in let same : i ≡ n = cc
+        in other same)
   ]
 
   each : (i j : ℕ) → j < k + 1 → slice_get ns j ≡ Some i → (i ≡ n) ⊎ ((i < n) ⊎ (n < i)) → slice_get new i ≡ Some true
   each i j less there (inl same) = now i same
-  each i j less there (inr (inl lt)) = (let other : i ≢ n = λ same. let s : i ≡ n = same in omega arith in old_at i other ∙ has.each i j (before i j less there other) there)
-  each i j less there (inr (inr gt)) = (let other : i ≢ n = λ same. let s : i ≡ n = same in omega arith in old_at i other ∙ has.each i j (before i j less there other) there)
+  each i j less there (inr (inl lt)) = (let other : i ≢ n = λ same. let s : i ≡ n = same in omega arith in old_at i other
+      ∙ has.each i j (before i j less there other) there)
+  each i j less there (inr (inr gt)) = (let other : i ≢ n = λ same. let s : i ≡ n = same in omega arith in old_at i other
+      ∙ has.each i j (before i j less there other) there)
 
   right : (j : ℕ) → j < k + 1 → IsWrongAt ns j → (j ≡ k) ⊎ ((j < k) ⊎ (k < j)) → ⊥
   right j less wrong (inl same) = (let Q : IsWrongAt ns k = rw (sym same) wrong in not_wrong ns k n met has at marks.fresh Q)

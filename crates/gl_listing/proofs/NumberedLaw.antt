@@ -28,7 +28,8 @@ entry_kept [] all j e at = cc
 entry_kept (x ∷ es) all zero e at = (let same : x ≡ e = cc in rw (sym same) all.0)
 entry_kept (x ∷ es) all (suc j) e at = entry_kept es all.1 j e at
 
-all_kept : (made : List (ℕ × List Entry)) → AllByRecursion IsListKept made → (t j : ℕ) (e : Entry) → At (lists_of made t) j e → IsEntryKept e
+all_kept : (made : List (ℕ × List Entry)) → AllByRecursion IsListKept made → (t j : ℕ) (e : Entry) → At (lists_of made t) j e
+    → IsEntryKept e
 all_kept [] all t j e at = cc
 all_kept (l ∷ ls) all t j e at = by_test (l.0 == t) refl (λ a. all_kept ls all.1 t j e a) where
   by_test : (b : Bool) → (l.0 == t) ≡ b → (At (lists_of ls t) j e → IsEntryKept e) → IsEntryKept e
@@ -50,7 +51,8 @@ module _ (made : List (ℕ × List Entry)) (kept : IsRecord made) (form : Form (
   ns = numbers_in us
 
   differs : Differ us
-  differs = record_differ (draws_on y) made kept.0 (λ t j e at. entry_once y t e (all_kept made kept.1 t j e at) ((form.formed t).well_formed j e at))
+  differs = record_differ (draws_on y) made kept.0
+      (λ t j e at. entry_once y t e (all_kept made kept.1 t j e at) ((form.formed t).well_formed j e at))
 
   draw_of_use : (k p : ℕ) (c : Place) → slice_get us k ≡ Some (c, p) → (e : Entry) × EntryAt R c e × Draws e y p
   draw_of_use k p c at = (let x = use_is (draws_on y) made kept.0 (c, p) (k, at) in (x.entry, x.there, draws_are y p x.entry x.among))
@@ -60,22 +62,23 @@ module _ (made : List (ℕ × List Entry)) (kept : IsRecord made) (form : Form (
 
   module _ (m : ℕ) (below : NumberedBelow R y m) where
     length_of : m ≤ length ns
-    length_of = rw (sym (length-range_with_len 0 m)) (length-le_from_is_member nat_eq_equiv (range_with_len 0 m) ns (once_distinct (range_with_len 0 m) once) within) where
-      once : IsOnce (range_with_len 0 m)
-      once j k p less at also =
-          let one = (range_at 0 m j p at).0 in
-          let other = (range_at 0 m k p also).0 in
-          omega arith
+    length_of = rw (sym (length-range_with_len 0 m))
+        (length-le_from_is_member nat_eq_equiv (range_with_len 0 m) ns (once_distinct (range_with_len 0 m) once) within) where
+          once : IsOnce (range_with_len 0 m)
+          once j k p less at also =
+              let one = (range_at 0 m j p at).0 in
+              let other = (range_at 0 m k p also).0 in
+              omega arith
 
-      within : (q : ℕ) → is_member eqb (range_with_len 0 m) q ≡ true → is_member eqb ns q ≡ true
-      within q found =
-          let place = found_any q (range_with_len 0 m) found in
-          let at = range_at 0 m place.0 q place.1 in
-          let same = at.0 in
-          let lt = at.1 in
-          let d = below.drawn q (omega arith) in
-          let k = use_of_draw d.0 q d.1.0 d.1.1 d.1.2 in
-          any_found q k.0 ns (number_of us k.0 (d.0, q) k.1)
+          within : (q : ℕ) → is_member eqb (range_with_len 0 m) q ≡ true → is_member eqb ns q ≡ true
+          within q found =
+              let place = found_any q (range_with_len 0 m) found in
+              let at = range_at 0 m place.0 q place.1 in
+              let same = at.0 in
+              let lt = at.1 in
+              let d = below.drawn q (omega arith) in
+              let k = use_of_draw d.0 q d.1.0 d.1.1 d.1.2 in
+              any_found q k.0 ns (number_of us k.0 (d.0, q) k.1)
 
     never_wrong : (c : Place) (number index : ℕ) → slice_get us index ≡ Some (c, number) → IsWrongAt ns index → ⊥
     never_wrong c number index there x = by_fault x.wrong where
@@ -137,7 +140,8 @@ module _ (made : List (ℕ × List Entry)) (kept : IsRecord made) (form : Form (
           let d = draw_of_use k.0 p u.0 u.1 in
           (u.0, d)
 
-pub numbered_exactly : (made : List (ℕ × List Entry)) → IsRecord made → Form (lists_of made) → Numbered (lists_of made) ↔ ((c : Place) → NumberFailsAt made c → ⊥)
+pub numbered_exactly : (made : List (ℕ × List Entry)) → IsRecord made → Form (lists_of made)
+    → Numbered (lists_of made) ↔ ((c : Place) → NumberFailsAt made c → ⊥)
 numbered_exactly made kept form = (forth, back) where
   forth : Numbered (lists_of made) → (c : Place) → NumberFailsAt made c → ⊥
   forth numbered c (y, x) = never_wrong made kept form y (numbered y).0 (numbered y).1 c x.number x.index x.there x.wrong

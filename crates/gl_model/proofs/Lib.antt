@@ -7,5 +7,4 @@ pub mod ListsOf
 pub mod Pushed
 pub mod Parts
 pub mod Reported
-pub mod GrownLists
 pub mod Unions

@@ -42,15 +42,21 @@ module _ {A : Type 0} (key : A → ℕ) (p : A) where
   ]
 
   -- by the place of the part
-  with_part-at : (xs : List A) (i : ℕ) → i ≤ length xs → ((k : ℕ) (d : A) → k < i → key (get_or xs k d) < key p) → ((d : A) → i < length xs → key p < key (get_or xs i d)) → take i xs ++ p ∷ drop i xs ≡ with_part key p xs
+  with_part-at : (xs : List A) (i : ℕ) → i ≤ length xs → ((k : ℕ) (d : A) → k < i → key (get_or xs k d) < key p)
+      → ((d : A) → i < length xs → key p < key (get_or xs i d)) → take i xs ++ p ∷ drop i xs ≡ with_part key p xs
   with_part-at [] i le below above = let none : i ≡ zero = omega arith in rw none
   with_part-at (x ∷ xs) zero le below above = sym (with_part-above x xs (above p (omega arith)))
-  with_part-at (x ∷ xs) (suc i) le below above = rw (with_part-below x xs (below zero p (omega arith))) (ap (λ zs. x ∷ zs) (with_part-at xs i (omega arith) (λ k d l. below (suc k) d (omega arith)) (λ d l. above d (omega arith))))
+  with_part-at (x ∷ xs) (suc i) le below above =
+      rw (with_part-below x xs (below zero p (omega arith)))
+      (ap (λ zs. x ∷ zs) (with_part-at xs i (omega arith) (λ k d l. below (suc k) d (omega arith)) (λ d l. above d (omega arith))))
 
-  with_part-there : (xs : List A) (i : ℕ) → i < length xs → ((k : ℕ) (d : A) → k < i → key (get_or xs k d) < key p) → key (get_or xs i p) ≡ key p → set xs i p ≡ with_part key p xs
+  with_part-there : (xs : List A) (i : ℕ) → i < length xs → ((k : ℕ) (d : A) → k < i → key (get_or xs k d) < key p) → key (get_or xs i p)
+      ≡ key p → set xs i p ≡ with_part key p xs
   with_part-there [] i n below here = absurd (omega arith)
   with_part-there (x ∷ xs) zero n below here = sym (with_part-same x xs here)
-  with_part-there (x ∷ xs) (suc i) n below here = rw (with_part-below x xs (below zero p (omega arith))) (ap (λ zs. x ∷ zs) (with_part-there xs i (omega arith) (λ k d l. below (suc k) d (omega arith)) here))
+  with_part-there (x ∷ xs) (suc i) n below here =
+      rw (with_part-below x xs (below zero p (omega arith)))
+      (ap (λ zs. x ∷ zs) (with_part-there xs i (omega arith) (λ k d l. below (suc k) d (omega arith)) here))
 
   -- the parts stand at the head of an array
   module _ (parts : List A) (len i : ℕ) (long : len ≤ length parts) (placed : Placed key (key p) (take len parts) i) where
@@ -66,7 +72,8 @@ module _ {A : Type 0} (key : A → ℕ) (p : A) where
     pub otherwise : (at d : A) → i < len → key (get_or parts i at) ≢ key p → key (get_or parts i d) ≢ key p
     otherwise at d l other same = other (ap key (get_or_default parts i at d (omega arith)) ∙ same)
 
-    above_here : ((d : A) → i < len → key (get_or parts i d) ≢ key p) → (d : A) → i < length (take len parts) → key p < key (get_or (take len parts) i d)
+    above_here : ((d : A) → i < len → key (get_or parts i d) ≢ key p) → (d : A) → i < length (take len parts)
+        → key p < key (get_or (take len parts) i d)
     above_here other d l =
         let l' : i < len = omega (arith, head) in
         let e : key (get_or (take len parts) i d) ≡ key (get_or parts i d) = ap key (get_or-take len parts i d l') in
@@ -74,35 +81,48 @@ module _ {A : Type 0} (key : A → ℕ) (p : A) where
         let le : key p ≤ key (get_or (take len parts) i d) = placed.here d l in
         omega arith
 
-    pub put_there : ((d : A) → i < len → key (get_or parts i d) ≢ key p) → take i parts ++ p ∷ slice_range parts i len ≡ with_part key p (take len parts)
+    pub put_there : ((d : A) → i < len → key (get_or parts i d) ≢ key p) → take i parts ++ p ∷ slice_range parts i len
+        ≡ with_part key p (take len parts)
     put_there other =
         let within = placed.within in
         let le : i ≤ len = omega (arith, head) in
         let split : i + (len - i) ≡ len = omega arith in
         let first : take i (take len parts) ≡ take i parts = take-take i len parts le in
         let rest : drop i (take len parts) ≡ slice_range parts i len = rw split at (drop-take i (len - i) parts) in
-        ap (λ ys. ys ++ p ∷ slice_range parts i len) (sym first) ∙ ap (λ ys. take i (take len parts) ++ p ∷ ys) (sym rest) ∙ (with_part-at (take len parts) i placed.within placed.below (above_here other))
+        ap (λ ys. ys ++ p ∷ slice_range parts i len) (sym first) ∙ ap (λ ys. take i (take len parts) ++ p ∷ ys) (sym rest)
+        ∙ (with_part-at (take len parts) i placed.within placed.below (above_here other))
 
-    pub not_among : Rises (map key (take len parts)) → ((d : A) → i < len → key (get_or parts i d) ≢ key p) → Contains (map key (take len parts)) (key p) → ⊥
+    pub not_among : Rises (map key (take len parts)) → ((d : A) → i < len → key (get_or parts i d) ≢ key p)
+        → Contains (map key (take len parts)) (key p) → ⊥
     not_among rises other c = not_there (map key (take len parts)) (key p) i rises
-        (λ k l. let within = placed.within in let n : k < length (take len parts) = omega arith in rw (get_or-map key (take len parts) k p 0 n) (placed.below k p l))
-        (λ l. let n : i < length (take len parts) = omega (arith, length-map (take len parts) key) in rw (get_or-map key (take len parts) i p 0 n) (above_here other p n))
+        (λ k l. let within = placed.within in let n : k < length (take len parts) = omega arith
+        in rw (get_or-map key (take len parts) k p 0 n) (placed.below k p l))
+        (λ l. let n : i < length (take len parts) = omega (arith, length-map (take len parts) key)
+        in rw (get_or-map key (take len parts) i p 0 n) (above_here other p n))
         c.0 c.1 (get_or_default (map key (take len parts)) c.0 0 (key p) c.1 ∙ c.2)
 
   -- the variables of the parts keep to their rules
-  pub still_variables : (xs ys : List A) → ys ≡ with_part key p xs → length ys ≤ TX_VARIABLES → key p < VARIABLES → AreVariables (map key xs) → AreVariables (map key ys)
+  pub still_variables : (xs ys : List A) → ys ≡ with_part key p xs → length ys ≤ TX_VARIABLES → key p < VARIABLES
+      → AreVariables (map key xs) → AreVariables (map key ys)
   still_variables xs ys is n within old =
       let keys : map key ys ≡ with_one (key p) (map key xs) = ap (map key) is ∙ keys-with_part xs in
-      let long : length (map key ys) ≤ TX_VARIABLES = omega (arith, length-map ys key) in
-      (long, rw keys (Rises-with_one (key p) (map key xs) old.1), rw keys (All-with_one (λ x. x < VARIABLES) (key p) (map key xs) within old.2))
+      let long : length (map key ys) ≤ TX_VARIABLES = omega (arith, length-map ys key) in (
+        long,
+        rw keys (Rises-with_one (key p) (map key xs) old.1),
+        rw keys
+            (All-with_one (λ x. x < VARIABLES) (key p) (map key xs) within old.2),
+      )
 
 -- the first part that passes a test
-pub find_more : {A : Type 0} (test : A → Bool) (xs : List A) (i : ℕ) (d : A) → i < length xs → find test (take i xs) ≡ None → test (get_or xs i d) ≡ false → find test (take (i + 1) xs) ≡ None
+pub find_more : {A : Type 0} (test : A → Bool) (xs : List A) (i : ℕ) (d : A) → i < length xs → find test (take i xs) ≡ None
+    → test (get_or xs i d) ≡ false → find test (take (i + 1) xs) ≡ None
 find_more test xs i d n none fails = rw (take_more xs i d n, find-append test (take i xs) (get_or xs i d ∷ []), none, fails)
 
-pub find_here : {A : Type 0} (test : A → Bool) (xs : List A) (i : ℕ) (d : A) → i < length xs → find test (take i xs) ≡ None → test (get_or xs i d) ≡ true → Some (get_or xs i d) ≡ find test xs
+pub find_here : {A : Type 0} (test : A → Bool) (xs : List A) (i : ℕ) (d : A) → i < length xs → find test (take i xs) ≡ None
+    → test (get_or xs i d) ≡ true → Some (get_or xs i d) ≡ find test xs
 find_here test xs i d n none passes =
-    let split : xs ≡ take i xs ++ (get_or xs i d ∷ drop (suc i) xs) = sym (take-append-drop i xs) ∙ ap (λ ys. take i xs ++ ys) (drop-cons xs i d n) in
+    let split : xs ≡ take i xs ++ (get_or xs i d ∷ drop (suc i) xs) = sym (take-append-drop i xs)
+    ∙ ap (λ ys. take i xs ++ ys) (drop-cons xs i d n) in
     let first : find test (get_or xs i d ∷ drop (suc i) xs) ≡ Some (get_or xs i d) = rw passes in
     sym (ap (find test) split ∙ find-append test (take i xs) (get_or xs i d ∷ drop (suc i) xs) ∙ rw (none, first))
 

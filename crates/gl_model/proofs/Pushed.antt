@@ -27,16 +27,24 @@ module _ (t : ℕ) (e : Entry) where
 
   module _ {A : Type 0} (f : A → ℕ × List Entry) where
     -- behind the entries of the list at i
-    pub appended : (items : List A) (i : ℕ) (new : A) → i < length items → ((k : ℕ) → k < i → (f (get_or items k new)).0 < t) → (f (get_or items i new)).0 ≡ t → f new ≡ (t, (f (get_or items i new)).1 ++ e ∷ []) → map f (set items i new) ≡ with_last t e (map f items)
+    pub appended : (items : List A) (i : ℕ) (new : A) → i < length items → ((k : ℕ) → k < i → (f (get_or items k new)).0 < t)
+        → (f (get_or items i new)).0 ≡ t → f new ≡ (t, (f (get_or items i new)).1 ++ e ∷ []) → map f (set items i new)
+        ≡ with_last t e (map f items)
     appended [] i new n below same is = absurd (omega arith)
     appended (x ∷ xs) zero new n below same is = rw (with_last-same (f x) (map f xs) same) (ap (λ l. l ∷ map f xs) is)
-    appended (x ∷ xs) (suc i) new n below same is = rw (with_last-below (f x) (map f xs) (below zero (omega arith))) (ap (λ ls. f x ∷ ls) (appended xs i new (omega arith) (λ k l. below (suc k) (omega arith)) same is))
+    appended (x ∷ xs) (suc i) new n below same is =
+        rw (with_last-below (f x) (map f xs) (below zero (omega arith)))
+        (ap (λ ls. f x ∷ ls) (appended xs i new (omega arith) (λ k l. below (suc k) (omega arith)) same is))
 
     -- as a list of its own at i
-    pub started : (items : List A) (i : ℕ) (new : A) → i ≤ length items → ((k : ℕ) → k < i → (f (get_or items k new)).0 < t) → (i < length items → t < (f (get_or items i new)).0) → f new ≡ (t, e ∷ []) → map f (insert items i new) ≡ with_last t e (map f items)
+    pub started : (items : List A) (i : ℕ) (new : A) → i ≤ length items → ((k : ℕ) → k < i → (f (get_or items k new)).0 < t)
+        → (i < length items → t < (f (get_or items i new)).0) → f new ≡ (t, e ∷ []) → map f (insert items i new)
+        ≡ with_last t e (map f items)
     started [] i new n below above is = let none : i ≡ zero = omega arith in rw (none, is)
     started (x ∷ xs) zero new n below above is = rw (is, with_last-above (f x) (map f xs) (above (omega arith)))
-    started (x ∷ xs) (suc i) new n below above is = rw (with_last-below (f x) (map f xs) (below zero (omega arith))) (ap (λ ls. f x ∷ ls) (started xs i new (omega arith) (λ k l. below (suc k) (omega arith)) (λ l. above (omega arith)) is))
+    started (x ∷ xs) (suc i) new n below above is =
+        rw (with_last-below (f x) (map f xs) (below zero (omega arith)))
+        (ap (λ ls. f x ∷ ls) (started xs i new (omega arith) (λ k l. below (suc k) (omega arith)) (λ l. above (omega arith)) is))
 
 All-last : (xs : List Entry) (e : Entry) → AllByRecursion IsEntryKept xs → IsEntryKept e → AllByRecursion IsEntryKept (xs ++ e ∷ [])
 All-last [] e all kept = (kept, tt)
@@ -47,11 +55,15 @@ some-last [] e = omega arith
 some-last (x ∷ xs) e = omega arith
 
 -- what holds of each thread's number holds with t among them
-All-with_last : (P : ℕ → Type 0) (t : ℕ) (e : Entry) (ls : List (ℕ × List Entry)) → P t → AllByRecursion P (map (λ l. l.0) ls) → AllByRecursion P (map (λ l. l.0) (with_last t e ls))
+All-with_last : (P : ℕ → Type 0) (t : ℕ) (e : Entry) (ls : List (ℕ × List Entry)) → P t → AllByRecursion P (map (λ l. l.0) ls)
+    → AllByRecursion P (map (λ l. l.0) (with_last t e ls))
 All-with_last P t e [] p all = (p, tt)
 All-with_last P t e (l ∷ ls) p all = elim (cases_lt t l.0) [
   | inl above ↦ rw (with_last-above t e l ls above) (p, all)
-  | inr ge ↦ elim (eq-or-lt_of_le ge) [ inl same ↦ rw (with_last-same t e l ls same) (p, all.1) | inr below ↦ rw (with_last-below t e l ls below) (all.0, All-with_last P t e ls p all.1) ]
+  | inr ge ↦ elim (eq-or-lt_of_le ge) [
+    | inl same ↦ rw (with_last-same t e l ls same) (p, all.1)
+    | inr below ↦ rw (with_last-below t e l ls below) (all.0, All-with_last P t e ls p all.1)
+  ]
 ]
 
 weaker : (P Q : ℕ → Type 0) → ((y : ℕ) → P y → Q y) → (xs : List ℕ) → AllByRecursion P xs → AllByRecursion Q xs
@@ -61,14 +73,16 @@ weaker P Q f (x ∷ xs) all = (f x all.0, weaker P Q f xs all.1)
 Rises-with_last : (t : ℕ) (e : Entry) (ls : List (ℕ × List Entry)) → Rises (map (λ l. l.0) ls) → Rises (map (λ l. l.0) (with_last t e ls))
 Rises-with_last t e [] rises = (tt, tt)
 Rises-with_last t e (l ∷ ls) rises = elim (cases_lt t l.0) [
-  | inl above ↦ rw (with_last-above t e l ls above) ((above, weaker (λ z. l.0 < z) (λ z. t < z) (λ z m. omega arith) (map (λ m. m.0) ls) rises.0), rises)
+  | inl above ↦ rw (with_last-above t e l ls above)
+      ((above, weaker (λ z. l.0 < z) (λ z. t < z) (λ z m. omega arith) (map (λ m. m.0) ls) rises.0), rises)
   | inr ge ↦ elim (eq-or-lt_of_le ge) [
     | inl same ↦ rw (with_last-same t e l ls same) (rw same at rises)
     | inr below ↦ rw (with_last-below t e l ls below) (All-with_last (λ z. l.0 < z) t e ls below rises.0, Rises-with_last t e ls rises.1)
   ]
 ]
 
-kept-with_last : (t : ℕ) (e : Entry) (ls : List (ℕ × List Entry)) → t < THREADS → IsEntryKept e → AllByRecursion IsListKept ls → AllByRecursion IsListKept (with_last t e ls)
+kept-with_last : (t : ℕ) (e : Entry) (ls : List (ℕ × List Entry)) → t < THREADS → IsEntryKept e → AllByRecursion IsListKept ls
+    → AllByRecursion IsListKept (with_last t e ls)
 kept-with_last t e [] within kept all = ((within, omega arith, (kept, tt)), tt)
 kept-with_last t e (l ∷ ls) within kept all = elim (cases_lt t l.0) [
   | inl above ↦ rw (with_last-above t e l ls above) ((within, omega arith, (kept, tt)), all)
@@ -78,7 +92,8 @@ kept-with_last t e (l ∷ ls) within kept all = elim (cases_lt t l.0) [
   ]
 ]
 
-pub IsRecord-with_last : (t : ℕ) (e : Entry) (ls : List (ℕ × List Entry)) → t < THREADS → IsEntryKept e → IsRecord ls → IsRecord (with_last t e ls)
+pub IsRecord-with_last : (t : ℕ) (e : Entry) (ls : List (ℕ × List Entry)) → t < THREADS → IsEntryKept e → IsRecord ls
+    → IsRecord (with_last t e ls)
 IsRecord-with_last t e ls within kept is = (Rises-with_last t e ls is.0, kept-with_last t e ls within kept is.1)
 
 pub on_ok : {T E : Type 0} (r : Result T E) (P Q : Type 0) → (P → Q) → OnOk r P → OnOk r Q
@@ -86,22 +101,29 @@ on_ok (Ok x) P Q f p = f p
 on_ok (Err x) P Q f p = tt
 
 -- the lists of a record, as they are stored
-module _ (ds items new : List ThreadList) (i t : ℕ) (entry : StoredEntry) (same : ds ≡ items) (below : (k : ℕ) (d : ThreadList) → k < i → (get_or ds k d).thread < t) where
-  pub append_seen : (at : ThreadList) → i < length items → at ≡ get_or items i at → at.thread ≡ t → (list : ThreadList) × (list.thread ≡ (get_or items i list).thread) × (list.entries.items ≡ (get_or items i list).entries.items ++ entry ∷ []) × (new ≡ set items i list) → map list_seen new ≡ with_last t (seen entry) (map list_seen items)
+module _ (ds items new : List ThreadList) (i t : ℕ) (entry : StoredEntry) (same : ds ≡ items) (below : (k : ℕ) (d : ThreadList) → k < i
+    → (get_or ds k d).thread < t) where
+  pub append_seen : (at : ThreadList) → i < length items → at ≡ get_or items i at → at.thread ≡ t → (list : ThreadList)
+      × (list.thread ≡ (get_or items i list).thread) × (list.entries.items ≡ (get_or items i list).entries.items ++ entry ∷ [])
+      × (new ≡ set items i list) → map list_seen new ≡ with_last t (seen entry) (map list_seen items)
   append_seen at n is own w =
       let here : get_or items i at ≡ get_or items i w.0 = get_or_default items i at w.0 n in
       let old : (get_or items i w.0).thread ≡ t = ap (λ (l : ThreadList). l.thread) (sym (is ∙ here)) ∙ own in
-      let more : map seen w.0.entries.items ≡ map seen (get_or items i w.0).entries.items ++ seen entry ∷ [] = ap (map seen) w.2 ∙ map-append seen (get_or items i w.0).entries.items (entry ∷ []) in
+      let more : map seen w.0.entries.items ≡ map seen (get_or items i w.0).entries.items ++ seen entry ∷ [] = ap (map seen) w.2
+      ∙ map-append seen (get_or items i w.0).entries.items (entry ∷ []) in
       let less : (k : ℕ) → k < i → (list_seen (get_or items k w.0)).0 < t = λ k l. rw same at (below k w.0 l) in
       rw w.3 (appended t (seen entry) list_seen items i w.0 n less old (λ j. ((w.1 ∙ old) j, more j)))
 
-  pub start_seen : i ≤ length items → ((d : ThreadList) → i < length items → t < (get_or items i d).thread) → (list : ThreadList) × (list.thread ≡ t) × (list.entries.items ≡ entry ∷ []) × (new ≡ insert items i list) → map list_seen new ≡ with_last t (seen entry) (map list_seen items)
+  pub start_seen : i ≤ length items → ((d : ThreadList) → i < length items → t < (get_or items i d).thread) → (list : ThreadList)
+      × (list.thread ≡ t) × (list.entries.items ≡ entry ∷ []) × (new ≡ insert items i list) → map list_seen new
+      ≡ with_last t (seen entry) (map list_seen items)
   start_seen n above w =
       let less : (k : ℕ) → k < i → (list_seen (get_or items k w.0)).0 < t = λ k l. rw same at (below k w.0 l) in
       rw w.3 (started t (seen entry) list_seen items i w.0 n less (above w.0) (λ j. (w.1 j, ap (map seen) w.2 j)))
 
 -- a list whose thread is not below t and is not t is of a thread above it
-pub above_default : (items : List ThreadList) (i t : ℕ) (at d : ThreadList) → i < length items → at ≡ get_or items i at → at.thread ≢ t → ((e : ThreadList) → i < length items → t ≤ (get_or items i e).thread) → t < (get_or items i d).thread
+pub above_default : (items : List ThreadList) (i t : ℕ) (at d : ThreadList) → i < length items → at ≡ get_or items i at → at.thread ≢ t
+    → ((e : ThreadList) → i < length items → t ≤ (get_or items i e).thread) → t < (get_or items i d).thread
 above_default items i t at d n is other here =
     let same : at.thread ≡ (get_or items i d).thread = ap (λ (l : ThreadList). l.thread) (is ∙ get_or_default items i at d n) in
     let le : t ≤ (get_or items i d).thread = here d n in
@@ -111,7 +133,8 @@ pub on_err : {T E : Type 0} (r : Result T E) (P Q : E → Type 0) → ((e : E) �
 on_err (Ok x) P Q f p = tt
 on_err (Err x) P Q f p = f x p
 
-set_kept : {A B : Type 0} (f : A → B) (xs : List A) (i : ℕ) (new : A) → i < length xs → f new ≡ f (get_or xs i new) → map f (set xs i new) ≡ map f xs
+set_kept : {A B : Type 0} (f : A → B) (xs : List A) (i : ℕ) (new : A) → i < length xs → f new ≡ f (get_or xs i new) → map f (set xs i new)
+    ≡ map f xs
 set_kept f [] i new n same = absurd (omega arith)
 set_kept f (x ∷ xs) zero new n same = ap (λ y. y ∷ map f xs) same
 set_kept f (x ∷ xs) (suc i) new n same = ap (λ ys. f x ∷ ys) (set_kept f xs i new (omega arith) same)
@@ -121,14 +144,24 @@ module _ (items : List ThreadList) (i : ℕ) (at new : ThreadList) (n : i < leng
   here = is ∙ get_or_default items i at new n
 
   -- the list has grown by the entry
-  pub grown : (entry : StoredEntry) → new.thread ≡ at.thread → new.entries.items ≡ at.entries.items ++ entry ∷ [] → (list : ThreadList) × (list.thread ≡ (get_or items i list).thread) × (list.entries.items ≡ (get_or items i list).entries.items ++ entry ∷ []) × (set items i new ≡ set items i list)
-  grown entry thread entries = (new, thread ∙ ap (λ (l : ThreadList). l.thread) here, entries ∙ ap (λ (l : ThreadList). l.entries.items ++ entry ∷ []) here, refl)
+  pub grown : (entry : StoredEntry) → new.thread ≡ at.thread → new.entries.items ≡ at.entries.items ++ entry ∷ [] → (list : ThreadList)
+      × (list.thread ≡ (get_or items i list).thread) × (list.entries.items ≡ (get_or items i list).entries.items ++ entry ∷ [])
+      × (set items i new ≡ set items i list)
+  grown entry thread entries = (
+    new,
+    thread ∙ ap (λ (l : ThreadList). l.thread) here,
+    entries
+        ∙ ap (λ (l : ThreadList). l.entries.items ++ entry ∷ []) here,
+    refl,
+  )
 
   -- it was to grow, and did not
   pub put_back : new.thread ≡ at.thread → new.entries.items ≡ at.entries.items → map list_seen (set items i new) ≡ map list_seen items
-  put_back thread entries = set_kept list_seen items i new n (λ j. ((thread ∙ ap (λ (l : ThreadList). l.thread) here) j, map seen ((entries ∙ ap (λ (l : ThreadList). l.entries.items) here) j)))
+  put_back thread entries = set_kept list_seen items i new n
+      (λ j. ((thread ∙ ap (λ (l : ThreadList). l.thread) here) j, map seen ((entries ∙ ap (λ (l : ThreadList). l.entries.items) here) j)))
 
 -- a record keeps to its rules whether the entry was put in or came back
-pub still_record : {T E : Type 0} (r : Result T E) (P : E → Type 0) (t : ℕ) (e : Entry) (old new : List (ℕ × List Entry)) → OnOk r (new ≡ with_last t e old) → IfErr r (λ x. P x × (new ≡ old)) → t < THREADS → IsEntryKept e → IsRecord old → IsRecord new
+pub still_record : {T E : Type 0} (r : Result T E) (P : E → Type 0) (t : ℕ) (e : Entry) (old new : List (ℕ × List Entry))
+    → OnOk r (new ≡ with_last t e old) → IfErr r (λ x. P x × (new ≡ old)) → t < THREADS → IsEntryKept e → IsRecord old → IsRecord new
 still_record (Ok x) P t e old new ok err within kept is = rw ok (IsRecord-with_last t e old within kept is)
 still_record (Err x) P t e old new ok err within kept is = rw err.1 is

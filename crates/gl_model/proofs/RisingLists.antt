@@ -17,20 +17,25 @@ same_there ids old j d kept =
     let e : get_or (drop j ids) 0 d ≡ get_or (drop j old) 0 d = ap (λ xs. get_or xs 0 d) kept in
     ap (λ k. get_or ids k d) (sym zero_more) ∙ sym (get_or-drop j ids 0 d) ∙ e ∙ get_or-drop j old 0 d ∙ ap (λ k. get_or old k d) zero_more
 
-range_more : {A : Type 0} (old : List A) (i j : ℕ) (d : A) → i ≤ j → j < length old → slice_range old i (j + 1) ≡ slice_range old i j ++ get_or old j d ∷ []
+range_more : {A : Type 0} (old : List A) (i j : ℕ) (d : A) → i ≤ j → j < length old → slice_range old i (j + 1) ≡ slice_range old i j
+    ++ get_or old j d ∷ []
 range_more old i j d le n =
     let one_more : j + 1 - i ≡ (j - i) + 1 = omega arith in
     let back : i + (j - i) ≡ j = omega arith in
     let within : j - i < length (drop i old) = omega (arith, length-drop i old) in
     rw (one_more, take_more (drop i old) (j - i) d within, get_or-drop i old (j - i) d, back)
 
-pub moved_more : {A : Type 0} (ids old : List A) (i j : ℕ) (x carried next : A) → i ≤ j → j < length ids → length ids ≡ length old → next ≡ get_or ids j next → drop j ids ≡ drop j old → take j ids ++ carried ∷ [] ≡ take i old ++ x ∷ slice_range old i j → take (j + 1) (set ids j carried) ++ next ∷ [] ≡ take i old ++ x ∷ slice_range old i (j + 1)
+pub moved_more : {A : Type 0} (ids old : List A) (i j : ℕ) (x carried next : A) → i ≤ j → j < length ids → length ids ≡ length old → next
+    ≡ get_or ids j next → drop j ids ≡ drop j old → take j ids ++ carried ∷ [] ≡ take i old ++ x ∷ slice_range old i j
+    → take (j + 1) (set ids j carried) ++ next ∷ [] ≡ take i old ++ x ∷ slice_range old i (j + 1)
 moved_more ids old i j x carried next le n long is kept moved =
     let n' : j < length old = omega arith in
     let there : next ≡ get_or old j next = is ∙ same_there ids old j next kept in
-    rw (take_more_set ids j carried n, moved, range_more old i j next le n', ← there) (append_assoc (take i old) (x ∷ slice_range old i j) (next ∷ []))
+    rw (take_more_set ids j carried n, moved, range_more old i j next le n', ← there)
+    (append_assoc (take i old) (x ∷ slice_range old i j) (next ∷ []))
 
-pub kept_more : {A : Type 0} (ids old : List A) (j : ℕ) (carried : A) → drop j ids ≡ drop j old → drop (j + 1) (set ids j carried) ≡ drop (j + 1) old
+pub kept_more : {A : Type 0} (ids old : List A) (j : ℕ) (carried : A) → drop j ids ≡ drop j old → drop (j + 1) (set ids j carried)
+    ≡ drop (j + 1) old
 kept_more ids old j carried kept =
     let l : j < j + 1 = omega arith in
     rw (drop-set-lt (j + 1) ids j carried l, ← drop-drop 1 j ids, ← drop-drop 1 j old) (ap (λ xs. drop 1 xs) kept)
@@ -46,21 +51,33 @@ with_one-above x y ys l = grind (arith, nat_tests)
 pub with_one-same : (x y : ℕ) (ys : List ℕ) → y ≡ x → with_one x (y ∷ ys) ≡ y ∷ ys
 with_one-same x y ys e = grind (arith, nat_tests)
 
-pub with_one-at : (xs : List ℕ) (x i : ℕ) → i ≤ length xs → ((k : ℕ) → k < i → get_or xs k 0 < x) → (i < length xs → x < get_or xs i 0) → with_one x xs ≡ take i xs ++ x ∷ drop i xs
+pub with_one-at : (xs : List ℕ) (x i : ℕ) → i ≤ length xs → ((k : ℕ) → k < i → get_or xs k 0 < x) → (i < length xs → x < get_or xs i 0)
+    → with_one x xs ≡ take i xs ++ x ∷ drop i xs
 with_one-at [] x i le below here = let none : i ≡ zero = omega arith in rw none
 with_one-at (y ∷ ys) x zero le below here = with_one-above x y ys (here (omega arith))
-with_one-at (y ∷ ys) x (suc i) le below here = rw (with_one-below x y ys (below zero (omega arith))) (ap (λ zs. y ∷ zs) (with_one-at ys x i (omega arith) (λ k l. below (suc k) (omega arith)) (λ l. here (omega arith))))
+with_one-at (y ∷ ys) x (suc i) le below here =
+    rw (with_one-below x y ys (below zero (omega arith)))
+    (ap (λ zs. y ∷ zs) (with_one-at ys x i (omega arith) (λ k l. below (suc k) (omega arith)) (λ l. here (omega arith))))
 
-pub with_one-there : (xs : List ℕ) (x i : ℕ) → i < length xs → ((k : ℕ) → k < i → get_or xs k 0 < x) → get_or xs i 0 ≡ x → with_one x xs ≡ xs
+pub with_one-there : (xs : List ℕ) (x i : ℕ) → i < length xs → ((k : ℕ) → k < i → get_or xs k 0 < x) → get_or xs i 0 ≡ x → with_one x xs
+    ≡ xs
 with_one-there [] x i n below here = absurd (omega arith)
 with_one-there (y ∷ ys) x zero n below here = with_one-same x y ys here
-with_one-there (y ∷ ys) x (suc i) n below here = rw (with_one-below x y ys (below zero (omega arith))) (ap (λ zs. y ∷ zs) (with_one-there ys x i (omega arith) (λ k l. below (suc k) (omega arith)) here))
+with_one-there (y ∷ ys) x (suc i) n below here =
+    rw (with_one-below x y ys (below zero (omega arith)))
+    (ap (λ zs. y ∷ zs) (with_one-there ys x i (omega arith) (λ k l. below (suc k) (omega arith)) here))
 
 -- ---- what holds of each number holds after x is put among them
 
 pub All-with_one : (P : ℕ → Type 0) (x : ℕ) (xs : List ℕ) → P x → AllByRecursion P xs → AllByRecursion P (with_one x xs)
 All-with_one P x [] p all = (p, tt)
-All-with_one P x (y ∷ ys) p all = elim (cases_lt x y) [ inl l ↦ rw (with_one-above x y ys l) (p, (all.0, all.1)) | inr ge ↦ elim (eq-or-lt_of_le ge) [ inl same ↦ rw (with_one-same x y ys same) all | inr l ↦ rw (with_one-below x y ys l) (all.0, All-with_one P x ys p all.1) ] ]
+All-with_one P x (y ∷ ys) p all = elim (cases_lt x y) [
+  | inl l ↦ rw (with_one-above x y ys l) (p, (all.0, all.1))
+  | inr ge ↦ elim (eq-or-lt_of_le ge) [
+    | inl same ↦ rw (with_one-same x y ys same) all
+    | inr l ↦ rw (with_one-below x y ys l) (all.0, All-with_one P x ys p all.1)
+  ]
+]
 
 weaker : (P Q : ℕ → Type 0) → ((y : ℕ) → P y → Q y) → (xs : List ℕ) → AllByRecursion P xs → AllByRecursion Q xs
 weaker P Q f [] all = tt
@@ -70,7 +87,10 @@ pub Rises-with_one : (x : ℕ) (xs : List ℕ) → Rises xs → Rises (with_one 
 Rises-with_one x [] rises = (tt, tt)
 Rises-with_one x (y ∷ ys) rises = elim (cases_lt x y) [
   | inl l ↦ rw (with_one-above x y ys l) ((l, weaker (λ z. y < z) (λ z. x < z) (λ z m. omega arith) ys rises.0), rises)
-  | inr ge ↦ elim (eq-or-lt_of_le ge) [ inl same ↦ rw (with_one-same x y ys same) rises | inr l ↦ rw (with_one-below x y ys l) (All-with_one (λ z. y < z) x ys l rises.0, Rises-with_one x ys rises.1) ]
+  | inr ge ↦ elim (eq-or-lt_of_le ge) [
+    | inl same ↦ rw (with_one-same x y ys same) rises
+    | inr l ↦ rw (with_one-below x y ys l) (All-with_one (λ z. y < z) x ys l rises.0, Rises-with_one x ys rises.1)
+  ]
 ]
 
 -- in a rising list what stands behind a number that is above x is not x
@@ -79,15 +99,19 @@ above-all x [] all k n = absurd (omega arith)
 above-all x (y ∷ ys) all zero n = all.0
 above-all x (y ∷ ys) all (suc k) n = above-all x ys all.1 k (omega arith)
 
-pub not_there : (xs : List ℕ) (x i : ℕ) → Rises xs → ((k : ℕ) → k < i → get_or xs k 0 < x) → (i < length xs → x < get_or xs i 0) → (k : ℕ) → k < length xs → get_or xs k 0 ≢ x
+pub not_there : (xs : List ℕ) (x i : ℕ) → Rises xs → ((k : ℕ) → k < i → get_or xs k 0 < x) → (i < length xs → x < get_or xs i 0) → (k : ℕ)
+    → k < length xs → get_or xs k 0 ≢ x
 not_there [] x i rises below here k n e = omega arith
 not_there (y ∷ ys) x zero rises below here zero n e = let l = here (omega arith) in omega arith
-not_there (y ∷ ys) x zero rises below here (suc k) n e = let l = here (omega arith) in let m = above-all y ys rises.0 k (omega arith) in omega arith
+not_there (y ∷ ys) x zero rises below here (suc k) n e = let l = here (omega arith) in let m = above-all y ys rises.0 k (omega arith)
+    in omega arith
 not_there (y ∷ ys) x (suc i) rises below here zero n e = let l = below zero (omega arith) in omega arith
-not_there (y ∷ ys) x (suc i) rises below here (suc k) n e = not_there ys x i rises.1 (λ j l. below (suc j) (omega arith)) (λ l. here (omega arith)) k (omega arith) e
+not_there (y ∷ ys) x (suc i) rises below here (suc k) n e =
+    not_there ys x i rises.1 (λ j l. below (suc j) (omega arith)) (λ l. here (omega arith)) k (omega arith) e
 
 -- the ids of a set of variables stand at the head of an array
-module _ (ids : List ℕ) (len i x : ℕ) (long : len ≤ length ids) (within : i ≤ length (take len ids)) (below : (k : ℕ) → k < i → get_or (take len ids) k 0 < x) (here : i < length (take len ids) → x ≤ get_or (take len ids) i 0) where
+module _ (ids : List ℕ) (len i x : ℕ) (long : len ≤ length ids) (within : i ≤ length (take len ids)) (below : (k : ℕ) → k < i
+    → get_or (take len ids) k 0 < x) (here : i < length (take len ids) → x ≤ get_or (take len ids) i 0) where
   head_length : length (take len ids) ≡ len
   head_length = length-take-le len ids long
 
@@ -111,23 +135,29 @@ module _ (ids : List ℕ) (len i x : ℕ) (long : len ≤ length ids) (within : 
       rw (with_one-at (take len ids) x i within below (above_here other), first, rest)
 
   pub not_among : Rises (take len ids) → (i < len → get_or ids i 0 ≢ x) → Contains (take len ids) x → ⊥
-  not_among rises other c = not_there (take len ids) x i rises below (above_here other) c.0 c.1 (get_or_default (take len ids) c.0 0 x c.1 ∙ c.2)
+  not_among rises other c = not_there (take len ids) x i rises below (above_here other) c.0 c.1 (get_or_default (take len ids) c.0 0 x c.1
+      ∙ c.2)
 
 -- one zero fewer behind them, in an array of n
-pub zeros_fewer : (n : ℕ) (ids new : List ℕ) (len : ℕ) → drop len ids ≡ replicate (n - len) 0 → drop (len + 1) new ≡ drop (len + 1) ids → drop (len + 1) new ≡ replicate (n - (len + 1)) 0
+pub zeros_fewer : (n : ℕ) (ids new : List ℕ) (len : ℕ) → drop len ids ≡ replicate (n - len) 0 → drop (len + 1) new ≡ drop (len + 1) ids
+    → drop (len + 1) new ≡ replicate (n - (len + 1)) 0
 zeros_fewer n ids new len zero_behind same =
     let e : n - len - 1 ≡ n - (len + 1) = omega arith in
-    let d : drop 1 (drop len ids) ≡ replicate (n - len - 1) 0 = ap (λ (xs : List ℕ). drop 1 xs) zero_behind ∙ drop-replicate 1 (n - len) 0 in
+    let d : drop 1 (drop len ids) ≡ replicate (n - len - 1) 0 = ap (λ (xs : List ℕ). drop 1 xs) zero_behind
+    ∙ drop-replicate 1 (n - len) 0 in
     rw (same, ← drop-drop 1 len ids, d, e)
 
 -- a number put in where there is no room for another: the last one falls out
-pub put_full : (ids : List ℕ) (len i x : ℕ) → i < len → len ≤ length ids → take i ids ++ x ∷ slice_range ids i (len - 1) ≡ take len (take i ids ++ x ∷ slice_range ids i len)
+pub put_full : (ids : List ℕ) (len i x : ℕ) → i < len → len ≤ length ids → take i ids ++ x ∷ slice_range ids i (len - 1)
+    ≡ take len (take i ids ++ x ∷ slice_range ids i len)
 put_full ids len i x l le =
     let long : length (take i ids) ≡ i = length-take-le i ids (omega arith) in
     let split : len ≡ length (take i ids) + suc (len - 1 - i) = omega arith in
     let shorter : len - 1 - i ≤ len - i = omega arith in
-    let first : take (length (take i ids) + suc (len - 1 - i)) (take i ids ++ x ∷ slice_range ids i len) ≡ take i ids ++ x ∷ take (len - 1 - i) (slice_range ids i len) = take-append-add (take i ids) (x ∷ slice_range ids i len) (suc (len - 1 - i)) in
-    let rest : take (len - 1 - i) (slice_range ids i len) ≡ slice_range ids i (len - 1) = take-take (len - 1 - i) (len - i) (drop i ids) shorter in
+    let first : take (length (take i ids) + suc (len - 1 - i)) (take i ids ++ x ∷ slice_range ids i len) ≡ take i ids ++ x
+    ∷ take (len - 1 - i) (slice_range ids i len) = take-append-add (take i ids) (x ∷ slice_range ids i len) (suc (len - 1 - i)) in
+    let rest : take (len - 1 - i) (slice_range ids i len)
+    ≡ slice_range ids i (len - 1) = take-take (len - 1 - i) (len - i) (drop i ids) shorter in
     ap (λ ys. take i ids ++ x ∷ ys) (sym rest) ∙ sym first ∙ ap (λ n. take n (take i ids ++ x ∷ slice_range ids i len)) (sym split)
 
 -- what holds of each number of a rising list, and that it rises, holds of the first of them
@@ -144,14 +174,19 @@ Rises-take (suc n) (x ∷ xs) rises = (All-take (λ y. x < y) n xs rises.0, Rise
 -- a number that is above all is the last
 pub past_all : (xs : List ℕ) (x : ℕ) → ((k : ℕ) → k < length xs → get_or xs k 0 < x) → with_one x xs ≡ xs ++ x ∷ []
 past_all [] x below = refl
-past_all (y ∷ ys) x below = rw (with_one-below x y ys (below zero (omega arith))) (ap (λ zs. y ∷ zs) (past_all ys x (λ k l. below (suc k) (omega arith))))
+past_all (y ∷ ys) x below = rw (with_one-below x y ys (below zero (omega arith)))
+    (ap (λ zs. y ∷ zs) (past_all ys x (λ k l. below (suc k) (omega arith))))
 
 -- two lists have a number in common
-pub meet_more : (xs ys : List ℕ) (i : ℕ) → i < length xs → ((x : ℕ) → Contains (take i xs) x → Contains ys x → ⊥) → (Contains ys (get_or xs i 0) → ⊥) → (x : ℕ) → Contains (take (i + 1) xs) x → Contains ys x → ⊥
-meet_more xs ys i n none not_this x = rw (take_more xs i 0 n) (λ c d. elim (Contains-push_cases (take i xs) (get_or xs i 0) x c) [ inl before ↦ none x before d | inr same ↦ not_this (rw same d) ])
+pub meet_more : (xs ys : List ℕ) (i : ℕ) → i < length xs → ((x : ℕ) → Contains (take i xs) x → Contains ys x → ⊥)
+    → (Contains ys (get_or xs i 0) → ⊥) → (x : ℕ) → Contains (take (i + 1) xs) x → Contains ys x → ⊥
+meet_more xs ys i n none not_this x = rw (take_more xs i 0 n)
+    (λ c d. elim (Contains-push_cases (take i xs) (get_or xs i 0) x c) [ inl before ↦ none x before d | inr same ↦ not_this (rw same d) ])
 
-pub meet_none : (xs ys : List ℕ) (i : ℕ) → length xs ≤ i → ((x : ℕ) → Contains (take i xs) x → Contains ys x → ⊥) → IsTrue false ↔ ((x : ℕ) × Contains xs x × Contains ys x)
+pub meet_none : (xs ys : List ℕ) (i : ℕ) → length xs ≤ i → ((x : ℕ) → Contains (take i xs) x → Contains ys x → ⊥)
+    → IsTrue false ↔ ((x : ℕ) × Contains xs x × Contains ys x)
 meet_none xs ys i n none = (λ f. absurd (cc), λ w. absurd (none w.0 (rw (take_all i xs n) w.1) w.2))
 
-pub meet_here : (xs ys : List ℕ) (i : ℕ) → i < length xs → Contains ys (get_or xs i 0) → IsTrue true ↔ ((x : ℕ) × Contains xs x × Contains ys x)
+pub meet_here : (xs ys : List ℕ) (i : ℕ) → i < length xs → Contains ys (get_or xs i 0)
+    → IsTrue true ↔ ((x : ℕ) × Contains xs x × Contains ys x)
 meet_here xs ys i n c = (λ _. (get_or xs i 0, Contains-get_or xs i 0 n, c), λ _. refl)

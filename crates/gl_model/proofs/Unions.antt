@@ -31,12 +31,14 @@ one_new x (y ∷ ys) none =
       | inr e ↦
           elim (cases_Bool (nat_lt x y)) [
             | inl f ↦ rw (e, f) (omega arith)
-            | inr f ↦ let more : length (with_one x ys) ≡ length ys + 1 = one_new x ys (λ h. none (suc h.0, omega (arith, h.1), h.2)) in rw (e, f) (omega arith)
+            | inr f ↦ let more : length (with_one x ys) ≡ length ys + 1 = one_new x ys (λ h. none (suc h.0, omega (arith, h.1), h.2))
+                in rw (e, f) (omega arith)
           ]
     ]
 
 -- there is no room for one of them, so there are more than may be
-pub too_wide : (items writes reads all : List ℕ) (i : ℕ) → items ≡ writes → i < length items → with_all (drop i writes) all ≡ with_all writes reads
+pub too_wide : (items writes reads all : List ℕ) (i : ℕ) → items ≡ writes → i < length items → with_all (drop i writes) all
+    ≡ with_all writes reads
     → (length all ≡ TX_VARIABLES) × (Contains all (get_or items i 0) → ⊥) → TX_VARIABLES < length (with_all writes reads)
 too_wide items writes reads all i same there rest full =
     let x : ℕ = get_or items i 0 in

@@ -32,11 +32,12 @@ pub record InfoFor (setting : Setting) (h : List Stamp) (info : Info) (a : Acces
   pub set : (y : Element) → Has info.set y ↔ LocksetAt h a info.pos y
 
 -- the question is of a next access after h: of thread u, that writes or not, a commit where it has variables
-pub record QuestionOf (setting : Setting) (h : List Stamp) (q : Question) (u : ℕ) (write : Bool) (variables : Option (List ℕ)) : Type 0 where
-  pub thread : q.thread ≡ u
-  pub write_mark : q.write ≡ write
-  pub commit : q.commit ≡ variables
-  pub now : State
-  pub allowed : Allows setting h now
-  pub runs : now.threads u ≡ Running
-  pub held : AreLeastOwned now u q.held
+pub record QuestionOf (setting : Setting) (h : List Stamp) (q : Question) (u : ℕ) (write : Bool) (variables : Option (List ℕ)) : Type 0
+  where
+    pub thread : q.thread ≡ u
+    pub write_mark : q.write ≡ write
+    pub commit : q.commit ≡ variables
+    pub now : State
+    pub allowed : Allows setting h now
+    pub runs : now.threads u ≡ Running
+    pub held : AreLeastOwned now u q.held

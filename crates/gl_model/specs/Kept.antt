@@ -12,7 +12,8 @@ pub use Rattle.gl_model.specs.Rising.{AreVariables}
 
 -- so are those of its looks, its writes and its numbers
 abbrev pub IsTxKept : Tx → Type 0
-IsTxKept tx = AreVariables (map (λ l. l.var) tx.looks) × AreVariables (map (λ w. w.var) tx.writes) × AreVariables (map (λ n. n.var) tx.numbers)
+IsTxKept tx = AreVariables (map (λ l. l.var) tx.looks) × AreVariables (map (λ w. w.var) tx.writes)
+    × AreVariables (map (λ n. n.var) tx.numbers)
 
 -- the variable that is named is one that there is
 abbrev pub IsWhyKept : Why → Type 0

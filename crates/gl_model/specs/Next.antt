@@ -31,7 +31,8 @@ ReachesThread h a u = (q : ℕ) × ((s : Stamp) × EventAt h q s × (s.thread �
 abbrev pub ReachesCommitOn : List Stamp → Access → List ℕ → Type 0
 ReachesCommitOn h a xs =
     IsCommitOn a xs ⊎
-    ((q : ℕ) × ((s : Stamp) × ((ys : List ℕ) × ((x : ℕ) × EventAt h q s × (s.event ≡ Commit ys) × Contains ys x × Contains xs x × Reaches h a q))))
+    ((q : ℕ) × ((s : Stamp) × ((ys : List ℕ) × ((x : ℕ) × EventAt h q s × (s.event ≡ Commit ys) × Contains ys x × Contains xs x
+    × Reaches h a q))))
 
 -- the access happens before the next access of thread u after h: a plain one, or a commit on these variables
 abbrev pub HappensBeforeNext : List Stamp → Access → ℕ → Option (List ℕ) → Type 0
@@ -41,6 +42,8 @@ HappensBeforeNext h a u (Some xs) = (a.thread ≡ u) ⊎ ReachesThread h a u ⊎
 -- membership is the closure: the set of an access orders it before a next access of a running thread exactly where it happens before that
 abbrev pub MembershipIsClosure : Type 0
 MembershipIsClosure =
-    (setting : Setting) (h : List Stamp) (now : State) → Allows setting h now → (a : Access) → IsAccessOf h a → (u : ℕ) → now.threads u ≡ Running →
+    (setting : Setting) (h : List Stamp) (now : State) → Allows setting h now → (a : Access) → IsAccessOf h a → (u : ℕ) → now.threads u
+    ≡ Running →
     (LocksetAt h a (length h) (Thread u) ↔ HappensBeforeNext h a u None) ×
-    ((xs : List ℕ) → AfterAcquiring (LocksetAt h a (length h)) (record { thread = u; event = Commit xs }) (Thread u) ↔ HappensBeforeNext h a u (Some xs))
+    ((xs : List ℕ) → AfterAcquiring (LocksetAt h a (length h)) (record { thread = u; event = Commit xs }) (Thread u) ↔ HappensBeforeNext h
+    a u (Some xs))

@@ -129,7 +129,8 @@ races_line ls = line_of (codes "races " ++ decimal (race_count ls))
 
 -- the report: what was printed, in the order of the list; the races and the ends, by thread; and how many races there are
 abbrev pub report_of : List (ℕ × List Entry) → List ℕ
-report_of ls = flat_map out_line (printed ls) ++ (flat_map (λ bytes. bytes) (race_lines ls) ++ (flat_map (λ bytes. bytes) (end_lines ls) ++ races_line ls))
+report_of ls = flat_map out_line (printed ls)
+    ++ (flat_map (λ bytes. bytes) (race_lines ls) ++ (flat_map (λ bytes. bytes) (end_lines ls) ++ races_line ls))
 
 -- the last of these values, or 0
 abbrev pub last_or_zero : List ℤ → ℤ
@@ -148,4 +149,5 @@ is_commit (Over ending) = false
 -- the summary: the last value that was printed, how many commits there are, and how many races
 abbrev pub summary_of : List (ℕ × List Entry) → List ℕ
 summary_of ls =
-    line_of (codes "total " ++ signed_decimal (last_or_zero (printed ls))) ++ (line_of (codes "commits " ++ decimal (count_by is_commit (all_entries ls))) ++ races_line ls)
+    line_of (codes "total " ++ signed_decimal (last_or_zero (printed ls)))
+    ++ (line_of (codes "commits " ++ decimal (count_by is_commit (all_entries ls))) ++ races_line ls)

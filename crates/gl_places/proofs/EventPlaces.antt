@@ -77,7 +77,8 @@ module _ (made : List (ℕ × List Entry)) (kept : IsRecord made) (listed : List
 
   -- one place more is put down
   pub put_more :
-      (k p : ℕ) (c : Place) (cs new : List Place) → ArePut us k cs → slice_get us k ≡ Some (c, p) → new ≡ slice_set cs p c → ArePut us (k + 1) new
+      (k p : ℕ) (c : Place) (cs new : List Place) → ArePut us k cs → slice_get us k ≡ Some (c, p) → new ≡ slice_set cs p c
+      → ArePut us (k + 1) new
   put_more k p c cs new put at is = record {
     long = ap length is ∙ set_length cs p c ∙ put.long;
     each = λ j q d less there. each j q d less there (cases_lt j k);
@@ -88,7 +89,11 @@ module _ (made : List (ℕ × List Entry)) (kept : IsRecord made) (listed : List
     each : (j q : ℕ) (d : Place) → j < k + 1 → slice_get us j ≡ Some (d, q) → (j < k) ⊎ (k ≤ j) → slice_get new q ≡ Some d
     each j q d less there (inl lt) =
         let other : p ≢ q =
-        λ same. right k (record { number = p; there = number_of us k (c, p) at; wrong = inr (j, lt, number_of us j (d, q) there ∙ ap Some (sym same)) }) in
+        λ same. right k (record {
+          number = p;
+          there = number_of us k (c, p) at;
+          wrong = inr (j, lt, number_of us j (d, q) there ∙ ap Some (sym same));
+        }) in
         in_new q ∙ set_other cs p q c other ∙ put.each j q d lt there
     each j q d less there (inr ge) =
         let same : j ≡ k = omega arith in

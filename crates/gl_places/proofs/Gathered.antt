@@ -58,7 +58,8 @@ module _ (f : Entry → List ℕ) where
   abbrev pub GathersNext : ℕ → List (ℕ × List Entry) → Type 0
   GathersNext t ls = uses_of f (below (t + 1) ls) ≡ uses_of f (below t ls) ++ uses_from f t 0 (lists_of ls t)
 
-  next_is_first : (t : ℕ) (l : ℕ × List Entry) (ls : List (ℕ × List Entry)) → l.0 ≡ t → AllByRecursion (λ s. l.0 < s) (map (λ l. l.0) ls) → GathersNext t (l ∷ ls)
+  next_is_first : (t : ℕ) (l : ℕ × List Entry) (ls : List (ℕ × List Entry)) → l.0 ≡ t → AllByRecursion (λ s. l.0 < s) (map (λ l. l.0) ls)
+      → GathersNext t (l ∷ ls)
   next_is_first t l ls same above =
       let within : nat_lt l.0 (t + 1) ≡ true = grind (arith, nat_tests) in
       let out : nat_lt l.0 t ≡ false = grind (arith, nat_tests) in
@@ -66,13 +67,15 @@ module _ (f : Entry → List ℕ) where
       rw (within, out, here, none_below l.0 (t + 1) ls (omega arith) above, none_below l.0 t ls (omega arith) above)
       (append-nil (uses_from f l.0 0 l.1) ∙ ap (λ s. uses_from f s 0 l.1) same)
 
-  next_is_later : (t : ℕ) (l : ℕ × List Entry) (ls : List (ℕ × List Entry)) → (l.0 < t) ⊎ (t < l.0) → GathersNext t ls → GathersNext t (l ∷ ls)
+  next_is_later : (t : ℕ) (l : ℕ × List Entry) (ls : List (ℕ × List Entry)) → (l.0 < t) ⊎ (t < l.0) → GathersNext t ls
+      → GathersNext t (l ∷ ls)
   next_is_later t l ls (inl lt) more =
       let within_next : nat_lt l.0 (t + 1) ≡ true = grind (arith, nat_tests) in
       let within : nat_lt l.0 t ≡ true = grind (arith, nat_tests) in
       let other : (l.0 == t) ≡ false = grind (arith, nat_tests) in
       rw (within_next, within, other)
-      (ap (λ rest. uses_from f l.0 0 l.1 ++ rest) more ∙ sym (append_assoc (uses_from f l.0 0 l.1) (uses_of f (below t ls)) (uses_from f t 0 (lists_of ls t))))
+      (ap (λ rest. uses_from f l.0 0 l.1 ++ rest) more
+      ∙ sym (append_assoc (uses_from f l.0 0 l.1) (uses_of f (below t ls)) (uses_from f t 0 (lists_of ls t))))
   next_is_later t l ls (inr lt) more =
       let out_next : nat_lt l.0 (t + 1) ≡ false = grind (arith, nat_tests) in
       let out : nat_lt l.0 t ≡ false = grind (arith, nat_tests) in
@@ -83,7 +86,10 @@ module _ (f : Entry → List ℕ) where
   pub gathers_next : (t : ℕ) (ls : List (ℕ × List Entry)) → Rises (map (λ l. l.0) ls) → GathersNext t ls
   gathers_next t [] rises = refl
   gathers_next t (l ∷ ls) rises =
-      elim (cases_order l.0 t) [ inl same ↦ next_is_first t l ls same rises.0 | inr other ↦ next_is_later t l ls other (gathers_next t ls rises.1) ]
+      elim (cases_order l.0 t) [
+        | inl same ↦ next_is_first t l ls same rises.0
+        | inr other ↦ next_is_later t l ls other (gathers_next t ls rises.1)
+      ]
 
 -- one entry more of a list
 pub list_more :
@@ -92,7 +98,8 @@ pub list_more :
 list_more f t i es e at =
     let within = slice_get_within es i e at in
     let long : 0 + length (take i es) ≡ i = (let is = length-take i es in omega arith) in
-    let grown : take (i + 1) es ≡ take i es ++ e ∷ [] = take_more es i e within ∙ ap (λ x. take i es ++ x ∷ []) (get_or_from_slice_get es i e e at) in
+    let grown : take (i + 1) es ≡ take i es ++ e ∷ [] = take_more es i e within
+    ∙ ap (λ x. take i es ++ x ∷ []) (get_or_from_slice_get es i e e at) in
     ap (uses_from f t 0) grown ∙ uses_more f t 0 (take i es) e ∙ ap (λ n. uses_from f t 0 (take i es) ++ map (λ k. use_at t n k) (f e)) long
 
 -- what was gathered of a list, with one entry more
@@ -101,11 +108,13 @@ pub entry_more :
     after ≡ before ++ map (λ k. use_at t i k) (f e) → before ≡ start ++ uses_from f t 0 (take i es) →
     after ≡ start ++ uses_from f t 0 (take (i + 1) es)
 entry_more f t i es e start before after at is was =
-    is ∙ ap (λ us. us ++ map (λ k. use_at t i k) (f e)) was ∙ append_assoc start (uses_from f t 0 (take i es)) (map (λ k. use_at t i k) (f e))
+    is ∙ ap (λ us. us ++ map (λ k. use_at t i k) (f e)) was
+    ∙ append_assoc start (uses_from f t 0 (take i es)) (map (λ k. use_at t i k) (f e))
     ∙ ap (λ us. start ++ us) (sym (list_more f t i es e at))
 
 -- an entry of the program among those that are seen
 pub entry_at :
-    (list : List StoredEntry) (i : ℕ) (e : StoredEntry) → e ≡ get_or list i e → i < length list → slice_get (map seen list) i ≡ Some (seen e)
+    (list : List StoredEntry) (i : ℕ) (e : StoredEntry) → e ≡ get_or list i e → i < length list → slice_get (map seen list) i
+    ≡ Some (seen e)
 entry_at list i e is less =
     slice_get-map seen list i ∙ ap (option_map seen) (slice_get-get_or list i e less) ∙ ap (λ x. Some (seen x)) (sym is)

@@ -55,7 +55,8 @@ stamped R c p e there is =
 pub range_at : (a n k p : ℕ) → slice_get (range_with_len a n) k ≡ Some p → (p ≡ a + k) × (k < n)
 range_at a zero k p at = cc
 range_at a (suc n) zero p at = (let same : a ≡ p = cc in (omega arith, omega arith))
-range_at a (suc n) (suc k) p at = (let more = range_at (a + 1) n k p at in let first = more.0 in let second = more.1 in (omega arith, omega arith))
+range_at a (suc n) (suc k) p at = (let more = range_at (a + 1) n k p at in let first = more.0 in let second = more.1
+    in (omega arith, omega arith))
 
 -- a list of what there is for each number below n
 collect :
@@ -66,7 +67,8 @@ collect (suc n) Q each =
     let first = each 0 (omega arith) in
     let more = collect n (λ p s. Q (suc p) s) (λ p less. each (suc p) (omega arith)) in
     (first.0 ∷ more.0, (let same = more.1 in omega arith), places first.0 more.0 first.1 more.2) where
-      places : (x : Stamp) (h : List Stamp) → Q 0 x → ((p : ℕ) (s : Stamp) → EventAt h p s → Q (suc p) s) → (p : ℕ) (s : Stamp) → EventAt (x ∷ h) p s → Q p s
+      places : (x : Stamp) (h : List Stamp) → Q 0 x → ((p : ℕ) (s : Stamp) → EventAt h p s → Q (suc p) s) → (p : ℕ) (s : Stamp)
+          → EventAt (x ∷ h) p s → Q p s
       places x h here later zero s at = (let same : x ≡ s = cc in rw (sym same) here)
       places x h here later (suc p) s at = later p s at
 
@@ -91,7 +93,8 @@ module _ (made : List (ℕ × List Entry)) (kept : IsRecord made) where
   differs = record_differ positions_on made kept.0 (λ t j e at. one_once (position_of e))
 
   pub event_of_use : (k p : ℕ) (c : Place) → slice_get us k ≡ Some (c, p) → (s : Stamp) × IsEventAt R c p s
-  event_of_use k p c at = (let x = use_is positions_on made kept.0 (c, p) (k, at) in stamped R c p x.entry x.there (one_among (position_of x.entry) p x.among))
+  event_of_use k p c at = (let x = use_is positions_on made kept.0 (c, p) (k, at)
+      in stamped R c p x.entry x.there (one_among (position_of x.entry) p x.among))
 
   pub use_of_event : (c : Place) (p : ℕ) (s : Stamp) → IsEventAt R c p s → (k : ℕ) × (slice_get us k ≡ Some (c, p))
   use_of_event c p s e = is_used positions_on made c.thread c.index p e.entry e.there (among_one (position_of e.entry) p e.position)
@@ -99,30 +102,32 @@ module _ (made : List (ℕ × List Entry)) (kept : IsRecord made) where
   -- ## A listed record fails nowhere
 
   length_of : (h : List Stamp) → IsEventList h R → length h ≤ length ns
-  length_of h is = rw (sym (length-range_with_len 0 (length h))) (length-le_from_is_member nat_eq_equiv (range_with_len 0 (length h)) ns (once_distinct (range_with_len 0 (length h)) once) within) where
-    once : IsOnce (range_with_len 0 (length h))
-    once j k p less at also =
-        let one = (range_at 0 (length h) j p at).0 in
-        let other = (range_at 0 (length h) k p also).0 in
-        omega arith
+  length_of h is = rw (sym (length-range_with_len 0 (length h)))
+      (length-le_from_is_member nat_eq_equiv (range_with_len 0 (length h)) ns (once_distinct (range_with_len 0 (length h)) once) within)
+    where
+      once : IsOnce (range_with_len 0 (length h))
+      once j k p less at also =
+          let one = (range_at 0 (length h) j p at).0 in
+          let other = (range_at 0 (length h) k p also).0 in
+          omega arith
 
-    stamp_there : (p : ℕ) → p < length h → (s : Stamp) × EventAt h p s
-    stamp_there p less = elim (slice_get_cases h p).1 [
-      | inl there ↦ (there.0, there.2)
-      | inr past ↦ (let ge = past.0 in absurd (omega arith))
-    ]
+      stamp_there : (p : ℕ) → p < length h → (s : Stamp) × EventAt h p s
+      stamp_there p less = elim (slice_get_cases h p).1 [
+        | inl there ↦ (there.0, there.2)
+        | inr past ↦ (let ge = past.0 in absurd (omega arith))
+      ]
 
-    within : (q : ℕ) → is_member eqb (range_with_len 0 (length h)) q ≡ true → is_member eqb ns q ≡ true
-    within q found =
-        let place = found_any q (range_with_len 0 (length h)) found in
-        let at = range_at 0 (length h) place.0 q place.1 in
-        let same = at.0 in
-        let below = at.1 in
-        let less : q < length h = omega arith in
-        let s = stamp_there q less in
-        let e = is.made q s.0 s.1 in
-        let k = use_of_event e.0 q s.0 e.1 in
-        any_found q k.0 ns (number_of us k.0 (e.0, q) k.1)
+      within : (q : ℕ) → is_member eqb (range_with_len 0 (length h)) q ≡ true → is_member eqb ns q ≡ true
+      within q found =
+          let place = found_any q (range_with_len 0 (length h)) found in
+          let at = range_at 0 (length h) place.0 q place.1 in
+          let same = at.0 in
+          let below = at.1 in
+          let less : q < length h = omega arith in
+          let s = stamp_there q less in
+          let e = is.made q s.0 s.1 in
+          let k = use_of_event e.0 q s.0 e.1 in
+          any_found q k.0 ns (number_of us k.0 (e.0, q) k.1)
 
   pub fails_not : Listed R → (c : Place) → PositionFailsAt made c → ⊥
   fails_not (h, is) c x = by_fault x.wrong.wrong where
@@ -149,7 +154,8 @@ module _ (made : List (ℕ × List Entry)) (kept : IsRecord made) where
 
   module _ (nowhere : (c : Place) → PositionFailsAt made c → ⊥) where
     right : (k : ℕ) → IsWrongAt ns k → ⊥
-    right k wrong = (let u = use_of_number us k wrong.number wrong.there in nowhere u.0 (record { number = wrong.number; index = k; there = u.1; wrong = wrong }))
+    right k wrong = (let u = use_of_number us k wrong.number wrong.there
+        in nowhere u.0 (record { number = wrong.number; index = k; there = u.1; wrong = wrong }))
 
     same_entry : (c : Place) (p : ℕ) (s r : Stamp) → IsEventAt R c p s → IsEventAt R c p r → s ≡ r
     same_entry c p s r one other =

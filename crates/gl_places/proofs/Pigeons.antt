@@ -11,7 +11,8 @@ none_equal : (p : ℕ) (ns : List ℕ) → list_any (eqb p) ns ≡ false → All
 none_equal p [] none = tt
 none_equal p (x ∷ ns) none = by_test (eqb p x) refl none (λ i. none_equal p ns i) where
   by_test :
-      (b : Bool) → eqb p x ≡ b → (b || list_any (eqb p) ns) ≡ false → (list_any (eqb p) ns ≡ false → AllByRecursion (λ y. eqb p y ≡ false) ns) →
+      (b : Bool) → eqb p x ≡ b → (b || list_any (eqb p) ns) ≡ false
+      → (list_any (eqb p) ns ≡ false → AllByRecursion (λ y. eqb p y ≡ false) ns) →
       AllByRecursion (λ y. eqb p y ≡ false) (x ∷ ns)
   by_test true e is more = cc
   by_test false e is more = (e, more is)
@@ -40,11 +41,14 @@ IsOnce ns = (j k p : ℕ) → j < k → slice_get ns j ≡ Some p → slice_get 
 pub once_distinct : (ns : List ℕ) → IsOnce ns → IsDistinct eqb ns
 unfolding IsDistinct
 once_distinct [] once = tt
-once_distinct (x ∷ ns) once =
-    (none_equal x ns (by_test (list_any (eqb x) ns) refl), once_distinct ns (λ j k p less at also. once (suc j) (suc k) p (omega arith) at also)) where
-      by_test : (b : Bool) → list_any (eqb x) ns ≡ b → list_any (eqb x) ns ≡ false
-      by_test true e = (let later = found_any x ns e in absurd (once 0 (suc later.0) x (omega arith) refl later.1))
-      by_test false e = e
+once_distinct (x ∷ ns) once = (
+  none_equal x ns (by_test (list_any (eqb x) ns) refl),
+  once_distinct ns
+      (λ j k p less at also. once (suc j) (suc k) p (omega arith) at also),
+) where
+  by_test : (b : Bool) → list_any (eqb x) ns ≡ b → list_any (eqb x) ns ≡ false
+  by_test true e = (let later = found_any x ns e in absurd (once 0 (suc later.0) x (omega arith) refl later.1))
+  by_test false e = e
 
 -- none is wrong: then each number below the count is there
 pub all_there : (ns : List ℕ) → ((k : ℕ) → IsWrongAt ns k → ⊥) → (p : ℕ) → p < length ns → (k : ℕ) × (slice_get ns k ≡ Some p)
@@ -68,5 +72,6 @@ all_there ns right p less = by_test (list_any (eqb p) ns) refl where
   by_test : (b : Bool) → list_any (eqb p) ns ≡ b → (k : ℕ) × (slice_get ns k ≡ Some p)
   by_test true e = found_any p ns e
   by_test false e =
-      let many : length (p ∷ ns) ≤ length ns = length-le_from_distinct_below (p ∷ ns) (length ns) (none_equal p ns e, once_distinct ns once) within in
+      let many : length (p ∷ ns) ≤ length ns = length-le_from_distinct_below (p ∷ ns) (length ns)
+      (none_equal p ns e, once_distinct ns once) within in
       absurd (omega arith)

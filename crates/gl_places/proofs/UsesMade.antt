@@ -49,17 +49,20 @@ number_of us k u at = slice_get-map (λ (v : Use). v.1) us k ∙ ap (option_map 
 pub use_of_number : (us : List Use) (k p : ℕ) → slice_get (numbers_in us) k ≡ Some p → (c : Place) × (slice_get us k ≡ Some (c, p))
 use_of_number us k p at = by_use (slice_get us k) refl where
   by_use : (o : Option Use) → slice_get us k ≡ o → (c : Place) × (slice_get us k ≡ Some (c, p))
-  by_use None none = (let e : slice_get (numbers_in us) k ≡ None = slice_get-map (λ (v : Use). v.1) us k ∙ ap (option_map (λ (v : Use). v.1)) none in cc)
-  by_use (Some u) there = (let e = number_of us k u there in let same : u.1 ≡ p = cc in (u.0, there ∙ ap Some (ap (λ n. with_number u.0 n) same))) where
-    with_number : Place → ℕ → Use
-    with_number c n = (c, n)
+  by_use None none = (let e : slice_get (numbers_in us) k ≡ None = slice_get-map (λ (v : Use). v.1) us k
+      ∙ ap (option_map (λ (v : Use). v.1)) none in cc)
+  by_use (Some u) there = (let e = number_of us k u there in let same : u.1 ≡ p = cc
+      in (u.0, there ∙ ap Some (ap (λ n. with_number u.0 n) same))) where
+        with_number : Place → ℕ → Use
+        with_number c n = (c, n)
 
 -- a use of the program among those that are seen
 pub seen_at :
     (items : List StoredUse) (us : List Use) (k : ℕ) (d : StoredUse) → map use_seen items ≡ us → k < length items →
     slice_get us k ≡ Some (use_seen (get_or items k d))
 seen_at items us k d are less =
-    ap (λ (vs : List Use). slice_get vs k) (sym are) ∙ slice_get-map use_seen items k ∙ ap (option_map use_seen) (slice_get-get_or items k d less)
+    ap (λ (vs : List Use). slice_get vs k) (sym are) ∙ slice_get-map use_seen items k
+    ∙ ap (option_map use_seen) (slice_get-get_or items k d less)
 
 -- ## One list
 
@@ -95,7 +98,8 @@ record IsUse (f : Entry → List ℕ) (t i : ℕ) (es : List Entry) (u : Use) : 
   among : IsAmong (f entry) u.1
   is : u.0 ≡ place_at t (i + place)
 
-used : (f : Entry → List ℕ) (t i j p : ℕ) (es : List Entry) (e : Entry) → At es j e → IsAmong (f e) p → IsIn (uses_from f t i es) (use_at t (i + j) p)
+used : (f : Entry → List ℕ) (t i j p : ℕ) (es : List Entry) (e : Entry) → At es j e → IsAmong (f e) p
+    → IsIn (uses_from f t i es) (use_at t (i + j) p)
 used f t i j p [] e there among = cc
 used f t i zero p (x ∷ es) e there among =
     let same : x ≡ e = cc in
@@ -122,10 +126,12 @@ use_of f t i (x ∷ es) u is = elim (in_either (here t i (f x)) (uses_from f t (
 
 -- ## A record
 
-pub is_used : (f : Entry → List ℕ) (made : List (ℕ × List Entry)) (t j p : ℕ) (e : Entry) → At (lists_of made t) j e → IsAmong (f e) p → IsIn (uses_of f made) (use_at t j p)
+pub is_used : (f : Entry → List ℕ) (made : List (ℕ × List Entry)) (t j p : ℕ) (e : Entry) → At (lists_of made t) j e → IsAmong (f e) p
+    → IsIn (uses_of f made) (use_at t j p)
 is_used f [] t j p e there among = cc
 is_used f (l ∷ ls) t j p e there among = by_test (l.0 == t) refl (λ a. is_used f ls t j p e a among) where
-  by_test : (b : Bool) → (l.0 == t) ≡ b → (At (lists_of ls t) j e → IsIn (uses_of f ls) (use_at t j p)) → IsIn (uses_of f (l ∷ ls)) (use_at t j p)
+  by_test : (b : Bool) → (l.0 == t) ≡ b → (At (lists_of ls t) j e → IsIn (uses_of f ls) (use_at t j p))
+      → IsIn (uses_of f (l ∷ ls)) (use_at t j p)
   by_test true here' more =
       let mine : lists_of (l ∷ ls) t ≡ l.1 = rw here' refl in
       let at : At l.1 j e = ap (λ (es : List Entry). slice_get es j) (sym mine) ∙ there in
@@ -144,14 +150,16 @@ pub record IsUseOf (f : Entry → List ℕ) (made : List (ℕ × List Entry)) (u
   pub there : EntryAt (lists_of made) u.0 entry
   pub among : IsAmong (f entry) u.1
 
-above_used : (f : Entry → List ℕ) (t : ℕ) (ls : List (ℕ × List Entry)) → AllByRecursion (λ s. t < s) (map (λ l. l.0) ls) → (u : Use) → IsIn (uses_of f ls) u → t < u.0.thread
+above_used : (f : Entry → List ℕ) (t : ℕ) (ls : List (ℕ × List Entry)) → AllByRecursion (λ s. t < s) (map (λ l. l.0) ls) → (u : Use)
+    → IsIn (uses_of f ls) u → t < u.0.thread
 above_used f t [] above u (k, at) = cc
 above_used f t (l ∷ ls) above u is = elim (in_either (uses_from f l.0 0 l.1) (uses_of f ls) u is) [
   | inl front ↦ (let x = use_of f l.0 0 l.1 u front in let thread = ap (λ (c : Place). c.thread) x.is in let first = above.0 in omega arith)
   | inr back ↦ above_used f t ls above.1 u back
 ]
 
-pub use_is : (f : Entry → List ℕ) (made : List (ℕ × List Entry)) → Rises (map (λ l. l.0) made) → (u : Use) → IsIn (uses_of f made) u → IsUseOf f made u
+pub use_is : (f : Entry → List ℕ) (made : List (ℕ × List Entry)) → Rises (map (λ l. l.0) made) → (u : Use) → IsIn (uses_of f made) u
+    → IsUseOf f made u
 use_is f [] rises u (k, at) = cc
 use_is f (l ∷ ls) rises u is = elim (in_either (uses_from f l.0 0 l.1) (uses_of f ls) u is) [
   | inl front ↦
@@ -191,16 +199,18 @@ here_differ t i (n ∷ ns) once = (
   here_differ t i ns (λ j k p less at also. once (suc j) (suc k) p (omega arith) at also),
 )
 
-list_differ : (f : Entry → List ℕ) (t i : ℕ) (es : List Entry) → ((j : ℕ) (e : Entry) → At es j e → IsOnce (f e)) → Differ (uses_from f t i es)
+list_differ : (f : Entry → List ℕ) (t i : ℕ) (es : List Entry) → ((j : ℕ) (e : Entry) → At es j e → IsOnce (f e))
+    → Differ (uses_from f t i es)
 list_differ f t i [] once = tt
-list_differ f t i (x ∷ es) once = differ (here t i (f x)) (uses_from f t (i + 1) es) (here_differ t i (f x) (once 0 x refl)) (list_differ f t (i + 1) es (λ j e at. once (suc j) e at)) across where
-  across : (u : Use) → IsIn (here t i (f x)) u → IsIn (uses_from f t (i + 1) es) u → ⊥
-  across u front back =
-      let a = here_is t i (f x) u front in
-      let b = use_of f t (i + 1) es u back in
-      let one : u.0.index ≡ i = ap (λ (c : Place). c.index) a.is in
-      let other : u.0.index ≡ (i + 1) + b.place = ap (λ (c : Place). c.index) b.is in
-      omega arith
+list_differ f t i (x ∷ es) once = differ (here t i (f x)) (uses_from f t (i + 1) es) (here_differ t i (f x) (once 0 x refl))
+    (list_differ f t (i + 1) es (λ j e at. once (suc j) e at)) across where
+      across : (u : Use) → IsIn (here t i (f x)) u → IsIn (uses_from f t (i + 1) es) u → ⊥
+      across u front back =
+          let a = here_is t i (f x) u front in
+          let b = use_of f t (i + 1) es u back in
+          let one : u.0.index ≡ i = ap (λ (c : Place). c.index) a.is in
+          let other : u.0.index ≡ (i + 1) + b.place = ap (λ (c : Place). c.index) b.is in
+          omega arith
 
 -- a thread below all of these has no list
 none_above : (t : ℕ) (ls : List (ℕ × List Entry)) → AllByRecursion (λ s. t < s) (map (λ l. l.0) ls) → lists_of ls t ≡ []
@@ -210,7 +220,8 @@ none_above t (l ∷ ls) above =
     let different : l.0 ≢ t = λ same. let s : l.0 ≡ t = same in omega arith in
     rw (other_false l.0 t different) (none_above t ls above.1)
 
-pub later_list : (l : ℕ × List Entry) (ls : List (ℕ × List Entry)) (t j : ℕ) (e : Entry) → AllByRecursion (λ s. l.0 < s) (map (λ m. m.0) ls) → At (lists_of ls t) j e → At (lists_of (l ∷ ls) t) j e
+pub later_list : (l : ℕ × List Entry) (ls : List (ℕ × List Entry)) (t j : ℕ) (e : Entry)
+    → AllByRecursion (λ s. l.0 < s) (map (λ m. m.0) ls) → At (lists_of ls t) j e → At (lists_of (l ∷ ls) t) j e
 later_list l ls t j e above there = by_test (l.0 == t) refl where
   by_test : (b : Bool) → (l.0 == t) ≡ b → At (lists_of (l ∷ ls) t) j e
   by_test true same =
@@ -224,15 +235,18 @@ later_list l ls t j e above there = by_test (l.0 == t) refl where
 pub first_list : (l : ℕ × List Entry) (ls : List (ℕ × List Entry)) (j : ℕ) (e : Entry) → At l.1 j e → At (lists_of (l ∷ ls) l.0) j e
 first_list l ls j e there = (let same : (l.0 == l.0) ≡ true = eq-eqb l.0 l.0 refl in rw same there)
 
-pub record_differ : (f : Entry → List ℕ) (made : List (ℕ × List Entry)) → Rises (map (λ l. l.0) made) → ((t j : ℕ) (e : Entry) → At (lists_of made t) j e → IsOnce (f e)) → Differ (uses_of f made)
+pub record_differ : (f : Entry → List ℕ) (made : List (ℕ × List Entry)) → Rises (map (λ l. l.0) made)
+    → ((t j : ℕ) (e : Entry) → At (lists_of made t) j e → IsOnce (f e)) → Differ (uses_of f made)
 record_differ f [] rises once = tt
-record_differ f (l ∷ ls) rises once = differ (uses_from f l.0 0 l.1) (uses_of f ls) (list_differ f l.0 0 l.1 (λ j e at. once l.0 j e (first_list l ls j e at))) (record_differ f ls rises.1 (λ t j e at. once t j e (later_list l ls t j e rises.0 at))) across where
-  across : (u : Use) → IsIn (uses_from f l.0 0 l.1) u → IsIn (uses_of f ls) u → ⊥
-  across u front back =
-      let a = use_of f l.0 0 l.1 u front in
-      let one : u.0.thread ≡ l.0 = ap (λ (c : Place). c.thread) a.is in
-      let other = above_used f l.0 ls rises.0 u back in
-      omega arith
+record_differ f (l ∷ ls) rises once = differ (uses_from f l.0 0 l.1) (uses_of f ls)
+    (list_differ f l.0 0 l.1 (λ j e at. once l.0 j e (first_list l ls j e at)))
+    (record_differ f ls rises.1 (λ t j e at. once t j e (later_list l ls t j e rises.0 at))) across where
+      across : (u : Use) → IsIn (uses_from f l.0 0 l.1) u → IsIn (uses_of f ls) u → ⊥
+      across u front back =
+          let a = use_of f l.0 0 l.1 u front in
+          let one : u.0.thread ≡ l.0 = ap (λ (c : Place). c.thread) a.is in
+          let other = above_used f l.0 ls rises.0 u back in
+          omega arith
 
 pub not_twice : (us : List Use) (j k : ℕ) (u : Use) → Differ us → j < k → slice_get us j ≡ Some u → slice_get us k ≡ Some u → ⊥
 not_twice [] j k u differs less at also = cc
@@ -276,27 +290,30 @@ here_ordered t i (n ∷ ns) = (later, here_ordered t i ns) where
 
 list_ordered : (f : Entry → List ℕ) (t i : ℕ) (es : List Entry) → InOrder (uses_from f t i es)
 list_ordered f t i [] = tt
-list_ordered f t i (x ∷ es) = ordered (here t i (f x)) (uses_from f t (i + 1) es) (here_ordered t i (f x)) (list_ordered f t (i + 1) es) across where
-  across : (u v : Use) → IsIn (here t i (f x)) u → IsIn (uses_from f t (i + 1) es) v → Before v.0 u.0 → ⊥
-  across u v front back =
-      let a = here_is t i (f x) u front in
-      let b = use_of f t (i + 1) es v back in
-      let threads : v.0.thread ≡ u.0.thread = ap (λ (c : Place). c.thread) b.is ∙ sym (ap (λ (c : Place). c.thread) a.is) in
-      let one : u.0.index ≡ i = ap (λ (c : Place). c.index) a.is in
-      let other : v.0.index ≡ (i + 1) + b.place = ap (λ (c : Place). c.index) b.is in
-      not_later v.0 u.0 threads (omega arith)
+list_ordered f t i (x ∷ es) = ordered (here t i (f x)) (uses_from f t (i + 1) es) (here_ordered t i (f x)) (list_ordered f t (i + 1) es)
+    across where
+      across : (u v : Use) → IsIn (here t i (f x)) u → IsIn (uses_from f t (i + 1) es) v → Before v.0 u.0 → ⊥
+      across u v front back =
+          let a = here_is t i (f x) u front in
+          let b = use_of f t (i + 1) es v back in
+          let threads : v.0.thread ≡ u.0.thread = ap (λ (c : Place). c.thread) b.is ∙ sym (ap (λ (c : Place). c.thread) a.is) in
+          let one : u.0.index ≡ i = ap (λ (c : Place). c.index) a.is in
+          let other : v.0.index ≡ (i + 1) + b.place = ap (λ (c : Place). c.index) b.is in
+          not_later v.0 u.0 threads (omega arith)
 
 pub record_ordered : (f : Entry → List ℕ) (made : List (ℕ × List Entry)) → Rises (map (λ l. l.0) made) → InOrder (uses_of f made)
 record_ordered f [] rises = tt
-record_ordered f (l ∷ ls) rises = ordered (uses_from f l.0 0 l.1) (uses_of f ls) (list_ordered f l.0 0 l.1) (record_ordered f ls rises.1) across where
-  across : (u v : Use) → IsIn (uses_from f l.0 0 l.1) u → IsIn (uses_of f ls) v → Before v.0 u.0 → ⊥
-  across u v front back =
-      let a = use_of f l.0 0 l.1 u front in
-      let one : u.0.thread ≡ l.0 = ap (λ (c : Place). c.thread) a.is in
-      let other = above_used f l.0 ls rises.0 v back in
-      not_above v.0 u.0 (omega arith)
+record_ordered f (l ∷ ls) rises = ordered (uses_from f l.0 0 l.1) (uses_of f ls) (list_ordered f l.0 0 l.1) (record_ordered f ls rises.1)
+    across where
+      across : (u v : Use) → IsIn (uses_from f l.0 0 l.1) u → IsIn (uses_of f ls) v → Before v.0 u.0 → ⊥
+      across u v front back =
+          let a = use_of f l.0 0 l.1 u front in
+          let one : u.0.thread ≡ l.0 = ap (λ (c : Place). c.thread) a.is in
+          let other = above_used f l.0 ls rises.0 v back in
+          not_above v.0 u.0 (omega arith)
 
-pub in_order : (us : List Use) (j k : ℕ) (u v : Use) → InOrder us → j < k → slice_get us j ≡ Some u → slice_get us k ≡ Some v → Before v.0 u.0 → ⊥
+pub in_order : (us : List Use) (j k : ℕ) (u v : Use) → InOrder us → j < k → slice_get us j ≡ Some u → slice_get us k ≡ Some v
+    → Before v.0 u.0 → ⊥
 in_order [] j k u v up less at also before = cc
 in_order (x ∷ us) zero zero u v up less at also before = omega arith
 in_order (x ∷ us) zero (suc k) u v up less at also before = (let same : x ≡ u = cc in up.0 v (k, also) (rw same before))

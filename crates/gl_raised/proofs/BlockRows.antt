@@ -21,7 +21,8 @@ pub record AreRows (R : Lists) (i : ℕ) (rows : List (List ℕ)) (tables : Tabl
   pub sized : IsSized tables
   pub long : length rows ≡ i
   pub clocks_are : (h : List Stamp) → IsEventList h R → AreClocksOf (take i h) tables
-  pub known : (h : List Stamp) → IsEventList h R → (p u : ℕ) (s : Stamp) → p < i → EventAt h p s → cell rows p u ≡ clocks (take (p + 1) h) (Thread s.thread) u
+  pub known : (h : List Stamp) → IsEventList h R → (p u : ℕ) (s : Stamp) → p < i → EventAt h p s → cell rows p u
+      ≡ clocks (take (p + 1) h) (Thread s.thread) u
 
 -- one clock more
 cell_old : (rows : List (List ℕ)) (clock : List ℕ) (p u : ℕ) → p < length rows → cell (rows ++ clock ∷ []) p u ≡ cell rows p u
@@ -40,15 +41,15 @@ event_more : (h : List Stamp) (i : ℕ) (s : Stamp) → EventAt h i s → take (
 event_more h i s e = take_more h i s (slice_get_within h i s e) ∙ ap (λ z. take i h ++ z ∷ []) (get_or_from_slice_get h i s s e)
 
 -- the place at i, where the places are seen
-pub place_at : (ps : List StoredPlace) (i : ℕ) (d : StoredPlace) → i < length ps → slice_get (map seen_place ps) i ≡ Some (seen_place (get_or ps i d))
+pub place_at : (ps : List StoredPlace) (i : ℕ) (d : StoredPlace) → i < length ps → slice_get (map seen_place ps) i
+    ≡ Some (seen_place (get_or ps i d))
 place_at ps i d l = slice_get-map seen_place ps i ∙ ap (option_map seen_place) (slice_get-get_or ps i d l)
 
-pub first_rows : (R : Lists) (tables : Tables) → IsSized tables → AreClocksOf [] tables → AreRows R 0 [] tables
-first_rows R tables sized are = record { sized = sized; long = refl; clocks_are = λ h is. are; known = λ h is p u s l e. absurd (omega arith) }
-
 pub next_row :
-    (R : Lists) (cs : List Place) (i : ℕ) (c : Place) (rows : List (List ℕ)) (clock : List ℕ) (old new : Tables) → AreEventPlaces R cs → slice_get cs i ≡ Some c → AreRows R i rows old → IsSized new →
-    ((h : List Stamp) (p : ℕ) (s : Stamp) → IsEventAt R c p s → AreClocksOf h old → IsClockOfNext h s clock new) → AreRows R (i + 1) (rows ++ clock ∷ []) new
+    (R : Lists) (cs : List Place) (i : ℕ) (c : Place) (rows : List (List ℕ)) (clock : List ℕ) (old new : Tables) → AreEventPlaces R cs
+    → slice_get cs i ≡ Some c → AreRows R i rows old → IsSized new →
+    ((h : List Stamp) (p : ℕ) (s : Stamp) → IsEventAt R c p s → AreClocksOf h old → IsClockOfNext h s clock new)
+    → AreRows R (i + 1) (rows ++ clock ∷ []) new
 next_row R cs i c rows clock old new places here so_far sized next = record {
   sized = sized;
   long = one_longer rows clock ∙ ap (λ n. n + 1) so_far.long;
@@ -68,20 +69,28 @@ next_row R cs i c rows clock old new places here so_far sized next = record {
     step : (h : List Stamp) → IsEventList h R → IsClockOfNext (take i h) event.0 clock new
     step h is = next (take i h) i event.0 event.1 (so_far.clocks_are h is)
 
-    known : (h : List Stamp) → IsEventList h R → (p u : ℕ) (s : Stamp) → p < i + 1 → EventAt h p s → cell (rows ++ clock ∷ []) p u ≡ clocks (take (p + 1) h) (Thread s.thread) u
+    known : (h : List Stamp) → IsEventList h R → (p u : ℕ) (s : Stamp) → p < i + 1 → EventAt h p s → cell (rows ++ clock ∷ []) p u
+        ≡ clocks (take (p + 1) h) (Thread s.thread) u
     known h is p u s l e = elim (cases_lt p i) [
       | inl lt ↦ cell_old rows clock p u (let z = so_far.long in omega arith) ∙ so_far.known h is p u s lt e
       | inr ge ↦
           (let last : p ≡ i = omega arith in
           let at_end : p ≡ length rows = (let z = so_far.long in omega arith) in
           let same : s ≡ event.0 = (let x : EventAt h i s = subst (λ k. EventAt h k s) last e in let y = there h is in cc) in
-          ap (λ k. cell (rows ++ clock ∷ []) k u) at_end ∙ cell_new rows clock u ∙ (step h is).clock_is u ∙ ap (λ g. clocks g (Thread event.0.thread) u) (sym (more h is))
-          ∙ ap (λ k. clocks (take (k + 1) h) (Thread event.0.thread) u) (sym last) ∙ ap (λ (r : Stamp). clocks (take (p + 1) h) (Thread r.thread) u) (sym same))
+          ap (λ k. cell (rows ++ clock ∷ []) k u) at_end ∙ cell_new rows clock u ∙ (step h is).clock_is u
+          ∙ ap (λ g. clocks g (Thread event.0.thread) u) (sym (more h is))
+          ∙ ap (λ k. clocks (take (k + 1) h) (Thread event.0.thread) u) (sym last)
+          ∙ ap (λ (r : Stamp). clocks (take (p + 1) h) (Thread r.thread) u) (sym same))
     ]
 
 -- all of them
-pub all_rows : (R : Lists) (cs : List Place) (rows : List (List ℕ)) (tables : Tables) → AreEventPlaces R cs → AreRows R (length cs) rows tables → (h : List Stamp) → IsEventList h R → AreBlockClocks h rows
-all_rows R cs rows tables places all h is = record { long = all.long ∙ as_many; known = λ p u s e. all.known h is p u s (let l = slice_get_within h p s e in let z = as_many in omega arith) e }
+pub all_rows : (R : Lists) (cs : List Place) (rows : List (List ℕ)) (tables : Tables) → AreEventPlaces R cs
+    → AreRows R (length cs) rows tables → (h : List Stamp) → IsEventList h R → AreBlockClocks h rows
+all_rows R cs rows tables places all h is =
+    record {
+      long = all.long ∙ as_many;
+      known = λ p u s e. all.known h is p u s (let l = slice_get_within h p s e in let z = as_many in omega arith) e;
+    }
   where
     no_more : length h ≤ length cs
     no_more = elim (cases_lt (length cs) (length h)) [

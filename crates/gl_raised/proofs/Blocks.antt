@@ -11,12 +11,14 @@ use Rattle.gl_model.specs.Records.{Lists, Place, EntryAt, IsBlockOf, position_of
 use Rattle.gl_draws.specs.Ties.{or_else, last_position, BlockAt}
 use Rattle.gl_raised.specs.Accesses.{IsAccess}
 
-no_event : (es : List Entry) (n : ℕ) → last_position (take n es) ≡ None → (j q : ℕ) (f : Entry) → At es j f → j < n → position_of f ≡ Some q → ⊥
+no_event : (es : List Entry) (n : ℕ) → last_position (take n es) ≡ None → (j q : ℕ) (f : Entry) → At es j f → j < n → position_of f
+    ≡ Some q → ⊥
 no_event [] n none j q f a near i = cc
 no_event (e ∷ es) zero none j q f a near i = omega arith
 no_event (e ∷ es) (suc n) none j q f a near i = cases (last_position (take n es)) refl none j a near (no_event es n)
   where
-    cases : (o : Option ℕ) → last_position (take n es) ≡ o → or_else o (position_of e) ≡ None → (j : ℕ) → At (e ∷ es) j f → j < suc n → (last_position (take n es) ≡ None → (j q : ℕ) (f : Entry) → At es j f → j < n → position_of f ≡ Some q → ⊥) → ⊥
+    cases : (o : Option ℕ) → last_position (take n es) ≡ o → or_else o (position_of e) ≡ None → (j : ℕ) → At (e ∷ es) j f → j < suc n
+        → (last_position (take n es) ≡ None → (j q : ℕ) (f : Entry) → At es j f → j < n → position_of f ≡ Some q → ⊥) → ⊥
     cases (Some p) eq none' j a' near' rec = cc
     cases None eq none' zero a' near' rec = let same : e ≡ f = cc in let k : position_of e ≡ Some q = rw same i in cc
     cases None eq none' (suc j) a' near' rec = rec eq j q f a' (omega arith) i
@@ -49,7 +51,8 @@ access_no_trim (Abort tx why) a t = t
 access_no_trim (Over ending) a t = t
 
 -- where the first entries have no event they are trims
-all_trims : (t : ℕ) (es : List Entry) → ListForm t es → (n : ℕ) → last_position (take n es) ≡ None → (k j : ℕ) (f : Entry) → j < k → j < n → At es j f → IsTrim f
+all_trims : (t : ℕ) (es : List Entry) → ListForm t es → (n : ℕ) → last_position (take n es) ≡ None → (k j : ℕ) (f : Entry) → j < k → j < n
+    → At es j f → IsTrim f
 all_trims t es form n none zero j f near within a = absurd (omega arith)
 all_trims t es form n none (suc k) j f near within a = elim (trim_or_none f) [
   | inl trim ↦ trim
@@ -63,7 +66,8 @@ has_block R form c e here is = from (last_position (take (suc c.index) (R c.thre
   where
     from : (o : Option ℕ) → last_position (take (suc c.index) (R c.thread)) ≡ o → (q : ℕ) × BlockAt (R c.thread) c.index q
     from (Some q) eq = (q, eq)
-    from None eq = absurd (access_no_trim e is (all_trims c.thread (R c.thread) (form.formed c.thread) (suc c.index) eq (suc c.index) c.index e (omega arith) (omega arith) here))
+    from None eq = absurd (access_no_trim e is
+        (all_trims c.thread (R c.thread) (form.formed c.thread) (suc c.index) eq (suc c.index) c.index e (omega arith) (omega arith) here))
 
 end_entry : (e : Entry) → event_of e ≡ Some (Does End) → IsEnd e
 end_entry (Sync at End value) i = tt
@@ -88,7 +92,8 @@ access_no_over (Abort tx why) a i = i
 access_no_over (Trim low) a i = i
 access_no_over (Over ending) a i = a
 
-pub goes_on : (R : Lists) → Form R → (c : Place) (e : Entry) → EntryAt R c e → IsAccess e → (q : ℕ) → (b : IsBlockOf R c q) → b.event.event ≢ Does End
+pub goes_on : (R : Lists) → Form R → (c : Place) (e : Entry) → EntryAt R c e → IsAccess e → (q : ℕ) → (b : IsBlockOf R c q)
+    → b.event.event ≢ Does End
 goes_on R form c e here is q b ends = elim (eq-or-lt_of_le b.within) [
   | inl same ↦ access_no_end e is (subst IsEnd (let x : At (R c.thread) c.index b.made.entry = rw same at b.made.there in cc) last)
   | inr lt ↦ elim (slice_get_cases (R c.thread) (b.index + 1)).1 [

@@ -37,14 +37,18 @@ use Rattle.gl_raised.proofs.Racing.{Judging, racy_told}
 
 -- the events of a run of the machine are what it allows
 run_from :
-    (setting : Setting) (f : ℕ → State) (ys : List Stamp) (n m : ℕ) → m ≡ n + length ys → ((p q : ℕ) (s : Stamp) → slice_get ys p ≡ Some s → q ≡ n + p → (v : ℤ) × Step setting (f q) s v (f (q + 1))) → Run setting (f n) ys (f m)
+    (setting : Setting) (f : ℕ → State) (ys : List Stamp) (n m : ℕ) → m ≡ n + length ys
+    → ((p q : ℕ) (s : Stamp) → slice_get ys p ≡ Some s → q ≡ n + p → (v : ℤ) × Step setting (f q) s v (f (q + 1)))
+    → Run setting (f n) ys (f m)
 run_from setting f [] n m is steps = ap f (let z : m ≡ n = omega arith in z)
 run_from setting f (s ∷ ys) n m is steps =
     let k = steps 0 n s refl (omega arith) in
     (k.0, f (n + 1), k.1, run_from setting f ys (n + 1) m (omega arith) (λ p q t e w. steps (suc p) q t e (omega arith)))
 
-pub allowed_of : (setting : Setting) (R : Lists) (h : List Stamp) → IsEventList h R → (run : IsMachineRun setting R h) → Allows setting h (run.at (length h))
-allowed_of setting R h is run = subst (λ o. Run setting o h (run.at (length h))) run.first (run_from setting run.at h 0 (length h) (omega arith) steps)
+pub allowed_of : (setting : Setting) (R : Lists) (h : List Stamp) → IsEventList h R → (run : IsMachineRun setting R h)
+    → Allows setting h (run.at (length h))
+allowed_of setting R h is run = subst (λ o. Run setting o h (run.at (length h))) run.first
+    (run_from setting run.at h 0 (length h) (omega arith) steps)
   where
     steps : (p q : ℕ) (s : Stamp) → slice_get h p ≡ Some s → q ≡ 0 + p → (v : ℤ) × Step setting (run.at q) s v (run.at (q + 1))
     steps p q s e same =
@@ -53,8 +57,11 @@ allowed_of setting R h is run = subst (λ o. Run setting o h (run.at (length h))
         subst (λ k. (v : ℤ) × Step setting (run.at k) s v (run.at (k + 1))) z (value_of m.1.entry, run.steps m.0 p s m.1)
 
 -- the race law of an access is that it names the least variable on which it is racy
-plain_var : (R : Lists) (c : Place) (var nth : ℕ) (cached write raised : Bool) (value : ℤ) → EntryAt R c (Plain var nth cached write value raised) → (x : ℕ) → IsRacy R c x → var ≡ x
-plain_var R c var nth cached write raised value here x r = (subst (λ f. NumberOn f x r.before.later) (same_entry R c r.before.second (Plain var nth cached write value raised) r.before.here here) r.before.also_numbered).0
+plain_var : (R : Lists) (c : Place) (var nth : ℕ) (cached write raised : Bool) (value : ℤ)
+    → EntryAt R c (Plain var nth cached write value raised) → (x : ℕ) → IsRacy R c x → var ≡ x
+plain_var R c var nth cached write raised value here x r =
+    (subst (λ f. NumberOn f x r.before.later) (same_entry R c r.before.second (Plain var nth cached write value raised) r.before.here here)
+    r.before.also_numbered).0
 
 rightly : (R : Lists) (c : Place) (e : Entry) → EntryAt R c e → IsAccess e → IsRaisedRightly R c e ↔ IsLeast (IsRacy R c) (raised_on e)
 rightly R c (Plain var nth cached write value true) here is = (
@@ -86,7 +93,11 @@ least_one : (P : ℕ → Type 0) (a b : Option ℕ) → IsLeast P a → IsLeast 
 least_one P None None l m = refl
 least_one P None (Some y) l m = absurd (l y m.0)
 least_one P (Some x) None l m = absurd (m x l.0)
-least_one P (Some x) (Some y) l m = ap Some (elim (cases_lt x y) [ inl lt ↦ absurd (m.1 x lt l.0) | inr ge ↦ elim (eq-or-lt_of_le ge) [ inl same ↦ sym same | inr lt ↦ absurd (l.1 y lt m.0) ] ])
+least_one P (Some x) (Some y) l m = ap Some
+    (elim (cases_lt x y) [
+      | inl lt ↦ absurd (m.1 x lt l.0)
+      | inr ge ↦ elim (eq-or-lt_of_le ge) [ inl same ↦ sym same | inr lt ↦ absurd (l.1 y lt m.0) ]
+    ])
 
 least_as : (P Q : ℕ → Type 0) → ((x : ℕ) → P x ↔ Q x) → (o : Option ℕ) → IsLeast P o → IsLeast Q o
 least_as P Q same None l = λ x q. l x ((same x).1 q)
@@ -98,13 +109,23 @@ not_before c d (inl l) (inr m) = let z = m.0 in omega arith
 not_before c d (inr l) (inl m) = let z = l.0 in omega arith
 not_before c d (inr l) (inr m) = let z = l.1 in let y = m.1 in omega arith
 
-module _ (R : Lists) (claims : List Claim) (old us : List Access) (rows before known : List (List ℕ)) (least : List (Option ℕ)) (form : Form R) (numbered : Numbered R) (run : AreSteps R) (gathered : AreGathered R (record { thread = THREADS; index = 0 }) claims old) (within : (c : Place) (e : Entry) → EntryAt R c e → c.thread < THREADS) (sorted : AreSorted old us) (short : length rows < 2 ^ 64) (clocks : (h : List Stamp) → IsEventList h R → AreBlockClocks h rows) (first : (k : ℕ) (l : Claim) → slice_get claims k ≡ Some l → (u : ℕ) → cell before k u ≡ cell rows l.block u) (learned : ClaimsKnow rows us (length us) before known) (long : length least ≡ length claims) (found : AreLeast known us (length us) least) where
+module _ (R : Lists) (claims : List Claim) (old us : List Access) (rows before known : List (List ℕ)) (least : List (Option ℕ))
+    (form : Form R) (numbered : Numbered R) (run : AreSteps R)
+    (gathered : AreGathered R (record { thread = THREADS; index = 0 }) claims old)
+    (within : (c : Place) (e : Entry) → EntryAt R c e → c.thread < THREADS) (sorted : AreSorted old us) (short : length rows < 2 ^ 64)
+    (clocks : (h : List Stamp) → IsEventList h R → AreBlockClocks h rows) (first : (k : ℕ) (l : Claim) → slice_get claims k ≡ Some l
+    → (u : ℕ) → cell before k u ≡ cell rows l.block u) (learned : ClaimsKnow rows us (length us) before known) (long : length least
+    ≡ length claims) (found : AreLeast known us (length us) least) where
   one : (j k : ℕ) (l m : Claim) → slice_get claims j ≡ Some l → slice_get claims k ≡ Some m → seen l.place ≡ seen m.place → j ≡ k
   one j k l m a b same = elim (cases_lt j k) [
-    | inl lt ↦ absurd (let w = gathered.rising j k l m a b lt in not_before (seen l.place) (seen m.place) w (subst (λ c. Before c (seen l.place)) same (subst (λ c. Before (seen l.place) c) (sym same) w)))
+    | inl lt ↦ absurd (let w = gathered.rising j k l m a b lt
+        in not_before (seen l.place) (seen m.place) w
+        (subst (λ c. Before c (seen l.place)) same (subst (λ c. Before (seen l.place) c) (sym same) w)))
     | inr ge ↦ elim (eq-or-lt_of_le ge) [
       | inl z ↦ sym z
-      | inr lt ↦ absurd (let w = gathered.rising k j m l b a lt in not_before (seen m.place) (seen l.place) w (subst (λ c. Before (seen l.place) c) same (subst (λ c. Before c (seen l.place)) (sym same) w)))
+      | inr lt ↦ absurd (let w = gathered.rising k j m l b a lt
+          in not_before (seen m.place) (seen l.place) w
+          (subst (λ c. Before (seen l.place) c) same (subst (λ c. Before c (seen l.place)) (sym same) w)))
     ]
   ]
 
@@ -127,14 +148,17 @@ module _ (R : Lists) (claims : List Claim) (old us : List Access) (rows before k
       }
 
   -- a claim names what was found exactly where the race law holds of its entry
-  pub claim_right : (k : ℕ) (l : Claim) (o : Option ℕ) (e : Entry) → slice_get claims k ≡ Some l → slice_get least k ≡ Some o → EntryAt R (seen l.place) e → (l.raised ≡ o) ↔ IsRaisedRightly R (seen l.place) e
+  pub claim_right : (k : ℕ) (l : Claim) (o : Option ℕ) (e : Entry) → slice_get claims k ≡ Some l → slice_get least k ≡ Some o
+      → EntryAt R (seen l.place) e → (l.raised ≡ o) ↔ IsRaisedRightly R (seen l.place) e
   claim_right k l o e at there here =
       let c = gathered.claim k l at in
       let same : c.1.0 ≡ e = same_entry R (seen l.place) c.1.0 e c.1.1.there here in
       let is : IsAccess e = subst IsAccess same c.1.1.is_access in
       let named : l.raised ≡ raised_on e = c.1.1.raised ∙ ap raised_on same in
       let r = rightly R (seen l.place) e here is in
-      let least' : IsLeast (IsRacy R (seen l.place)) o = least_as (IsRacyClaim known us (length us) k) (IsRacy R (seen l.place)) (λ x. racy_told run.0 R run.1.0 (run.1.2.at (length run.1.0)) claims us rows before known J k l at x) o (found k o there) in (
+      let least' : IsLeast (IsRacy R (seen l.place)) o =
+      least_as (IsRacyClaim known us (length us) k) (IsRacy R (seen l.place))
+      (λ x. racy_told run.0 R run.1.0 (run.1.2.at (length run.1.0)) claims us rows before known J k l at x) o (found k o there) in (
         λ e'. r.1 (subst (IsLeast (IsRacy R (seen l.place))) (sym e' ∙ named) least'),
         λ h. named ∙ least_one (IsRacy R (seen l.place)) (raised_on e) o (r.0 h) least',
       )
@@ -145,7 +169,8 @@ module _ (R : Lists) (claims : List Claim) (old us : List Access) (rows before k
     | inr none ↦ absurd (let z = none.0 in let y = slice_get_within claims k l at in omega arith)
   ]
 
-  pub answer : (result : Option StoredPlace) → IsFirstOther claims least result → MatchOption result (Races R) (λ c. IsFirstBy Before (RaceFailsAt R) (seen c))
+  pub answer : (result : Option StoredPlace) → IsFirstOther claims least result
+      → MatchOption result (Races R) (λ c. IsFirstBy Before (RaceFailsAt R) (seen c))
   answer None all = λ c e here. elim (access_or_right R c e) [
     | inr right ↦ right
     | inl is ↦
@@ -153,7 +178,8 @@ module _ (R : Lists) (claims : List Claim) (old us : List Access) (rows before k
         let l = k.1.0 in
         let o = least_there k.0 l k.1.1 in
         let here' : EntryAt R (seen l.place) e = subst (λ z. EntryAt R z e) (sym k.1.2) here in
-        subst (λ z. IsRaisedRightly R z e) k.1.2 ((claim_right k.0 l o.0 e k.1.1 o.1 here').0 (all (k.0 + 1) k.0 l o.0 (omega arith) k.1.1 o.1)))
+        subst (λ z. IsRaisedRightly R z e) k.1.2 ((claim_right k.0 l o.0 e k.1.1 o.1 here').0
+        (all (k.0 + 1) k.0 l o.0 (omega arith) k.1.1 o.1)))
   ]
   answer (Some p) w =
       let k = w.0 in
@@ -176,16 +202,22 @@ module _ (R : Lists) (claims : List Claim) (old us : List Access) (rows before k
               let near : j.0 < k = elim (cases_lt j.0 k) [
                 | inl lt ↦ lt
                 | inr ge ↦ absurd (elim (eq-or-lt_of_le ge) [
-                  | inl same ↦ (let one : l ≡ m = (let x : slice_get claims j.0 ≡ Some l = subst (λ z. slice_get claims z ≡ Some l) same at in let y = j.1.1 in cc) in let e2 : Before (seen m.place) (seen m.place) = subst (λ (z : Claim). Before (seen m.place) (seen z.place)) one earlier' in not_before (seen m.place) (seen m.place) e2 e2)
+                  | inl same ↦ (let one : l ≡ m = (let x : slice_get claims j.0 ≡ Some l = subst (λ z. slice_get claims z ≡ Some l) same at
+                      in let y = j.1.1 in cc) in let e2 : Before (seen m.place) (seen m.place) =
+                      subst (λ (z : Claim). Before (seen m.place) (seen z.place)) one earlier'
+                      in not_before (seen m.place) (seen m.place) e2 e2)
                   | inr lt ↦ not_before (seen m.place) (seen l.place) earlier' (gathered.rising k j.0 l m at j.1.1 lt)
                 ])
               ] in
-              fails.2 (subst (λ z. IsRaisedRightly R z fails.0) j.1.2 ((claim_right j.0 m q.0 fails.0 j.1.1 q.1 here').0 (w.1.1.5 j.0 m q.0 near j.1.1 q.1))))
+              fails.2 (subst (λ z. IsRaisedRightly R z fails.0) j.1.2
+              ((claim_right j.0 m q.0 fails.0 j.1.1 q.1 here').0 (w.1.1.5 j.0 m q.0 near j.1.1 q.1))))
         ],
       )
 
-map_all : (ns : List Number) → AllByRecursion (λ x. x < VARIABLES) (map (λ n. n.var) ns) → (x n : ℕ) → Contains ns (record { var = x; nth = n }) → x < VARIABLES
-map_all ns all x n (i, l, e) = all_at (λ y. y < VARIABLES) (λ (m : Number). m.var) ns all i (record { var = x; nth = n }) (slice_get-get_or ns i (record { var = x; nth = n }) l ∙ ap Some e)
+map_all : (ns : List Number) → AllByRecursion (λ x. x < VARIABLES) (map (λ n. n.var) ns) → (x n : ℕ)
+    → Contains ns (record { var = x; nth = n }) → x < VARIABLES
+map_all ns all x n (i, l, e) = all_at (λ y. y < VARIABLES) (λ (m : Number). m.var) ns all i (record { var = x; nth = n })
+    (slice_get-get_or ns i (record { var = x; nth = n }) l ∙ ap Some e)
 
 -- the numbers of an entry that is kept are on variables that there are
 number_kept : (e : Entry) (x n : ℕ) → IsEntryKept e → NumberOn e x n → x < VARIABLES
@@ -199,7 +231,8 @@ number_kept (Over ending) x n kept i = absurd i
 
 -- each access is of a variable and a thread that there are, and of a claim
 pub all_within :
-    (R : Lists) (d : Place) (claims : List Claim) (old us : List Access) → AreGathered R d claims old → AreSorted old us → ((c : Place) (e : Entry) → EntryAt R c e → (c.thread < THREADS) × IsEntryKept e) → (n : ℕ) → n ≡ length claims →
+    (R : Lists) (d : Place) (claims : List Claim) (old us : List Access) → AreGathered R d claims old → AreSorted old us
+    → ((c : Place) (e : Entry) → EntryAt R c e → (c.thread < THREADS) × IsEntryKept e) → (n : ℕ) → n ≡ length claims →
     All (λ a. IsWithin n a) us
 all_within R d claims old us gathered sorted kept n same = λ k a l. one (get_or us k a) (Contains-get_or us k a l)
   where
@@ -226,12 +259,18 @@ sorted_of old new moved rising = record {
 
 -- what was found of a record, put together
 pub finish :
-    (R : Lists) (claims : List Claim) (old us : List Access) (rows before known : List (List ℕ)) (least : List (Option ℕ)) (result : Option StoredPlace) → Form R → Numbered R → AreSteps R →
-    AreGathered R (record { thread = THREADS; index = 0 }) claims old → ((c : Place) (e : Entry) → EntryAt R c e → (c.thread < THREADS) × IsEntryKept e) → AreSorted old us → length rows < 2 ^ 64 → ((h : List Stamp) → IsEventList h R → AreBlockClocks h rows) →
-    (r1 r3 k6 : List (List ℕ)) (c2 c7 : List Claim) (a4 a5 : List Access) (l8 : List (Option ℕ)) → r1 ≡ rows → c2 ≡ claims → r3 ≡ rows → a4 ≡ us → a5 ≡ us → k6 ≡ known → c7 ≡ claims → l8 ≡ least →
-    ((k : ℕ) (l : Claim) → slice_get c2 k ≡ Some l → (u : ℕ) → cell before k u ≡ cell r1 l.block u) → ClaimsKnow r3 a4 (length a4) before known → length least ≡ length claims → AreLeast k6 a5 (length a5) least →
+    (R : Lists) (claims : List Claim) (old us : List Access) (rows before known : List (List ℕ)) (least : List (Option ℕ))
+    (result : Option StoredPlace) → Form R → Numbered R → AreSteps R →
+    AreGathered R (record { thread = THREADS; index = 0 }) claims old
+    → ((c : Place) (e : Entry) → EntryAt R c e → (c.thread < THREADS) × IsEntryKept e) → AreSorted old us → length rows < 2 ^ 64
+    → ((h : List Stamp) → IsEventList h R → AreBlockClocks h rows) →
+    (r1 r3 k6 : List (List ℕ)) (c2 c7 : List Claim) (a4 a5 : List Access) (l8 : List (Option ℕ)) → r1 ≡ rows → c2 ≡ claims → r3 ≡ rows → a4
+    ≡ us → a5 ≡ us → k6 ≡ known → c7 ≡ claims → l8 ≡ least →
+    ((k : ℕ) (l : Claim) → slice_get c2 k ≡ Some l → (u : ℕ) → cell before k u ≡ cell r1 l.block u)
+    → ClaimsKnow r3 a4 (length a4) before known → length least ≡ length claims → AreLeast k6 a5 (length a5) least →
     IsFirstOther c7 l8 result → MatchOption result (Races R) (λ c. IsFirstBy Before (RaceFailsAt R) (seen c))
-finish R claims old us rows before known least result form numbered run gathered kept sorted short clocks r1 r3 k6 c2 c7 a4 a5 l8 e1 e2 e3 e4 e5 e6 e7 e8 first learned long found other =
+finish R claims old us rows before known least result form numbered run gathered kept sorted short clocks r1 r3 k6 c2 c7 a4 a5 l8 e1 e2 e3
+    e4 e5 e6 e7 e8 first learned long found other =
     answer R claims old us rows before known least form numbered run gathered (λ c e a. (kept c e a).0) sorted short clocks
     (λ k l a u. subst (λ r. cell before k u ≡ cell r l.block u) e1 (first k l (subst (λ cs. slice_get cs k ≡ Some l) (sym e2) a) u))
     (subst (λ r. ClaimsKnow r us (length us) before known) e3 (subst (λ a. ClaimsKnow r3 a (length a) before known) e4 learned)) long

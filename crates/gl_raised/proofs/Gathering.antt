@@ -27,7 +27,8 @@ claim_new : (ls : List Claim) (l : Claim) → slice_get (ls ++ l ∷ []) (length
 claim_new [] l = refl
 claim_new (x ∷ ls) l = claim_new ls l
 
-claim_cases : (ls : List Claim) (l m : Claim) (k : ℕ) → slice_get (ls ++ l ∷ []) k ≡ Some m → (slice_get ls k ≡ Some m) ⊎ ((k ≡ length ls) × (m ≡ l))
+claim_cases : (ls : List Claim) (l m : Claim) (k : ℕ) → slice_get (ls ++ l ∷ []) k ≡ Some m → (slice_get ls k ≡ Some m)
+    ⊎ ((k ≡ length ls) × (m ≡ l))
 claim_cases [] l m zero a = inr (refl, let s : l ≡ m = cc in sym s)
 claim_cases [] l m (suc k) a = absurd (cc)
 claim_cases (x ∷ ls) l m zero a = inl a
@@ -54,15 +55,19 @@ after_means o (Abort tx why) = refl
 after_means o (Trim low) = refl
 after_means o (Over ending) = refl
 
-pub block_more : (es : List Entry) (i b : ℕ) (e : Entry) → slice_get es i ≡ Some e → b ≡ block_before es i → block_after b e ≡ block_before es (i + 1)
+pub block_more : (es : List Entry) (i b : ℕ) (e : Entry) → slice_get es i ≡ Some e → b ≡ block_before es i → block_after b e
+    ≡ block_before es (i + 1)
 block_more es i b e there is =
-    let more : take (i + 1) es ≡ take i es ++ e ∷ [] = take_more es i e (slice_get_within es i e there) ∙ ap (λ z. take i es ++ z ∷ []) (get_or_from_slice_get es i e e there) in
-    ap (λ z. block_after z e) is ∙ sym (after_means (last_position (take i es)) e) ∙ ap (λ o. unwrap_or o 0) (sym (last_more (take i es) e)) ∙ ap (λ l. unwrap_or (last_position l) 0) (sym more)
+    let more : take (i + 1) es ≡ take i es ++ e ∷ [] = take_more es i e (slice_get_within es i e there)
+    ∙ ap (λ z. take i es ++ z ∷ []) (get_or_from_slice_get es i e e there) in
+    ap (λ z. block_after z e) is ∙ sym (after_means (last_position (take i es)) e)
+    ∙ ap (λ o. unwrap_or o 0) (sym (last_more (take i es) e)) ∙ ap (λ l. unwrap_or (last_position l) 0) (sym more)
 
 -- an entry is no access, or has one claim
 pub data ClaimKind (e : Entry) : Type 0 where
   no_access : (IsAccess e → ⊥) → ((p : StoredPlace) (b : ℕ) → claims_of p b e ≡ []) → ((k t b : ℕ) → accesses_of k t b e ≡ []) → ClaimKind e
-  one_claim : IsAccess e → ((p : StoredPlace) (b : ℕ) → claims_of p b e ≡ (record { place = p; block = b; raised = raised_on e }) ∷ []) → ClaimKind e
+  one_claim : IsAccess e → ((p : StoredPlace) (b : ℕ) → claims_of p b e ≡ (record { place = p; block = b; raised = raised_on e }) ∷ [])
+      → ClaimKind e
 
 kind_of : (e : Entry) → ClaimKind e
 kind_of (Sync at act value) = no_access (λ a. a) (λ p b. refl) (λ k t b. refl)
@@ -74,15 +79,21 @@ kind_of (Trim low) = no_access (λ a. a) (λ p b. refl) (λ k t b. refl)
 kind_of (Over ending) = no_access (λ a. a) (λ p b. refl) (λ k t b. refl)
 
 -- what is before the next place of a list is before this one, or is it
-next_cases : (c : Place) (t i : ℕ) → Before c (record { thread = t; index = i + 1 }) → Before c (record { thread = t; index = i }) ⊎ (c ≡ record { thread = t; index = i })
+next_cases : (c : Place) (t i : ℕ) → Before c (record { thread = t; index = i + 1 }) → Before c (record { thread = t; index = i })
+    ⊎ (c ≡ record { thread = t; index = i })
 next_cases c t i (inl lt) = inl (inl lt)
-next_cases c t i (inr s) = elim (cases_lt c.index i) [ inl lt ↦ inl (inr (s.0, lt)) | inr ge ↦ inr (same_place c (record { thread = t; index = i }) s.0 (let z : c.index ≡ i = (let w = s.1 in omega arith) in z)) ]
+next_cases c t i (inr s) = elim (cases_lt c.index i) [
+  | inl lt ↦ inl (inr (s.0, lt))
+  | inr ge ↦ inr (same_place c (record { thread = t; index = i }) s.0 (let z : c.index ≡ i = (let w = s.1 in omega arith) in z))
+]
 
 next_before : (c : Place) (t i : ℕ) → Before c (record { thread = t; index = i }) → Before c (record { thread = t; index = i + 1 })
 next_before c t i (inl lt) = inl lt
 next_before c t i (inr s) = inr (s.0, let w = s.1 in omega arith)
 
-module _ (R : Lists) (t i b : ℕ) (p : StoredPlace) (is_place : seen p ≡ record { thread = t; index = i }) (of_thread : p.thread ≡ t) (of_index : p.index ≡ i) (e : Entry) (there : slice_get (R t) i ≡ Some e) (is_block : b ≡ block_before (R t) (i + 1)) (claims : List Claim) (accesses : List Access) (so_far : AreGathered R (record { thread = t; index = i }) claims accesses) where
+module _ (R : Lists) (t i b : ℕ) (p : StoredPlace) (is_place : seen p ≡ record { thread = t; index = i }) (of_thread : p.thread ≡ t)
+    (of_index : p.index ≡ i) (e : Entry) (there : slice_get (R t) i ≡ Some e) (is_block : b ≡ block_before (R t) (i + 1))
+    (claims : List Claim) (accesses : List Access) (so_far : AreGathered R (record { thread = t; index = i }) claims accesses) where
   here : EntryAt R (seen p) e
   here = subst (λ c. EntryAt R c e) (sym is_place) there
 
@@ -94,7 +105,8 @@ module _ (R : Lists) (t i b : ℕ) (p : StoredPlace) (is_place : seen p ≡ reco
     claim = λ k l a. (next_before (seen l.place) t i (so_far.claim k l a).0, (so_far.claim k l a).1);
     all = λ c f a is before. elim (next_cases c t i before) [
       | inl old ↦ so_far.all c f a is old
-      | inr now ↦ absurd (none (subst IsAccess (let x : EntryAt R (record { thread = t; index = i }) f = subst (λ z. EntryAt R z f) now a in let y : f ≡ e = cc in y) is))
+      | inr now ↦ absurd (none (subst IsAccess (let x : EntryAt R (record { thread = t; index = i }) f = subst (λ z. EntryAt R z f) now a
+          in let y : f ≡ e = cc in y) is))
     ];
     rising = so_far.rising;
     parts = so_far.parts;
@@ -104,21 +116,31 @@ module _ (R : Lists) (t i b : ℕ) (p : StoredPlace) (is_place : seen p ≡ reco
   its = record { place = p; block = b; raised = raised_on e }
 
   its_claim : IsAccess e → IsClaimOf R its e
-  its_claim is = record { there = here; is_access = is; raised = refl; block = is_block ∙ ap (λ u. block_before (R u) (i + 1)) (sym of_thread) ∙ ap (λ j. block_before (R p.thread) (j + 1)) (sym of_index) }
+  its_claim is = record {
+    there = here;
+    is_access = is;
+    raised = refl;
+    block = is_block
+        ∙ ap (λ u. block_before (R u) (i + 1)) (sym of_thread) ∙ ap (λ j. block_before (R p.thread) (j + 1)) (sym of_index);
+  }
 
-  last : (a : Access) (k : ℕ) (l : Claim) (f : Entry) → k ≡ length claims → l ≡ its → EntryAt R (seen l.place) f → Contains (accesses_of k l.place.thread l.block f) a → Contains (accesses_of (length claims) t b e) a
+  last : (a : Access) (k : ℕ) (l : Claim) (f : Entry) → k ≡ length claims → l ≡ its → EntryAt R (seen l.place) f
+      → Contains (accesses_of k l.place.thread l.block f) a → Contains (accesses_of (length claims) t b e) a
   last a k l f at same there' c =
       let moved : EntryAt R (seen p) f = subst (λ (m : Claim). EntryAt R (seen m.place) f) same there' in
-      let c1 : Contains (accesses_of k p.thread b f) a = subst (λ (m : Claim). Contains (accesses_of k m.place.thread m.block f) a) same c in
+      let c1 : Contains (accesses_of k p.thread b f) a =
+      subst (λ (m : Claim). Contains (accesses_of k m.place.thread m.block f) a) same c in
       let c2 : Contains (accesses_of k p.thread b e) a = subst (λ g. Contains (accesses_of k p.thread b g) a) (same_entry f moved) c1 in
       let c3 : Contains (accesses_of k t b e) a = subst (λ u. Contains (accesses_of k u b e) a) of_thread c2 in
       subst (λ j. Contains (accesses_of j t b e) a) at c3
 
-  with_one : IsAccess e → AreGathered R (record { thread = t; index = i + 1 }) (claims ++ its ∷ []) (accesses ++ accesses_of (length claims) t b e)
+  with_one : IsAccess e → AreGathered R (record { thread = t; index = i + 1 }) (claims ++ its ∷ []) (accesses
+      ++ accesses_of (length claims) t b e)
   with_one is = record {
     claim = λ k l a. elim (claim_cases claims its l k a) [
       | inl old ↦ (next_before (seen l.place) t i (so_far.claim k l old).0, (so_far.claim k l old).1)
-      | inr now ↦ subst (λ (m : Claim). Before (seen m.place) (record { thread = t; index = i + 1 }) × ((f : Entry) × IsClaimOf R m f)) (sym now.1) (inr (of_thread, omega (arith, of_index)), (e, its_claim is))
+      | inr now ↦ subst (λ (m : Claim). Before (seen m.place) (record { thread = t; index = i + 1 }) × ((f : Entry) × IsClaimOf R m f))
+          (sym now.1) (inr (of_thread, omega (arith, of_index)), (e, its_claim is))
     ];
     all = λ c f a ac before. elim (next_cases c t i before) [
       | inl old ↦ (let w = so_far.all c f a ac old in (w.0, (w.1.0, claim_kept claims (its ∷ []) w.0 w.1.0 w.1.1, w.1.2)))
@@ -130,50 +152,74 @@ module _ (R : Lists) (t i b : ℕ) (p : StoredPlace) (is_place : seen p ≡ reco
         | inr last ↦ absurd (let w = slice_get_within claims k m old in let z = last.0 in omega arith)
       ]
       | inr now ↦ elim (claim_cases claims its l j al) [
-        | inl first ↦ subst (λ (n : Claim). Before (seen l.place) (seen n.place)) (sym now.1) (subst (λ c. Before (seen l.place) c) (sym is_place) (so_far.claim j l first).0)
+        | inl first ↦ subst (λ (n : Claim). Before (seen l.place) (seen n.place)) (sym now.1)
+            (subst (λ c. Before (seen l.place) c) (sym is_place) (so_far.claim j l first).0)
         | inr last ↦ absurd (let z = last.0 in let y = now.0 in omega arith)
       ]
     ];
     parts = λ a. (
       λ c. elim (Contains-append_cases accesses (accesses_of (length claims) t b e) a c) [
-        | inl old ↦ (let w = (so_far.parts a).0 old in (w.0, (w.1.0, (w.1.1.0, claim_kept claims (its ∷ []) w.0 w.1.0 w.1.1.1, w.1.1.2, w.1.1.3))))
-        | inr new ↦ (length claims, (its, (e, claim_new claims its, here, subst (λ u. Contains (accesses_of (length claims) u b e) a) (sym of_thread) new)))
+        | inl old ↦ (let w = (so_far.parts a).0 old
+            in (w.0, (w.1.0, (w.1.1.0, claim_kept claims (its ∷ []) w.0 w.1.0 w.1.1.1, w.1.1.2, w.1.1.3))))
+        | inr new ↦ (
+          length claims,
+          (
+            its,
+            (
+              e,
+              claim_new claims its,
+              here,
+              subst (λ u. Contains (accesses_of (length claims) u b e) a)
+                  (sym of_thread) new,
+            ),
+          ),
+        )
       ],
       λ w. elim (claim_cases claims its w.1.0 w.0 w.1.1.1) [
-        | inl old ↦ Contains-append_left accesses (accesses_of (length claims) t b e) a ((so_far.parts a).1 (w.0, (w.1.0, (w.1.1.0, old, w.1.1.2, w.1.1.3))))
-        | inr now ↦ Contains-append_right accesses (accesses_of (length claims) t b e) a (last a w.0 w.1.0 w.1.1.0 now.0 now.1 w.1.1.2 w.1.1.3)
+        | inl old ↦ Contains-append_left accesses (accesses_of (length claims) t b e) a
+            ((so_far.parts a).1 (w.0, (w.1.0, (w.1.1.0, old, w.1.1.2, w.1.1.3))))
+        | inr now ↦ Contains-append_right accesses (accesses_of (length claims) t b e) a
+            (last a w.0 w.1.0 w.1.1.0 now.0 now.1 w.1.1.2 w.1.1.3)
       ],
     );
   }
 
-  pub gathered_more : AreGathered R (record { thread = t; index = i + 1 }) (claims ++ claims_of p b e) (accesses ++ accesses_of (length claims) t b e)
+  pub gathered_more : AreGathered R (record { thread = t; index = i + 1 }) (claims ++ claims_of p b e) (accesses
+      ++ accesses_of (length claims) t b e)
   gathered_more = by (kind_of e)
     where
-      by : ClaimKind e → AreGathered R (record { thread = t; index = i + 1 }) (claims ++ claims_of p b e) (accesses ++ accesses_of (length claims) t b e)
-      by (no_access none no_claims no_parts) = rw (no_claims p b, no_parts (length claims) t b, append-nil claims, append-nil accesses) (without none)
+      by : ClaimKind e → AreGathered R (record { thread = t; index = i + 1 }) (claims ++ claims_of p b e) (accesses
+          ++ accesses_of (length claims) t b e)
+      by (no_access none no_claims no_parts) = rw (no_claims p b, no_parts (length claims) t b, append-nil claims, append-nil accesses)
+          (without none)
       by (one_claim is claim) = rw (claim p b) (with_one is)
 
 -- the whole list of a thread
-pub next_thread : (R : Lists) (t n : ℕ) (claims : List Claim) (accesses : List Access) → length (R t) ≤ n → AreGathered R (record { thread = t; index = n }) claims accesses → AreGathered R (record { thread = t + 1; index = 0 }) claims accesses
+pub next_thread : (R : Lists) (t n : ℕ) (claims : List Claim) (accesses : List Access) → length (R t) ≤ n
+    → AreGathered R (record { thread = t; index = n }) claims accesses
+    → AreGathered R (record { thread = t + 1; index = 0 }) claims accesses
 next_thread R t n claims accesses long so_far = record {
-  claim = λ k l a. (elim (so_far.claim k l a).0 [ inl lt ↦ inl (omega arith) | inr s ↦ (let z = s.0 in inl (omega arith)) ], (so_far.claim k l a).1);
+  claim = λ k l a. (
+    elim (so_far.claim k l a).0 [ inl lt ↦ inl (omega arith) | inr s ↦ (let z = s.0 in inl (omega arith)) ],
+    (so_far.claim k l a).1,
+  );
   all = λ c e a is before. so_far.all c e a is (elim before [
-    | inl lt ↦ elim (cases_lt c.thread t) [ inl less ↦ inl less | inr ge ↦ inr (let same : c.thread ≡ t = omega arith in (same, let w : c.index < length (R t) = subst (λ u. c.index < length (R u)) same (slice_get_within (R c.thread) c.index e a) in omega arith)) ]
+    | inl lt ↦ elim (cases_lt c.thread t) [
+      | inl less ↦ inl less
+      | inr ge ↦ inr (let same : c.thread ≡ t = omega arith
+          in (
+            same,
+            let w : c.index < length (R t) = subst (λ u. c.index < length (R u)) same (slice_get_within (R c.thread) c.index e a)
+                in omega arith,
+          ))
+    ]
     | inr s ↦ absurd (let z = s.1 in omega arith)
   ]);
   rising = so_far.rising;
   parts = so_far.parts;
 }
 
--- before the first thread
-pub gathered_first : (R : Lists) → AreGathered R (record { thread = 0; index = 0 }) [] []
-gathered_first R = record {
-  claim = λ k l a. absurd (cc);
-  all = λ c e a is before. absurd (elim before [ inl lt ↦ omega arith | inr s ↦ (let z = s.1 in omega arith) ]);
-  rising = λ j k l m a b lt. absurd (cc);
-  parts = λ a. (λ c. absurd (let z = c.1 in omega arith), λ w. absurd (let z = w.1.1.1 in cc));
-}
-
 -- the entry at i, where the entries are seen
-pub seen_at : (es : List StoredEntry) (i : ℕ) (d : StoredEntry) → i < length es → slice_get (map seen_entry es) i ≡ Some (seen_entry (get_or es i d))
+pub seen_at : (es : List StoredEntry) (i : ℕ) (d : StoredEntry) → i < length es → slice_get (map seen_entry es) i
+    ≡ Some (seen_entry (get_or es i d))
 seen_at es i d l = slice_get-map seen_entry es i ∙ ap (option_map seen_entry) (slice_get-get_or es i d l)

@@ -28,9 +28,11 @@ commit_not_refused : (e : Entry) → IsCommit e → IsRefusedCommit e → ⊥
 commit_not_refused (Commit at tx) i r = r
 commit_not_refused _ i r = i
 
-module _ (setting : Setting) (R : Lists) (h : List Stamp) (now : State) (is_list : IsEventList h R) (rise : PositionsRise R) (allowed : Allows setting h now) (c : Place) (a : Access) (stands : StandsFor R c a) where
+module _ (setting : Setting) (R : Lists) (h : List Stamp) (now : State) (is_list : IsEventList h R) (rise : PositionsRise R)
+    (allowed : Allows setting h now) (c : Place) (a : Access) (stands : StandsFor R c a) where
   -- the clock of the block's thread, after the block's event, tells what precedes the block
-  pub block_told : (d : Place) (q : ℕ) → (b : IsBlockOf R d q) → b.event.event ≢ Does End → c.thread ≢ d.thread → (tick a < clocks (take (q + 1) h) (Thread d.thread) a.thread) ↔ Precedes h a d.thread q
+  pub block_told : (d : Place) (q : ℕ) → (b : IsBlockOf R d q) → b.event.event ≢ Does End → c.thread ≢ d.thread
+      → (tick a < clocks (take (q + 1) h) (Thread d.thread) a.thread) ↔ Precedes h a d.thread q
   block_told d q b goes apart =
       let at : EventAt h q b.event = is_list.listed (record { thread = d.thread; index = b.index }) q b.event b.made in
       let own : b.event.thread ≡ d.thread = b.made.own in
@@ -39,7 +41,8 @@ module _ (setting : Setting) (R : Lists) (h : List Stamp) (now : State) (is_list
       subst (λ u. (tick a < clocks (take (q + 1) h) (Thread u) a.thread) ↔ Precedes h a u q) own m
 
   -- a plain entry
-  pub plain_told : (d : Place) (f : Entry) → EntryAt R d f → IsPlain f → (q : ℕ) → IsBlockOf R d q → c.thread ≢ d.thread → Precedes h a d.thread q ↔ HappensBefore R c d
+  pub plain_told : (d : Place) (f : Entry) → EntryAt R d f → IsPlain f → (q : ℕ) → IsBlockOf R d q → c.thread ≢ d.thread
+      → Precedes h a d.thread q ↔ HappensBefore R c d
   plain_told d f here plain q b apart = (
     λ p. happens_before R h is_list rise c a stands d f here (λ p. plain_no_event f p plain) q b p,
     λ k. precedes R h is_list rise c a stands d f here (λ p. plain_no_event f p plain) q b plain apart k,
@@ -53,10 +56,18 @@ module _ (setting : Setting) (R : Lists) (h : List Stamp) (now : State) (is_list
   ]
 
   reaches_precedes : (d : Place) (q : ℕ) (s : Stamp) → IsEventAt R d q s → Reaches h a q → Precedes h a d.thread q
-  reaches_precedes d q s made r = record { position = q; event = s; here = is_list.listed d q s made; own = event_thread made; within = omega arith; reached = r }
+  reaches_precedes d q s made r = record {
+    position = q;
+    event = s;
+    here = is_list.listed d q s made;
+    own = event_thread made;
+    within = omega arith;
+    reached = r;
+  }
 
   -- a commit
-  pub commit_told : (d : Place) (f : Entry) → EntryAt R d f → IsCommit f → (q : ℕ) (s : Stamp) → IsEventAt R d q s → Precedes h a d.thread q ↔ HappensBefore R c d
+  pub commit_told : (d : Place) (f : Entry) → EntryAt R d f → IsCommit f → (q : ℕ) (s : Stamp) → IsEventAt R d q s
+      → Precedes h a d.thread q ↔ HappensBefore R c d
   commit_told d f here is q s made = (
     λ p. by_steps (reaches_chain R h is_list rise c a stands (precedes_reaches d q s made p) d s made),
     λ k. back k,
@@ -78,7 +89,8 @@ module _ (setting : Setting) (R : Lists) (h : List Stamp) (now : State) (is_list
 
   -- a refused commit, and a plain access
   pub refused_told :
-      (d : Place) (f : Entry) → EntryAt R d f → IsRefusedCommit f → (q : ℕ) → IsBlockOf R d q → c.thread ≢ d.thread → (e : Entry) → EntryAt R c e → IsPlain e →
+      (d : Place) (f : Entry) → EntryAt R d f → IsRefusedCommit f → (q : ℕ) → IsBlockOf R d q → c.thread ≢ d.thread → (e : Entry)
+      → EntryAt R c e → IsPlain e →
       ((b : Place) (g : Entry) → EntryAt R b g → IsCommit g → (p : ℕ) × (s : Stamp) × IsEventAt R b p s) →
       (Precedes h a d.thread q ⊎ ByCommit d) ↔ HappensBefore R c d
   refused_told d f here is q b apart e there plain events = (
@@ -94,10 +106,18 @@ module _ (setting : Setting) (R : Lists) (h : List Stamp) (now : State) (is_list
       back (from_commit i) = absurd (commit_not_plain e plain (rw (same_entry R c i.made e i.there there) at i.is_commit))
       back (through_commit m k i) =
           let v = events m i.made i.there i.is_commit in
-          inr (record { commit = m; edge = i; position = v.0; event = v.1; made = v.2; reached = reached R h is_list rise c a stands m v.0 v.1 v.2 k })
+          inr (record {
+            commit = m;
+            edge = i;
+            position = v.0;
+            event = v.1;
+            made = v.2;
+            reached = reached R h is_list rise c a stands m v.0 v.1 v.2 k;
+          })
 
   -- a plain access reaches an event of another thread exactly where the clock of that thread after it has passed the access
-  pub other_reaches : (d : Place) (q : ℕ) (s : Stamp) → IsEventAt R d q s → s.event ≢ Does End → (b : IsBlockOf R d q) → c.thread ≢ d.thread → (tick a < clocks (take (q + 1) h) (Thread d.thread) a.thread) ↔ Reaches h a q
+  pub other_reaches : (d : Place) (q : ℕ) (s : Stamp) → IsEventAt R d q s → s.event ≢ Does End → (b : IsBlockOf R d q)
+      → c.thread ≢ d.thread → (tick a < clocks (take (q + 1) h) (Thread d.thread) a.thread) ↔ Reaches h a q
   other_reaches d q s made goes b apart =
       let same : b.event ≡ s = one_event in
       let m = block_told d q b (λ e. goes (ap (λ (r : Stamp). r.event) (sym same) ∙ e)) apart in
@@ -110,7 +130,11 @@ module _ (setting : Setting) (R : Lists) (h : List Stamp) (now : State) (is_list
           cc
 
   -- and one of its own thread exactly where that is later
-  pub own_reaches : (d : Place) (q : ℕ) (s : Stamp) → IsEventAt R d q s → c.thread ≡ d.thread → a.variables ≡ None → (tick a < q + 1) ↔ Reaches h a q
+  pub own_reaches : (d : Place) (q : ℕ) (s : Stamp) → IsEventAt R d q s → c.thread ≡ d.thread → a.variables ≡ None
+      → (tick a < q + 1) ↔ Reaches h a q
   own_reaches d q s made same plain =
-      let t : tick a ≡ a.block + 1 = ap (tick_of a.block) plain in
-      (λ l. own_later s (is_list.listed d q s made) (omega arith) (event_thread made ∙ sym same ∙ sym stands.thread), λ r. let k = reaches_later r in omega arith)
+      let t : tick a ≡ a.block + 1 = ap (tick_of a.block) plain in (
+        λ l. own_later s (is_list.listed d q s made) (omega arith) (event_thread made ∙ sym same ∙ sym stands.thread),
+        λ r. let k =
+            reaches_later r in omega arith,
+      )

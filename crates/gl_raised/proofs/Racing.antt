@@ -41,8 +41,10 @@ use Rattle.gl_raised.proofs.Orders.{block_told, plain_told, commit_told, refused
 use Rattle.gl_raised.proofs.Parts.{IsPart, part_means, part_there}
 
 -- the number of an access was drawn by an entry of its thread: by itself, or by the one that it repeats
-drawn : (R : Lists) → Form R → (c : Place) (e : Entry) → EntryAt R c e → (x k : ℕ) → NumberOn e x k → (i : ℕ) × ((f : Entry) × EntryAt R (record { thread = c.thread; index = i }) f × NumberDraws f x k)
-drawn R form c (Plain var nth false write value raised) here x k n = (c.index, (Plain var nth false write value raised, here, (refl, n.0, n.1)))
+drawn : (R : Lists) → Form R → (c : Place) (e : Entry) → EntryAt R c e → (x k : ℕ) → NumberOn e x k → (i : ℕ)
+    × ((f : Entry) × EntryAt R (record { thread = c.thread; index = i }) f × NumberDraws f x k)
+drawn R form c (Plain var nth false write value raised) here x k n =
+    (c.index, (Plain var nth false write value raised, here, (refl, n.0, n.1)))
 drawn R form c (Plain var nth true write value false) here x k n =
     let r = (form.formed c.thread).cached c.index var nth write value here in
     (r.index, (r.entry, r.there, given r.entry r.by_write r.gives))
@@ -50,7 +52,8 @@ drawn R form c (Plain var nth true write value false) here x k n =
     given : (f : Entry) (w : Bool) → GivesRight f var nth w → NumberDraws f x k
     given (Plain v l ca wr va ra) w g = (g.0, g.2 ∙ n.0, g.3 ∙ n.1)
     given _ w g = absurd g
-drawn R form c (Plain var nth true write value true) here x k n = absurd (let z : true ≡ false = ((form.formed c.thread).well_formed c.index (Plain var nth true write value true) here).0 in cc)
+drawn R form c (Plain var nth true write value true) here x k n =
+    absurd (let z : true ≡ false = ((form.formed c.thread).well_formed c.index (Plain var nth true write value true) here).0 in cc)
 drawn R form c (Commit at tx) here x k n = (c.index, (Commit at tx, here, n))
 drawn R form c (Abort tx (Raised var)) here x k n = (c.index, (Abort tx (Raised var), here, n))
 drawn R form c (Abort tx (Changed var read found)) here x k n = absurd n
@@ -60,20 +63,24 @@ drawn R form c (Over ending) here x k n = absurd n
 
 -- so accesses with one number on a variable are of one thread
 pub one_thread :
-    (R : Lists) → Form R → Numbered R → (c d : Place) (e f : Entry) → EntryAt R c e → EntryAt R d f → (x k : ℕ) → NumberOn e x k → NumberOn f x k → c.thread ≡ d.thread
+    (R : Lists) → Form R → Numbered R → (c d : Place) (e f : Entry) → EntryAt R c e → EntryAt R d f → (x k : ℕ) → NumberOn e x k
+    → NumberOn f x k → c.thread ≡ d.thread
 one_thread R form numbered c d e f a b x k n m =
     let p = drawn R form c e a x k n in
     let q = drawn R form d f b x k m in
-    let same = (numbered x).1.once (record { thread = c.thread; index = p.0 }) (record { thread = d.thread; index = q.0 }) p.1.0 q.1.0 k p.1.1 q.1.1 (inr p.1.2) (inr q.1.2) in
+    let same = (numbered x).1.once (record { thread = c.thread; index = p.0 }) (record { thread = d.thread; index = q.0 }) p.1.0 q.1.0 k
+    p.1.1 q.1.1 (inr p.1.2) (inr q.1.2) in
     ap (λ (z : Place). z.thread) same
 
 -- a commit's block is its own position
-commit_block : (es : List Entry) (i : ℕ) (at : ℕ) (tx : Tx) → slice_get es i ≡ Some (Commit at tx) → last_position (take (suc i) es) ≡ Some at
+commit_block : (es : List Entry) (i : ℕ) (at : ℕ) (tx : Tx) → slice_get es i ≡ Some (Commit at tx) → last_position (take (suc i) es)
+    ≡ Some at
 commit_block [] i at tx e = absurd (cc)
 commit_block (x ∷ es) zero at tx e = let z : x ≡ Commit at tx = cc in rw z refl
 commit_block (x ∷ es) (suc i) at tx e = rw (commit_block es i at tx e) refl
 
-commit_event : (R : Lists) (c : Place) (e : Entry) → EntryAt R c e → IsCommit e → (p : ℕ) × (s : Stamp) × IsEventAt R c p s × ((xs : List ℕ) × (s.event ≡ Commits xs)) × BlockAt (R c.thread) c.index p
+commit_event : (R : Lists) (c : Place) (e : Entry) → EntryAt R c e → IsCommit e → (p : ℕ) × (s : Stamp) × IsEventAt R c p s
+    × ((xs : List ℕ) × (s.event ≡ Commits xs)) × BlockAt (R c.thread) c.index p
 commit_event R c (Commit at tx) here is = (
   at,
   record { thread = c.thread; event = Commits (variables_of tx) },
@@ -86,14 +93,6 @@ commit_event R c (Plain var nth cached write value raised) here is = absurd is
 commit_event R c (Abort tx why) here is = absurd is
 commit_event R c (Trim low) here is = absurd is
 commit_event R c (Over ending) here is = absurd is
-
-access_of_plain : (e : Entry) → IsPlain e → IsAccess e
-access_of_plain (Plain var nth cached write value raised) p = tt
-access_of_plain (Sync at act value) p = absurd p
-access_of_plain (Commit at tx) p = absurd p
-access_of_plain (Abort tx why) p = absurd p
-access_of_plain (Trim low) p = absurd p
-access_of_plain (Over ending) p = absurd p
 
 number_access : (e : Entry) (x k : ℕ) → NumberOn e x k → IsAccess e
 number_access (Plain var nth cached write value raised) x k n = tt
@@ -155,26 +154,31 @@ refused_not_done (Trim low) i p = i
 refused_not_done (Over ending) i p = i
 
 -- what the code has of a record
-pub record Judging (setting : Setting) (R : Lists) (h : List Stamp) (now : State) (claims : List Claim) (us : List Access) (rows before known : List (List ℕ)) : Type 0 where
+pub record Judging (setting : Setting) (R : Lists) (h : List Stamp) (now : State) (claims : List Claim) (us : List Access)
+    (rows before known : List (List ℕ)) : Type 0 where
   pub form : Form R
   pub numbered : Numbered R
   pub is_list : IsEventList h R
   pub allowed : Allows setting h now
   pub short : length h < 2 ^ 64
   pub claim : (k : ℕ) (l : Claim) → slice_get claims k ≡ Some l → (e : Entry) × IsClaimOf R l e
-  pub all : (c : Place) (e : Entry) → EntryAt R c e → IsAccess e → (k : ℕ) × ((l : Claim) × (slice_get claims k ≡ Some l) × (seen l.place ≡ c))
+  pub all : (c : Place) (e : Entry) → EntryAt R c e → IsAccess e → (k : ℕ)
+      × ((l : Claim) × (slice_get claims k ≡ Some l) × (seen l.place ≡ c))
   pub one : (j k : ℕ) (l m : Claim) → slice_get claims j ≡ Some l → slice_get claims k ≡ Some m → seen l.place ≡ seen m.place → j ≡ k
   pub parts :
       (a : Access) →
-      Contains us a ↔ ((k : ℕ) × ((l : Claim) × ((e : Entry) × (slice_get claims k ≡ Some l) × EntryAt R (seen l.place) e × Contains (accesses_of k l.place.thread l.block e) a)))
+      Contains us a ↔ ((k : ℕ) × ((l : Claim) × ((e : Entry) × (slice_get claims k ≡ Some l) × EntryAt R (seen l.place) e
+      × Contains (accesses_of k l.place.thread l.block e) a)))
   pub ordered : (i j : ℕ) (v w : Access) → slice_get us i ≡ Some v → slice_get us j ≡ Some w → i ≤ j → v.nth ≤ w.nth
   pub clocks_are : AreBlockClocks h rows
   pub first : (k : ℕ) (l : Claim) → slice_get claims k ≡ Some l → (u : ℕ) → cell before k u ≡ cell rows l.block u
   pub learned : ClaimsKnow rows us (length us) before known
 
-module _ (setting : Setting) (R : Lists) (h : List Stamp) (now : State) (claims : List Claim) (us : List Access) (rows before known : List (List ℕ)) (J : Judging setting R h now claims us rows before known) where
+module _ (setting : Setting) (R : Lists) (h : List Stamp) (now : State) (claims : List Claim) (us : List Access)
+    (rows before known : List (List ℕ)) (J : Judging setting R h now claims us rows before known) where
   rise : PositionsRise R
-  rise c d p q s r a b o = (J.form.formed c.thread).positions_rise c.index d.index p q a.entry b.entry a.there (subst (λ t. slice_get (R t) d.index ≡ Some b.entry) (sym o.0) b.there) o.1 a.position b.position
+  rise c d p q s r a b o = (J.form.formed c.thread).positions_rise c.index d.index p q a.entry b.entry a.there
+      (subst (λ t. slice_get (R t) d.index ≡ Some b.entry) (sym o.0) b.there) o.1 a.position b.position
 
   -- an entry of the record with the claim that it has and one of its accesses
   pub record IsUse (a : Access) (c : Place) (e : Entry) : Type 0 where
@@ -204,12 +208,14 @@ module _ (setting : Setting) (R : Lists) (h : List Stamp) (now : State) (claims 
         at = subst (λ k. slice_get claims k ≡ Some l) (sym part.claim) w.1.1.1;
         place = refl;
         in_block = block;
-        part = subst (λ q. IsPart a.claim l.place.thread q e a) block (subst (λ k. IsPart k l.place.thread l.block e a) (sym part.claim) part);
+        part = subst (λ q. IsPart a.claim l.place.thread q e a) block
+            (subst (λ k. IsPart k l.place.thread l.block e a) (sym part.claim) part);
       },
     ),
   )
     where
-      w : (k : ℕ) × ((l : Claim) × ((e : Entry) × (slice_get claims k ≡ Some l) × EntryAt R (seen l.place) e × Contains (accesses_of k l.place.thread l.block e) a))
+      w : (k : ℕ) × ((l : Claim) × ((e : Entry) × (slice_get claims k ≡ Some l) × EntryAt R (seen l.place) e
+          × Contains (accesses_of k l.place.thread l.block e) a))
       w = (J.parts a).0 i
 
       l : Claim
@@ -228,9 +234,11 @@ module _ (setting : Setting) (R : Lists) (h : List Stamp) (now : State) (claims 
       b = has_block R J.form (seen l.place) e w.1.1.2 is
 
       block : l.block ≡ b.0
-      block = (J.claim w.0 l w.1.1.1).1.block ∙ ap (λ o. unwrap_or o 0) (ap (λ n. last_position (take n (R l.place.thread))) (let z : l.place.index + 1 ≡ suc l.place.index = omega arith in z) ∙ b.1)
+      block = (J.claim w.0 l w.1.1.1).1.block ∙ ap (λ o. unwrap_or o 0)
+          (ap (λ n. last_position (take n (R l.place.thread))) (let z : l.place.index + 1 ≡ suc l.place.index = omega arith in z) ∙ b.1)
 
-  use_there : (c : Place) (e : Entry) → EntryAt R c e → (x n : ℕ) → NumberOn e x n → (a : Access) × Contains us a × (a.var ≡ x) × (a.nth ≡ n) × IsUse a c e
+  use_there : (c : Place) (e : Entry) → EntryAt R c e → (x n : ℕ) → NumberOn e x n → (a : Access) × Contains us a × (a.var ≡ x)
+      × (a.nth ≡ n) × IsUse a c e
   use_there c e here x n number =
       let is = number_access e x n number in
       let k = J.all c e here is in
@@ -242,7 +250,8 @@ module _ (setting : Setting) (R : Lists) (h : List Stamp) (now : State) (claims 
       let claim_of : (J.parts a.0).0 i ≡ (J.parts a.0).0 i = refl in
       (a.0, i, a.2, a.3, same_use a.0 k.0 l e c here k.1.1 k.1.2 (part_means k.0 l.place.thread l.block e a.0 a.1) u.0 u.1.0 u.1.1)
     where
-      same_use : (a : Access) (k : ℕ) (l : Claim) (e : Entry) (c : Place) → EntryAt R c e → slice_get claims k ≡ Some l → seen l.place ≡ c → IsPart k l.place.thread l.block e a → (d : Place) (f : Entry) → IsUse a d f → IsUse a c e
+      same_use : (a : Access) (k : ℕ) (l : Claim) (e : Entry) (c : Place) → EntryAt R c e → slice_get claims k ≡ Some l → seen l.place ≡ c
+          → IsPart k l.place.thread l.block e a → (d : Place) (f : Entry) → IsUse a d f → IsUse a c e
       same_use a k l e c here at place part d f u =
           let at' : slice_get claims a.claim ≡ Some l = subst (λ k. slice_get claims k ≡ Some l) (sym part.claim) at in
           let same : u.claimed ≡ l = (let y = u.at in cc) in
@@ -292,7 +301,8 @@ module _ (setting : Setting) (R : Lists) (h : List Stamp) (now : State) (claims 
     where
       its_tick : a.tick ≡ u.block + 1
       its_tick = elim u.part.kind [
-        | inl p ↦ (let z = p.2 in let l = slice_get_within h u.block (block_is a c e u).event (block_event a c e u) in let s = J.short in omega arith)
+        | inl p ↦ (let z = p.2 in let l = slice_get_within h u.block (block_is a c e u).event (block_event a c e u) in let s = J.short
+            in omega arith)
         | inr (inl k) ↦ absurd (not_plain_commit e plain k.0)
         | inr (inr k) ↦ absurd (not_plain_refused e plain k.0)
       ]
@@ -302,7 +312,12 @@ module _ (setting : Setting) (R : Lists) (h : List Stamp) (now : State) (claims 
       let v = commit_event R c e u.there is in
       let same : u.block ≡ v.0 = (let x = u.block_at in let y = v.4 in cc) in record {
         access = record { thread = c.thread; block = u.block; variables = Some v.3.0 };
-        stands = record { thread = refl; block = block_is a c e u; goes_on = block_goes_on a c e u; kind = inr (v.3.0, refl, (v.1, subst (λ p. IsEventAt R c p v.1) (sym same) v.2, v.3.1)) };
+        stands = record {
+          thread = refl;
+          block = block_is a c e u;
+          goes_on = block_goes_on a c e u;
+          kind = inr (v.3.0, refl, (v.1, subst (λ p. IsEventAt R c p v.1) (sym same) v.2, v.3.1));
+        };
         same_tick = sym its_tick;
         plain = λ p. absurd (not_plain_commit e p is);
       }
@@ -319,20 +334,25 @@ module _ (setting : Setting) (R : Lists) (h : List Stamp) (now : State) (claims 
   stood a c e u (inr k) = stood_commit a c e u k
 
   -- the clock of a block tells what precedes it
-  row_told : (v : Access) (c : Place) (e : Entry) → (s : Stood v c e) → (u : Access) (d : Place) (f : Entry) → (w : IsUse u d f) → c.thread ≢ d.thread → (v.tick < cell rows w.block c.thread) ↔ Precedes h s.access d.thread w.block
+  row_told : (v : Access) (c : Place) (e : Entry) → (s : Stood v c e) → (u : Access) (d : Place) (f : Entry) → (w : IsUse u d f)
+      → c.thread ≢ d.thread → (v.tick < cell rows w.block c.thread) ↔ Precedes h s.access d.thread w.block
   row_told v c e s u d f w apart =
       let b = block_is u d f w in
       let m = block_told setting R h now J.is_list rise J.allowed c s.access s.stands d w.block b (block_goes_on u d f w) apart in
-      let row : cell rows w.block c.thread ≡ clocks (take (w.block + 1) h) (Thread d.thread) c.thread = J.clocks_are.known w.block c.thread b.event (block_event u d f w) ∙ ap (λ t. clocks (take (w.block + 1) h) (Thread t) c.thread) b.made.own in
+      let row : cell rows w.block c.thread ≡ clocks (take (w.block + 1) h) (Thread d.thread) c.thread =
+      J.clocks_are.known w.block c.thread b.event (block_event u d f w)
+      ∙ ap (λ t. clocks (take (w.block + 1) h) (Thread t) c.thread) b.made.own in
       let same : s.access.thread ≡ c.thread = s.stands.thread in
-      let m' : (tick s.access < clocks (take (w.block + 1) h) (Thread d.thread) c.thread) ↔ Precedes h s.access d.thread w.block = subst (λ t. (tick s.access < clocks (take (w.block + 1) h) (Thread d.thread) t) ↔ Precedes h s.access d.thread w.block) same m in
+      let m' : (tick s.access < clocks (take (w.block + 1) h) (Thread d.thread) c.thread) ↔ Precedes h s.access d.thread w.block =
+      subst (λ t. (tick s.access < clocks (take (w.block + 1) h) (Thread d.thread) t) ↔ Precedes h s.access d.thread w.block) same m in
       (λ l. m'.0 (let x = s.same_tick in omega arith), λ p. let y = m'.1 p in let x = s.same_tick in omega arith)
 
   first_row : (u : Access) (d : Place) (f : Entry) → (w : IsUse u d f) → (t : ℕ) → cell before u.claim t ≡ cell rows w.block t
   first_row u d f w t = J.first u.claim w.claimed w.at t ∙ ap (λ q. cell rows q t) w.in_block
 
   -- only a refused commit learns
-  not_learned : (u : Access) (d : Place) (f : Entry) → IsUse u d f → (IsRefusedCommit f → ⊥) → (t n : ℕ) → IsLearned rows us (length us) u.claim t n → ⊥
+  not_learned : (u : Access) (d : Place) (f : Entry) → IsUse u d f → (IsRefusedCommit f → ⊥) → (t n : ℕ)
+      → IsLearned rows us (length us) u.claim t n → ⊥
   not_learned u d f w none t n (j, a, l, at, of, commit, refused, rest) =
       let x = use_of a (of_list j a at) in
       let same = same_claim u a d x.0 f x.1.0 w x.1.1 (sym of) in
@@ -344,7 +364,8 @@ module _ (setting : Setting) (R : Lists) (h : List Stamp) (now : State) (claims 
 
   -- what an access of another thread precedes, where the later one is no refused commit
   told_unrefused :
-      (v : Access) (c : Place) (e : Entry) → (s : Stood v c e) → (u : Access) (d : Place) (f : Entry) → (w : IsUse u d f) → (IsRefusedCommit f → ⊥) → c.thread ≢ d.thread →
+      (v : Access) (c : Place) (e : Entry) → (s : Stood v c e) → (u : Access) (d : Place) (f : Entry) → (w : IsUse u d f)
+      → (IsRefusedCommit f → ⊥) → c.thread ≢ d.thread →
       Precedes h s.access d.thread w.block ↔ HappensBefore R c d → (v.tick < cell known u.claim c.thread) ↔ HappensBefore R c d
   told_unrefused v c e s u d f w none apart order =
       let k = J.learned u.claim c.thread v.tick in
@@ -357,15 +378,20 @@ module _ (setting : Setting) (R : Lists) (h : List Stamp) (now : State) (claims 
         λ b. k.1 (inl (subst (λ z. v.tick < z) (sym first) (row.1 (order.1 b)))),
       )
 
-  told_plain : (v : Access) (c : Place) (e : Entry) → Stood v c e → (u : Access) (d : Place) (f : Entry) → IsUse u d f → IsPlain f → c.thread ≢ d.thread → (v.tick < cell known u.claim c.thread) ↔ HappensBefore R c d
+  told_plain : (v : Access) (c : Place) (e : Entry) → Stood v c e → (u : Access) (d : Place) (f : Entry) → IsUse u d f → IsPlain f
+      → c.thread ≢ d.thread → (v.tick < cell known u.claim c.thread) ↔ HappensBefore R c d
   told_plain v c e s u d f w plain apart =
-      told_unrefused v c e s u d f w (λ r. not_plain_refused f plain r) apart (plain_told setting R h now J.is_list rise J.allowed c s.access s.stands d f w.there plain w.block (block_is u d f w) apart)
+      told_unrefused v c e s u d f w (λ r. not_plain_refused f plain r) apart
+      (plain_told setting R h now J.is_list rise J.allowed c s.access s.stands d f w.there plain w.block (block_is u d f w) apart)
 
-  told_commit : (v : Access) (c : Place) (e : Entry) → Stood v c e → (u : Access) (d : Place) (f : Entry) → IsUse u d f → IsCommit f → c.thread ≢ d.thread → (v.tick < cell known u.claim c.thread) ↔ HappensBefore R c d
+  told_commit : (v : Access) (c : Place) (e : Entry) → Stood v c e → (u : Access) (d : Place) (f : Entry) → IsUse u d f → IsCommit f
+      → c.thread ≢ d.thread → (v.tick < cell known u.claim c.thread) ↔ HappensBefore R c d
   told_commit v c e s u d f w is apart =
       let m = commit_event R d f w.there is in
       let same : m.0 ≡ w.block = (let x = w.block_at in let y = m.4 in cc) in
-      told_unrefused v c e s u d f w (λ r. no_two f is r) apart (commit_told setting R h now J.is_list rise J.allowed c s.access s.stands d f w.there is w.block m.1 (subst (λ p. IsEventAt R d p m.1) same m.2))
+      told_unrefused v c e s u d f w (λ r. no_two f is r) apart
+      (commit_told setting R h now J.is_list rise J.allowed c s.access s.stands d f w.there is w.block m.1
+      (subst (λ p. IsEventAt R d p m.1) same m.2))
 
   commit_kind : (b : Access) (m : Place) (g : Entry) → IsUse b m g → b.commit ≡ true → b.performed ≡ true → IsCommit g
   commit_kind b m g u commit done = elim u.part.kind [
@@ -390,7 +416,8 @@ module _ (setting : Setting) (R : Lists) (h : List Stamp) (now : State) (claims 
 
   -- a commit hands on what reaches it
   handed_reaches :
-      (v : Access) (c : Place) (e : Entry) → (s : Stood v c e) → IsPlain e → (b : Access) (m : Place) (g : Entry) → IsUse b m g → IsCommit g → (p : ℕ) (r : Stamp) → IsEventAt R m p r →
+      (v : Access) (c : Place) (e : Entry) → (s : Stood v c e) → IsPlain e → (b : Access) (m : Place) (g : Entry) → IsUse b m g
+      → IsCommit g → (p : ℕ) (r : Stamp) → IsEventAt R m p r →
       (v.tick < handed_on rows b c.thread) ↔ Reaches h s.access p
   handed_reaches v c e s plain b m g u is p r made = by (c.thread == b.thread) refl
     where
@@ -418,36 +445,48 @@ module _ (setting : Setting) (R : Lists) (h : List Stamp) (now : State) (claims 
           let z : Does End ≡ Commits ev.3.0 = sym end ∙ ap (λ (w : Stamp). w.event) (sym same) ∙ ev.3.1 in cc
 
       row : cell rows b.tick c.thread ≡ clocks (take (p + 1) h) (Thread m.thread) c.thread
-      row = ap (λ q. cell rows q c.thread) tick_p ∙ J.clocks_are.known p c.thread r there ∙ ap (λ t. clocks (take (p + 1) h) (Thread t) c.thread) made.own
+      row = ap (λ q. cell rows q c.thread) tick_p ∙ J.clocks_are.known p c.thread r there
+          ∙ ap (λ t. clocks (take (p + 1) h) (Thread t) c.thread) made.own
 
       by : (o : Bool) → (c.thread == b.thread) ≡ o → (v.tick < handed_on rows b c.thread) ↔ Reaches h s.access p
       by true same =
           let own : c.thread ≡ m.thread = eqb-true c.thread b.thread same ∙ u.own in
           let near : p < length h = slice_get_within h p r there in
           let long : length (take (p + 1) h) ≡ p + 1 = length-take-le (p + 1) h (omega arith) in
-          let there' : EventAt (take (p + 1) h) p r = event_back (take (p + 1) h) (drop (p + 1) h) p r (omega arith) (subst (λ l. EventAt l p r) (sym (take-append-drop (p + 1) h)) there) in
-          let clock : clocks (take (p + 1) h) (Thread m.thread) m.thread ≡ p + 2 = own_law (take (p + 1) h) m.thread p r there' made.own (λ q t x y. let l = slice_get_within (take (p + 1) h) q t x in omega arith) in
+          let there' : EventAt (take (p + 1) h) p r =
+          event_back (take (p + 1) h) (drop (p + 1) h) p r (omega arith)
+          (subst (λ l. EventAt l p r) (sym (take-append-drop (p + 1) h)) there) in
+          let clock : clocks (take (p + 1) h) (Thread m.thread) m.thread
+          ≡ p + 2 = own_law (take (p + 1) h) m.thread p r there' made.own (λ q t x y. let l = slice_get_within (take (p + 1) h) q t x
+          in omega arith) in
           let is : handed_on rows b c.thread ≡ p + 1 =
           ap (λ o. if o then cell rows b.tick c.thread - 1 else cell rows b.tick c.thread) same
-          ∙ (let z : cell rows b.tick c.thread ≡ p + 2 = row ∙ ap (λ t. clocks (take (p + 1) h) (Thread m.thread) t) own ∙ clock in omega arith) in
+          ∙ (let z : cell rows b.tick c.thread ≡ p + 2 = row ∙ ap (λ t. clocks (take (p + 1) h) (Thread m.thread) t) own ∙ clock
+          in omega arith) in
           let k = own_reaches setting R h now J.is_list rise J.allowed c s.access s.stands m p r made own (s.plain plain) in
           (λ l. k.0 (let x = s.same_tick in omega arith), λ w. let y = k.1 w in let x = s.same_tick in omega arith)
       by false other =
           let apart : c.thread ≢ m.thread = (λ x. let z : (c.thread == b.thread) ≡ true = eq-eqb c.thread b.thread (x ∙ sym u.own) in cc) in
-          let is : handed_on rows b c.thread ≡ clocks (take (p + 1) h) (Thread m.thread) c.thread = ap (λ o. if o then cell rows b.tick c.thread - 1 else cell rows b.tick c.thread) other ∙ row in
-          let k = other_reaches setting R h now J.is_list rise J.allowed c s.access s.stands m p r made goes (subst (IsBlockOf R m) block_p (block_is b m g u)) apart in
+          let is : handed_on rows b c.thread ≡ clocks (take (p + 1) h) (Thread m.thread) c.thread =
+          ap (λ o. if o then cell rows b.tick c.thread - 1 else cell rows b.tick c.thread) other ∙ row in
+          let k = other_reaches setting R h now J.is_list rise J.allowed c s.access s.stands m p r made goes
+          (subst (IsBlockOf R m) block_p (block_is b m g u)) apart in
           let same : s.access.thread ≡ c.thread = s.stands.thread in
-          let k' : (tick s.access < clocks (take (p + 1) h) (Thread m.thread) c.thread) ↔ Reaches h s.access p = subst (λ t. (tick s.access < clocks (take (p + 1) h) (Thread m.thread) t) ↔ Reaches h s.access p) same k in
+          let k' : (tick s.access < clocks (take (p + 1) h) (Thread m.thread) c.thread) ↔ Reaches h s.access p =
+          subst (λ t. (tick s.access < clocks (take (p + 1) h) (Thread m.thread) t) ↔ Reaches h s.access p) same k in
           (λ l. k'.0 (let x = s.same_tick in omega arith), λ w. let y = k'.1 w in let x = s.same_tick in omega arith)
 
   -- a commit and a refused commit have no number in common
-  numbers_apart : (m d : Place) (g f : Entry) → EntryAt R m g → EntryAt R d f → IsCommit g → IsRefusedCommit f → (x k : ℕ) → NumberOn g x k → NumberOn f x k → ⊥
+  numbers_apart : (m d : Place) (g f : Entry) → EntryAt R m g → EntryAt R d f → IsCommit g → IsRefusedCommit f → (x k : ℕ) → NumberOn g x k
+      → NumberOn f x k → ⊥
   numbers_apart m d g f a b is refused x k n o =
-      let same : m ≡ d = (J.numbered x).1.once m d g f k a b (inr (draws_itself g x k (inl is) n)) (inr (draws_itself f x k (inr refused) o)) in
+      let same : m ≡ d = (J.numbered x).1.once m d g f k a b (inr (draws_itself g x k (inl is) n))
+      (inr (draws_itself f x k (inr refused) o)) in
       let a' : EntryAt R d g = subst (λ z. EntryAt R z g) same a in
       let one : f ≡ g = cc in no_two g is (subst IsRefusedCommit one refused)
 
-  module _ (v : Access) (c : Place) (e : Entry) (vu : IsUse v c e) (plain : IsPlain e) (u : Access) (d : Place) (f : Entry) (w : IsUse u d f) (refused : IsRefusedCommit f) (apart : c.thread ≢ d.thread) where
+  module _ (v : Access) (c : Place) (e : Entry) (vu : IsUse v c e) (plain : IsPlain e) (u : Access) (d : Place) (f : Entry)
+      (w : IsUse u d f) (refused : IsRefusedCommit f) (apart : c.thread ≢ d.thread) where
     its : Stood v c e
     its = stood_plain v c e vu plain
 
@@ -465,7 +504,10 @@ module _ (setting : Setting) (R : Lists) (h : List Stamp) (now : State) (claims 
         let is : IsCommit g = commit_kind b y.0 g y.1.1 bc bp in
         let given : NumberOn g a.var b.nth = subst (λ z. NumberOn g z b.nth) on y.1.1.part.number in
         let le = J.ordered jb j b a eb at (omega arith) in
-        let lt : b.nth < a.nth = elim (eq-or-lt_of_le le) [ inl z ↦ absurd (numbers_apart y.0 d g f y.1.1.there here is refused a.var a.nth (subst (NumberOn g a.var) z given) number) | inr z ↦ z ] in
+        let lt : b.nth < a.nth = elim (eq-or-lt_of_le le) [
+          | inl z ↦ absurd (numbers_apart y.0 d g f y.1.1.there here is refused a.var a.nth (subst (NumberOn g a.var) z given) number)
+          | inr z ↦ z
+        ] in
         let m = commit_event R y.0 g y.1.1.there is in record {
           commit = y.0;
           edge = record {
@@ -476,7 +518,17 @@ module _ (setting : Setting) (R : Lists) (h : List Stamp) (now : State) (claims 
             is_commit = is;
             is_refused = refused;
             var = a.var;
-            before = record { first = g; second = f; there = y.1.1.there; here = here; number = b.nth; later = a.nth; numbered = given; also_numbered = number; order = inl lt };
+            before = record {
+              first = g;
+              second = f;
+              there = y.1.1.there;
+              here = here;
+              number = b.nth;
+              later = a.nth;
+              numbered = given;
+              also_numbered = number;
+              order = inl lt;
+            };
           };
           position = m.0;
           event = m.1;
@@ -494,10 +546,17 @@ module _ (setting : Setting) (R : Lists) (h : List Stamp) (now : State) (claims 
         let is_refused : IsRefusedCommit o.second = subst IsRefusedCommit second refused in
         let b = use_there k.commit o.first o.there x o.number o.numbered in
         let a = use_there d o.second o.here x o.later o.also_numbered in
-        let lt : o.number < o.later = elim o.order [ inl z ↦ z | inr z ↦ absurd (numbers_apart k.commit d o.first o.second o.there o.here is is_refused x o.later (subst (NumberOn o.first x) z.0 o.numbered) o.also_numbered) ] in
+        let lt : o.number < o.later = elim o.order [
+          | inl z ↦ z
+          | inr z ↦ absurd (numbers_apart k.commit d o.first o.second o.there o.here is is_refused x o.later
+              (subst (NumberOn o.first x) z.0 o.numbered) o.also_numbered)
+        ] in
         let jb = in_list b.0 b.1 in
         let ja = in_list a.0 a.1 in
-        let near : jb.0 < ja.0 = elim (cases_lt jb.0 ja.0) [ inl z ↦ z | inr z ↦ absurd (let q = J.ordered ja.0 jb.0 a.0 b.0 ja.1 jb.1 z in let y1 = b.3 in let y2 = a.3 in omega arith) ] in
+        let near : jb.0 < ja.0 = elim (cases_lt jb.0 ja.0) [
+          | inl z ↦ z
+          | inr z ↦ absurd (let q = J.ordered ja.0 jb.0 a.0 b.0 ja.1 jb.1 z in let y1 = b.3 in let y2 = a.3 in omega arith)
+        ] in
         let bk = commit_flags b.0 k.commit o.first b.4 is in
         let ak = refused_flags a.0 d o.second a.4 is_refused in
         let of : a.0.claim ≡ u.claim = J.one a.0.claim u.claim a.4.claimed w.claimed a.4.at w.at (a.4.place ∙ sym w.place) in
@@ -506,7 +565,8 @@ module _ (setting : Setting) (R : Lists) (h : List Stamp) (now : State) (claims 
 
     told_refused : (v.tick < cell known u.claim c.thread) ↔ HappensBefore R c d
     told_refused =
-        let t = refused_told setting R h now J.is_list rise J.allowed c its.access its.stands d f w.there refused w.block (block_is u d f w) apart e vu.there plain (λ b g here is. let m = commit_event R b g here is in (m.0, m.1, m.2)) in
+        let t = refused_told setting R h now J.is_list rise J.allowed c its.access its.stands d f w.there refused w.block
+        (block_is u d f w) apart e vu.there plain (λ b g here is. let m = commit_event R b g here is in (m.0, m.1, m.2)) in
         let k = J.learned u.claim c.thread v.tick in
         let row = row_told v c e its u d f w apart in
         let first = first_row u d f w c.thread in (
@@ -516,7 +576,8 @@ module _ (setting : Setting) (R : Lists) (h : List Stamp) (now : State) (claims 
 
   -- what an access of another thread happens before is told by the clock of the later one's claim
   told :
-      (v : Access) (c : Place) (e : Entry) → IsUse v c e → (u : Access) (d : Place) (f : Entry) → IsUse u d f → IsPlain e ⊎ IsCommit e → IsPlain e ⊎ IsPlain f → c.thread ≢ d.thread →
+      (v : Access) (c : Place) (e : Entry) → IsUse v c e → (u : Access) (d : Place) (f : Entry) → IsUse u d f → IsPlain e ⊎ IsCommit e
+      → IsPlain e ⊎ IsPlain f → c.thread ≢ d.thread →
       (v.tick < cell known u.claim c.thread) ↔ HappensBefore R c d
   told v c e vu u d f w done one apart = elim w.part.kind [
     | inl k ↦ told_plain v c e (stood v c e vu done) u d f w k.0 apart
@@ -562,24 +623,45 @@ module _ (setting : Setting) (R : Lists) (h : List Stamp) (now : State) (claims 
         let w = uu.1.1 in
         let e = vv.1.0 in
         let vu = vv.1.1 in
-        let one : w.claimed ≡ l = (let y : slice_get claims k ≡ Some w.claimed = subst (λ m. slice_get claims m ≡ Some w.claimed) of w.at in cc) in
+        let one : w.claimed ≡ l = (let y : slice_get claims k ≡ Some w.claimed = subst (λ m. slice_get claims m ≡ Some w.claimed) of w.at
+        in cc) in
         let place : d ≡ seen l.place = sym w.place ∙ ap (λ (m : Claim). seen m.place) one in
         let others : vv.0.thread ≢ d.thread = (λ z. apart (vu.own ∙ z ∙ sym w.own)) in
         let n : NumberOn e x v.nth = subst (λ y. NumberOn e y v.nth) (same_var ∙ on) vu.part.number in
         let m : NumberOn f x u.nth = subst (λ y. NumberOn f y u.nth) on w.part.number in
         let le = J.ordered i j v u there here (omega arith) in
-        let less : v.nth < u.nth = elim (eq-or-lt_of_le le) [ inl z ↦ absurd (others (one_thread R J.form J.numbered vv.0 d e f vu.there w.there x u.nth (subst (NumberOn e x) z n) m)) | inr z ↦ z ] in
+        let less : v.nth < u.nth = elim (eq-or-lt_of_le le) [
+          | inl z ↦ absurd (others (one_thread R J.form J.numbered vv.0 d e f vu.there w.there x u.nth (subst (NumberOn e x) z n) m))
+          | inr z ↦ z
+        ] in
         let is = done_kind v vv.0 e vu done in
-        let one_plain : IsPlain e ⊎ IsPlain f = elim conflict.1 [ inl z ↦ inl (plain_kind v vv.0 e vu z) | inr z ↦ inr (plain_kind u d f w z) ] in
+        let one_plain : IsPlain e ⊎ IsPlain f = elim conflict.1 [
+          | inl z ↦ inl (plain_kind v vv.0 e vu z)
+          | inr z ↦ inr (plain_kind u d f w z)
+        ] in
         let order = told v vv.0 e vu u d f w is.0 one_plain others in
-        let writes : Writes e x ⊎ Writes f x = elim conflict.0 [ inl z ↦ inl (subst (Writes e) (same_var ∙ on) (vu.part.writes.0 z)) | inr z ↦ inr (subst (Writes f) on (w.part.writes.0 z)) ] in
+        let writes : Writes e x ⊎ Writes f x = elim conflict.0 [
+          | inl z ↦ inl (subst (Writes e) (same_var ∙ on) (vu.part.writes.0 z))
+          | inr z ↦ inr (subst (Writes f) on (w.part.writes.0 z))
+        ] in
         subst (λ z. IsRacy R z x) place (record {
           other = vv.0;
           another = others;
-          before = record { first = e; second = f; there = vu.there; here = w.there; number = v.nth; later = u.nth; numbered = n; also_numbered = m; order = inl less };
+          before = record {
+            first = e;
+            second = f;
+            there = vu.there;
+            here = w.there;
+            number = v.nth;
+            later = u.nth;
+            numbered = n;
+            also_numbered = m;
+            order = inl less;
+          };
           performed = is.1;
           conflict = (writes, one_plain);
-          unordered = λ b. let z = order.1 b in let y : cell known u.claim vv.0.thread ≤ v.tick = subst (λ t. cell known u.claim t ≤ v.tick) vu.own least in omega arith;
+          unordered = λ b. let z = order.1 b in let y : cell known u.claim vv.0.thread ≤ v.tick =
+              subst (λ t. cell known u.claim t ≤ v.tick) vu.own least in omega arith;
         })
 
     racy_out : IsRacy R (seen l.place) x → IsRacyClaim known us (length us) k x
@@ -594,13 +676,41 @@ module _ (setting : Setting) (R : Lists) (h : List Stamp) (now : State) (claims 
         let lt : o.number < o.later = elim o.order [ inl z ↦ z | inr z ↦ absurd (r.another z.1.0) ] in
         let jv = in_list v vv.1 in
         let ju = in_list u uu.1 in
-        let near : jv.0 < ju.0 = elim (cases_lt jv.0 ju.0) [ inl z ↦ z | inr z ↦ absurd (let q = J.ordered ju.0 jv.0 u v ju.1 jv.1 z in let y1 = vv.3 in let y2 = uu.3 in omega arith) ] in
+        let near : jv.0 < ju.0 = elim (cases_lt jv.0 ju.0) [
+          | inl z ↦ z
+          | inr z ↦ absurd (let q = J.ordered ju.0 jv.0 u v ju.1 jv.1 z in let y1 = vv.3 in let y2 = uu.3 in omega arith)
+        ] in
         let is = done_flag v r.other o.first vv.4 r.performed in
         let order = told v r.other o.first vv.4 u d o.second uu.4 is.0 r.conflict.1 r.another in
-        let least : cell known u.claim v.thread ≤ v.tick = elim (cases_lt v.tick (cell known u.claim r.other.thread)) [ inl z ↦ absurd (r.unordered (order.0 z)) | inr z ↦ subst (λ t. cell known u.claim t ≤ v.tick) (sym vv.4.own) z ] in
-        let writes : (v.write ≡ true) ⊎ (u.write ≡ true) = elim r.conflict.0 [ inl z ↦ inl (vv.4.part.writes.1 (subst (Writes o.first) (sym vv.2) z)) | inr z ↦ inr (uu.4.part.writes.1 (subst (Writes o.second) (sym uu.2) z)) ] in
-        let plain : (v.commit ≡ false) ⊎ (u.commit ≡ false) = elim r.conflict.1 [ inl z ↦ inl (plain_flag v r.other o.first vv.4 z) | inr z ↦ inr (plain_flag u d o.second uu.4 z) ] in
-        (ju.0, u, slice_get_within us ju.0 u ju.1, ju.1, of, uu.2, (v, (jv.0, near, jv.1), vv.2 ∙ sym uu.2, (λ z. r.another (sym vv.4.own ∙ z ∙ uu.4.own)), is.1, (writes, plain), least))
+        let least : cell known u.claim v.thread ≤ v.tick =
+        elim (cases_lt v.tick (cell known u.claim r.other.thread)) [
+          | inl z ↦ absurd (r.unordered (order.0 z))
+          | inr z ↦ subst (λ t. cell known u.claim t ≤ v.tick) (sym vv.4.own) z
+        ] in
+        let writes : (v.write ≡ true) ⊎ (u.write ≡ true) =
+        elim r.conflict.0 [
+          | inl z ↦ inl (vv.4.part.writes.1 (subst (Writes o.first) (sym vv.2) z))
+          | inr z ↦ inr (uu.4.part.writes.1 (subst (Writes o.second) (sym uu.2) z))
+        ] in
+        let plain : (v.commit ≡ false) ⊎ (u.commit ≡ false) =
+        elim r.conflict.1 [ inl z ↦ inl (plain_flag v r.other o.first vv.4 z) | inr z ↦ inr (plain_flag u d o.second uu.4 z) ] in (
+          ju.0,
+          u,
+          slice_get_within us ju.0 u ju.1,
+          ju.1,
+          of,
+          uu.2,
+          (
+            v,
+            (jv.0, near, jv.1),
+            vv.2
+                ∙ sym uu.2,
+            (λ z. r.another (sym vv.4.own ∙ z ∙ uu.4.own)),
+            is.1,
+            (writes, plain),
+            least,
+          ),
+        )
 
     -- the claims are racy just where their entries are
     pub racy_told : IsRacyClaim known us (length us) k x ↔ IsRacy R (seen l.place) x

@@ -86,7 +86,8 @@ accesses_of claim thread block (Over ending) = []
 abbrev pub claims_of : StoredPlace → ℕ → Entry → List Claim
 claims_of place block (Sync at act value) = []
 claims_of place block (Commit at tx) = record { place = place; block = block; raised = None } ∷ []
-claims_of place block (Plain var nth cached write value raised) = record { place = place; block = block; raised = if raised then Some var else None } ∷ []
+claims_of place block (Plain var nth cached write value raised) =
+    record { place = place; block = block; raised = if raised then Some var else None } ∷ []
 claims_of place block (Abort tx (Raised var)) = record { place = place; block = block; raised = Some var } ∷ []
 claims_of place block (Abort tx (Changed var read found)) = []
 claims_of place block (Trim low) = []

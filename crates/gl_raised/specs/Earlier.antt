@@ -19,7 +19,8 @@ IsHandedOn rows us i x u n =
 -- a refused access of the claim k among the first i comes after a commit of its variable that hands on more than n of thread u
 abbrev pub IsLearned : List (List ℕ) → List Access → ℕ → ℕ → ℕ → ℕ → Type 0
 IsLearned rows us i k u n =
-    (j : ℕ) × (w : Access) × (j < i) × (slice_get us j ≡ Some w) × (w.claim ≡ k) × (w.commit ≡ true) × (w.performed ≡ false) × IsHandedOn rows us j w.var u n
+    (j : ℕ) × (w : Access) × (j < i) × (slice_get us j ≡ Some w) × (w.claim ≡ k) × (w.commit ≡ true) × (w.performed ≡ false)
+    × IsHandedOn rows us j w.var u n
 
 -- the variables know what their commits among the first i hand on
 abbrev pub VariablesKnow : List (List ℕ) → List Access → ℕ → List (List ℕ) → Type 0

@@ -22,8 +22,11 @@ pub record IsClaimOf (R : Lists) (l : Claim) (e : Entry) : Type 0 where
 -- these are the claims of the accesses before the place d, by thread and place, and their accesses
 pub record AreGathered (R : Lists) (d : Place) (claims : List Claim) (accesses : List Access) : Type 0 where
   pub claim : (k : ℕ) (l : Claim) → slice_get claims k ≡ Some l → Before (seen l.place) d × ((e : Entry) × IsClaimOf R l e)
-  pub all : (c : Place) (e : Entry) → EntryAt R c e → IsAccess e → Before c d → (k : ℕ) × ((l : Claim) × (slice_get claims k ≡ Some l) × (seen l.place ≡ c))
-  pub rising : (j k : ℕ) (l m : Claim) → slice_get claims j ≡ Some l → slice_get claims k ≡ Some m → j < k → Before (seen l.place) (seen m.place)
+  pub all : (c : Place) (e : Entry) → EntryAt R c e → IsAccess e → Before c d → (k : ℕ)
+      × ((l : Claim) × (slice_get claims k ≡ Some l) × (seen l.place ≡ c))
+  pub rising : (j k : ℕ) (l m : Claim) → slice_get claims j ≡ Some l → slice_get claims k ≡ Some m → j < k
+      → Before (seen l.place) (seen m.place)
   pub parts :
       (a : Access) →
-      Contains accesses a ↔ ((k : ℕ) × ((l : Claim) × ((e : Entry) × (slice_get claims k ≡ Some l) × EntryAt R (seen l.place) e × Contains (accesses_of k l.place.thread l.block e) a)))
+      Contains accesses a ↔ ((k : ℕ) × ((l : Claim)
+      × ((e : Entry) × (slice_get claims k ≡ Some l) × EntryAt R (seen l.place) e × Contains (accesses_of k l.place.thread l.block e) a)))

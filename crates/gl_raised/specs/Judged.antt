@@ -10,12 +10,14 @@ use Rattle.gl_raised.specs.declared.lasts.Lasts.{Lasts}
 -- thread t performed an access of x of the kind, among the first i, at the tick n or later
 abbrev pub IsPerformedSince : List Access → ℕ → ℕ → ℕ → Bool → Bool → ℕ → Type 0
 IsPerformedSince us i x t commit write n =
-    (v : Access) × Earlier us i v × (v.var ≡ x) × (v.thread ≡ t) × (v.performed ≡ true) × (v.commit ≡ commit) × (v.write ≡ write) × (n ≤ v.tick)
+    (v : Access) × Earlier us i v × (v.var ≡ x) × (v.thread ≡ t) × (v.performed ≡ true) × (v.commit ≡ commit) × (v.write ≡ write)
+    × (n ≤ v.tick)
 
 -- the marks of each variable are those of the first i accesses
 abbrev pub AreLasts : List Access → ℕ → List Lasts → Type 0
 AreLasts us i lasts =
-    (x t n : ℕ) (commit write : Bool) (l : Lasts) → slice_get lasts x ≡ Some l → (at_least (mark_of l commit write t) n ≡ true) ↔ IsPerformedSince us i x t commit write n
+    (x t n : ℕ) (commit write : Bool) (l : Lasts) → slice_get lasts x ≡ Some l
+    → (at_least (mark_of l commit write t) n ≡ true) ↔ IsPerformedSince us i x t commit write n
 
 -- one of two accesses writes, and one is plain
 abbrev pub Conflicts : Access → Access → Type 0
@@ -24,7 +26,8 @@ Conflicts v u = ((v.write ≡ true) ⊎ (u.write ≡ true)) × ((v.commit ≡ fa
 -- among the first i is a performed access of another thread that conflicts with u and is not known to it
 abbrev pub IsRacyBy : List (List ℕ) → List Access → ℕ → Access → Type 0
 IsRacyBy known us i u =
-    (v : Access) × Earlier us i v × (v.var ≡ u.var) × (v.thread ≢ u.thread) × (v.performed ≡ true) × Conflicts v u × (cell known u.claim v.thread ≤ v.tick)
+    (v : Access) × Earlier us i v × (v.var ≡ u.var) × (v.thread ≢ u.thread) × (v.performed ≡ true) × Conflicts v u
+    × (cell known u.claim v.thread ≤ v.tick)
 
 -- among the first i is an access of x of the claim k that is racy by those before it
 abbrev pub IsRacyClaim : List (List ℕ) → List Access → ℕ → ℕ → ℕ → Type 0

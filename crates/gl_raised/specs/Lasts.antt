@@ -34,5 +34,6 @@ noted a true true t last = noted_where a (a.commit && a.write) t last
 -- a conflicting access of thread t is not known to who knows so much of it
 abbrev pub thread_fails : Lasts → ℕ → ℕ → Bool → Bool → Bool
 thread_fails l known t commit write =
-    ((at_least (mark_of l false true t) known || (write && at_least (mark_of l false false t) known)) || (not commit && at_least (mark_of l true true t) known))
+    ((at_least (mark_of l false true t) known || (write && at_least (mark_of l false false t) known)) ||
+    (not commit && at_least (mark_of l true true t) known))
     || ((not commit && write) && at_least (mark_of l true false t) known)

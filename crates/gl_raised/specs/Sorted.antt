@@ -11,10 +11,12 @@ pub record AreSorted (old new : List Access) : Type 0 where
 
 -- the claims below k name the variables that were found
 abbrev pub AreFound : List Claim → List (Option ℕ) → ℕ → Type 0
-AreFound claims least k = (j : ℕ) (l : Claim) (o : Option ℕ) → j < k → slice_get claims j ≡ Some l → slice_get least j ≡ Some o → l.raised ≡ o
+AreFound claims least k = (j : ℕ) (l : Claim) (o : Option ℕ) → j < k → slice_get claims j ≡ Some l → slice_get least j ≡ Some o → l.raised
+    ≡ o
 
 -- the place is that of the first claim that names another variable than was found
 abbrev pub IsFirstOther : List Claim → List (Option ℕ) → Option Place → Type 0
 IsFirstOther claims least result =
     MatchOption result ((k : ℕ) → AreFound claims least k) (λ p.
-    (k : ℕ) × ((l : Claim) × ((o : Option ℕ) × (slice_get claims k ≡ Some l) × (slice_get least k ≡ Some o) × (p ≡ l.place) × (l.raised ≢ o) × AreFound claims least k)))
+    (k : ℕ) × ((l : Claim) × ((o : Option ℕ) × (slice_get claims k ≡ Some l) × (slice_get least k ≡ Some o) × (p ≡ l.place)
+    × (l.raised ≢ o) × AreFound claims least k)))

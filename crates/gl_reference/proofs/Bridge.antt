@@ -29,7 +29,8 @@ variables_are x d p k = ap (λ (a : Access). a.variables) k.access ∙ ap variab
 thread_is : (x : ℕ) (d : Draw) (p : Performed) → IsDrawnFor x d p → p.access.thread ≡ d.thread
 thread_is x d p k = ap (λ (a : Access). a.thread) k.access
 
-module _ (h : List Stamp) (draws : ℕ → List Draw) (ps : List Performed) (are : ArePerformed draws ps) (n : Next) (f : Entry) (plain : (n.variables ≡ None) ↔ IsPlain f) (write : (n.write ≡ true) ↔ Writes f n.var) where
+module _ (h : List Stamp) (draws : ℕ → List Draw) (ps : List Performed) (are : ArePerformed draws ps) (n : Next) (f : Entry)
+    (plain : (n.variables ≡ None) ↔ IsPlain f) (write : (n.write ≡ true) ↔ Writes f n.var) where
   pub racy_draw : IsRacyBy h ps n → IsRacyNext h n.var (draws n.var) n.thread n.variables f
   racy_draw (i, (p, here, ((((same, apart), writes), kind), unordered))) =
       let k = are.drawn i p here in
@@ -55,6 +56,21 @@ module _ (h : List Stamp) (draws : ℕ → List Draw) (ps : List Performed) (are
       let p = k.1 in
       let is = k.3 in
       let one : is.entry ≡ r.entry = (let a = is.made in let b = r.made in cc) in
-      let writes : (p.write ≡ true) ⊎ (n.write ≡ true) = elim r.conflict.0 [ inl a ↦ inl (is.write.1 (subst (λ e. Writes e n.var) (sym one) a)) | inr b ↦ inr (write.1 b) ] in
-      let kind : (p.access.variables ≡ None) ⊎ (n.variables ≡ None) = elim r.conflict.1 [ inl a ↦ inl (variables_are n.var r.earlier p is ∙ none_of is.entry (subst IsPlain (sym one) a)) | inr b ↦ inr (plain.1 b) ] in
-      (k.0, (p, k.2, ((((is.var, λ e. r.apart (sym (thread_is n.var r.earlier p is) ∙ e)), writes), kind), λ o. r.unordered (subst (λ a. HappensBeforeNext h a n.thread n.variables) is.access o))))
+      let writes : (p.write ≡ true) ⊎ (n.write ≡ true) =
+      elim r.conflict.0 [ inl a ↦ inl (is.write.1 (subst (λ e. Writes e n.var) (sym one) a)) | inr b ↦ inr (write.1 b) ] in
+      let kind : (p.access.variables ≡ None) ⊎ (n.variables ≡ None) =
+      elim r.conflict.1 [
+        | inl a ↦ inl (variables_are n.var r.earlier p is ∙ none_of is.entry (subst IsPlain (sym one) a))
+        | inr b ↦ inr (plain.1 b)
+      ] in (
+        k.0,
+        (
+          p,
+          k.2,
+          (
+            (((is.var, λ e. r.apart (sym (thread_is n.var r.earlier p is) ∙ e)), writes), kind),
+            λ o. r.unordered
+                (subst (λ a. HappensBeforeNext h a n.thread n.variables) is.access o),
+          ),
+        ),
+      )

@@ -18,16 +18,23 @@ module _ (h : List Stamp) (ps : List Performed) (t : ℕ) (variables writes : Li
       let write : n.write ≡ m.write = same_truth n.write m.write _ p.3 q.3 in
       λ j. record { thread = (p.0 ∙ sym q.0) j; var = (p.1 ∙ sym q.1) j; write = write j; variables = (p.2 ∙ sym q.2) j }
 
-  pub not_part : (x : ℕ) (n : Next) (f : Bool) → IsPartOf t variables writes x n → IsTrue f ↔ IsRacyNext h ps n → f ≡ false → IsRacyPart h ps t variables writes x → ⊥
+  pub not_part : (x : ℕ) (n : Next) (f : Bool) → IsPartOf t variables writes x n → IsTrue f ↔ IsRacyNext h ps n → f ≡ false
+      → IsRacyPart h ps t variables writes x → ⊥
   not_part x n f part test fails w =
       let racy : IsRacyNext h ps n = rw (same_part x n w.0 part w.1) w.2 in
       let yes : f ≡ true = test.1 racy in
       cc
 
-  pub first_here : (xs : List ℕ) (i x : ℕ) (n : Next) (f : Bool) → xs ≡ variables → slice_get xs i ≡ Some x → IsPartOf t variables writes x n → IsTrue f ↔ IsRacyNext h ps n → f ≡ true → ((k : ℕ) (y : ℕ) → k < i → slice_get xs k ≡ Some y → IsRacyPart h ps t variables writes y → ⊥) → IsFirstRacy h ps t variables writes (Some x)
-  first_here xs i x n f same there part test holds none = (i, (rw same at there), (n, part, test.0 holds), λ k y l here. none k y l (rw same here))
+  pub first_here : (xs : List ℕ) (i x : ℕ) (n : Next) (f : Bool) → xs ≡ variables → slice_get xs i ≡ Some x
+      → IsPartOf t variables writes x n → IsTrue f ↔ IsRacyNext h ps n → f ≡ true
+      → ((k : ℕ) (y : ℕ) → k < i → slice_get xs k ≡ Some y → IsRacyPart h ps t variables writes y → ⊥)
+      → IsFirstRacy h ps t variables writes (Some x)
+  first_here xs i x n f same there part test holds none =
+      (i, (rw same at there), (n, part, test.0 holds), λ k y l here. none k y l (rw same here))
 
-  pub none_left : (xs : List ℕ) (n : ℕ) → xs ≡ variables → length xs ≤ n → ((k : ℕ) (y : ℕ) → k < n → slice_get xs k ≡ Some y → IsRacyPart h ps t variables writes y → ⊥) → (k : ℕ) (y : ℕ) → slice_get variables k ≡ Some y → IsRacyPart h ps t variables writes y → ⊥
+  pub none_left : (xs : List ℕ) (n : ℕ) → xs ≡ variables → length xs ≤ n
+      → ((k : ℕ) (y : ℕ) → k < n → slice_get xs k ≡ Some y → IsRacyPart h ps t variables writes y → ⊥) → (k : ℕ) (y : ℕ)
+      → slice_get variables k ≡ Some y → IsRacyPart h ps t variables writes y → ⊥
   none_left xs n same le none k y there =
       let here : slice_get xs k ≡ Some y = rw same there in
       let l = slice_get_within xs k y here in

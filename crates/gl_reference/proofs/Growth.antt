@@ -20,24 +20,32 @@ use Rattle.gl_reference.proofs.Places.{get_kept, get_more, get_cases, map_cases,
 
 module _ (draws draws' : ℕ → List Draw) (ps ps' more : List Performed) (is : ps' ≡ ps ++ more) (are : ArePerformed draws ps)
     (stay : (y : ℕ) (d : Draw) → Among (draws y) d → Among (draws' y) d)
-    (new : (y : ℕ) (d : Draw) (e : Entry) → Among (draws' y) d → d.what ≡ Entered e → IsPerformed e → Among (draws y) d ⊎ ((j : ℕ) × (p : Performed) × (slice_get more j ≡ Some p) × IsDrawnFor y d p))
+    (new : (y : ℕ) (d : Draw) (e : Entry) → Among (draws' y) d → d.what ≡ Entered e → IsPerformed e → Among (draws y) d
+    ⊎ ((j : ℕ) × (p : Performed) × (slice_get more j ≡ Some p) × IsDrawnFor y d p))
     (made : (j : ℕ) (p : Performed) → slice_get more j ≡ Some p → (d : Draw) × Among (draws' p.var) d × IsDrawnFor p.var d p) where
-  both_kept : (y : ℕ) (d : Draw) (e : Entry) → Among (draws' y) d → d.what ≡ Entered e → IsPerformed e → (i : ℕ) × (p : Performed) × (slice_get (ps ++ more) i ≡ Some p) × IsDrawnFor y d p
+  both_kept : (y : ℕ) (d : Draw) (e : Entry) → Among (draws' y) d → d.what ≡ Entered e → IsPerformed e → (i : ℕ) × (p : Performed)
+      × (slice_get (ps ++ more) i ≡ Some p) × IsDrawnFor y d p
   both_kept y d e among what performed = elim (new y d e among what performed) [
     | inl old ↦ (let k = are.kept y d e old what performed in (k.0, k.1, get_kept ps more k.0 k.1 k.2, k.3))
     | inr n ↦ (length ps + n.0, n.1, get_more ps more n.0 n.1 n.2, n.3)
   ]
 
   both_drawn : (i : ℕ) (p : Performed) → slice_get (ps ++ more) i ≡ Some p → (d : Draw) × Among (draws' p.var) d × IsDrawnFor p.var d p
-  both_drawn i p at = elim (get_cases ps more i p at) [ inl old ↦ (let k = are.drawn i p old in (k.0, stay p.var k.0 k.1, k.2)) | inr n ↦ made n.0 p n.1 ]
+  both_drawn i p at = elim (get_cases ps more i p at) [
+    | inl old ↦ (let k = are.drawn i p old in (k.0, stay p.var k.0 k.1, k.2))
+    | inr n ↦ made n.0 p n.1
+  ]
 
   pub performed_more : ArePerformed draws' ps'
   performed_more = subst (ArePerformed draws') (sym is) (record { kept = both_kept; drawn = both_drawn })
 
 -- no access was performed
-pub performed_same : (draws draws' : ℕ → List Draw) (ps ps' : List Performed) → ps' ≡ ps → ArePerformed draws ps → ((y : ℕ) (d : Draw) → Among (draws y) d → Among (draws' y) d) →
+pub performed_same : (draws draws' : ℕ → List Draw) (ps ps' : List Performed) → ps' ≡ ps → ArePerformed draws ps
+    → ((y : ℕ) (d : Draw) → Among (draws y) d → Among (draws' y) d) →
     ((y : ℕ) (d : Draw) (e : Entry) → Among (draws' y) d → d.what ≡ Entered e → IsPerformed e → Among (draws y) d) → ArePerformed draws' ps'
-performed_same draws draws' ps ps' is are stay new = performed_more draws draws' ps ps' [] (is ∙ sym (append-nil ps)) are stay (λ y d e among what performed. inl (new y d e among what performed)) (λ j p at. absurd (cc))
+performed_same draws draws' ps ps' is are stay new =
+    performed_more draws draws' ps ps' [] (is ∙ sym (append-nil ps)) are stay
+    (λ y d e among what performed. inl (new y d e among what performed)) (λ j p at. absurd (cc))
 
 -- a plain access of x draws a number
 module _ (s : Traced) (t x : ℕ) (write : Bool) where
@@ -49,14 +57,18 @@ module _ (s : Traced) (t x : ℕ) (write : Bool) where
 
   stays : (raised : Bool) (y : ℕ) (d : Draw) → Among (s.draws y) d → Among (plain_draws raised y) d
   stays raised y d among = elim (ℕ_discrete y x) [
-    | yes same ↦ subst (λ z. Among (plain_draws raised z) d) (sym same) (subst (λ ds. Among ds d) (sym (with_at-here s.draws x (drawn_plain raised ∷ s.draws x))) (inr (subst (λ z. Among (s.draws z) d) same among)))
+    | yes same ↦ subst (λ z. Among (plain_draws raised z) d) (sym same)
+        (subst (λ ds. Among ds d) (sym (with_at-here s.draws x (drawn_plain raised ∷ s.draws x)))
+        (inr (subst (λ z. Among (s.draws z) d) same among)))
     | no other ↦ subst (λ ds. Among ds d) (sym (with_at-else s.draws x y (drawn_plain raised ∷ s.draws x) other)) among
   ]
 
   news : (raised : Bool) (y : ℕ) (d : Draw) → Among (plain_draws raised y) d → Among (s.draws y) d ⊎ ((y ≡ x) × (d ≡ drawn_plain raised))
   news raised y d among = elim (ℕ_discrete y x) [
     | yes same ↦
-        (let here : Among (drawn_plain raised ∷ s.draws x) d = subst (λ ds. Among ds d) (with_at-here s.draws x (drawn_plain raised ∷ s.draws x)) (subst (λ z. Among (plain_draws raised z) d) same among) in
+        (let here : Among (drawn_plain raised ∷ s.draws x) d =
+        subst (λ ds. Among ds d) (with_at-here s.draws x (drawn_plain raised ∷ s.draws x))
+        (subst (λ z. Among (plain_draws raised z) d) same among) in
         elim here [ inl is ↦ inr (same, is) | inr old ↦ inl (subst (λ z. Among (s.draws z) d) (sym same) old) ])
     | no other ↦ inl (subst (λ ds. Among ds d) (with_at-else s.draws x y (drawn_plain raised ∷ s.draws x) other) among)
   ]
@@ -69,19 +81,44 @@ module _ (s : Traced) (t x : ℕ) (write : Bool) where
       cc
 
   pub raised_kept : (ps ps' : List Performed) → ps' ≡ ps → ArePerformed s.draws ps → ArePerformed (plain_draws true) ps'
-  raised_kept ps ps' is are = performed_same s.draws (plain_draws true) ps ps' is are (stays true) (λ y d e among what performed. elim (news true y d among) [ inl old ↦ old | inr n ↦ absurd (not_performed d e n.1 what performed) ])
+  raised_kept ps ps' is are = performed_same s.draws (plain_draws true) ps ps' is are (stays true)
+      (λ y d e among what performed. elim (news true y d among) [ inl old ↦ old | inr n ↦ absurd (not_performed d e n.1 what performed) ])
 
   its_draw : (block : ℕ) → block ≡ block_of t s → IsDrawnFor x (drawn_plain false) (plain_done block t x write)
-  its_draw block is = record { entry = plain_entry x write false s; made = refl; performed = refl; var = refl; access = ap (λ b. record { thread = t; block = b; variables = None }) is; write = (λ e. (refl, e), λ w. w.1) }
+  its_draw block is = record {
+    entry = plain_entry x write false s;
+    made = refl;
+    performed = refl;
+    var = refl;
+    access = ap (λ b. record { thread = t; block = b; variables = None }) is;
+    write = (λ e. (refl, e), λ w. w.1);
+  }
 
   one_is : (p q : Performed) (j : ℕ) → slice_get (p ∷ []) j ≡ Some q → p ≡ q
   one_is p q zero e = cc
   one_is p q (suc j) e = absurd (cc)
 
-  pub plain_kept : (ps ps' : List Performed) (block : ℕ) → block ≡ block_of t s → ps' ≡ ps ++ plain_done block t x write ∷ [] → ArePerformed s.draws ps → ArePerformed (plain_draws false) ps'
-  plain_kept ps ps' block at is are = performed_more s.draws (plain_draws false) ps ps' (plain_done block t x write ∷ []) is are (stays false)
-      (λ y d e among what performed. elim (news false y d among) [ inl old ↦ inl old | inr n ↦ inr (0, plain_done block t x write, refl, subst (λ z. IsDrawnFor z d (plain_done block t x write)) (sym n.0) (subst (λ z. IsDrawnFor x z (plain_done block t x write)) (sym n.1) (its_draw block at))) ])
-      (λ j p here. subst (λ z. (d : Draw) × Among (plain_draws false z.var) d × IsDrawnFor z.var d z) (one_is (plain_done block t x write) p j here) (drawn_plain false, subst (λ ds. Among ds (drawn_plain false)) (sym (with_at-here s.draws x (drawn_plain false ∷ s.draws x))) (inl refl), its_draw block at))
+  pub plain_kept : (ps ps' : List Performed) (block : ℕ) → block ≡ block_of t s → ps' ≡ ps ++ plain_done block t x write ∷ []
+      → ArePerformed s.draws ps → ArePerformed (plain_draws false) ps'
+  plain_kept ps ps' block at is are = performed_more s.draws (plain_draws false) ps ps' (plain_done block t x write ∷ []) is are
+      (stays false)
+      (λ y d e among what performed. elim (news false y d among) [
+        | inl old ↦ inl old
+        | inr n ↦ inr (
+          0,
+          plain_done block t x write,
+          refl,
+          subst (λ z. IsDrawnFor z d (plain_done block t x write)) (sym n.0)
+              (subst (λ z. IsDrawnFor x z (plain_done block t x write)) (sym n.1) (its_draw block at)),
+        )
+      ])
+      (λ j p here. subst (λ z. (d : Draw) × Among (plain_draws false z.var) d × IsDrawnFor z.var d z)
+      (one_is (plain_done block t x write) p j here) (
+        drawn_plain false,
+        subst (λ ds. Among ds (drawn_plain false)) (sym (with_at-here s.draws x (drawn_plain false ∷ s.draws x)))
+            (inl refl),
+        its_draw block at,
+      ))
 
 -- an attempt draws a number for each look, and one for its entry
 module _ (t q p : ℕ) (e : Entry) (ds : List Draw) where
@@ -91,7 +128,8 @@ module _ (t q p : ℕ) (e : Entry) (ds : List Draw) where
   attempt_stays false true d among = inr among
   attempt_stays false false d among = among
 
-  pub attempt_news : (own look : Bool) (d : Draw) → Among (with_own own t p e (with_look look t q ds)) d → Among ds d ⊎ ((d ≡ draw t q (Looked (pos 0))) ⊎ ((own ≡ true) × (d ≡ draw t p (Entered e))))
+  pub attempt_news : (own look : Bool) (d : Draw) → Among (with_own own t p e (with_look look t q ds)) d → Among ds d
+      ⊎ ((d ≡ draw t q (Looked (pos 0))) ⊎ ((own ≡ true) × (d ≡ draw t p (Entered e))))
   attempt_news true true d (inl is) = inr (inr (refl, is))
   attempt_news true true d (inr (inl is)) = inr (inl is)
   attempt_news true true d (inr (inr old)) = inl old
@@ -113,11 +151,14 @@ module _ (s : Traced) (t : ℕ) (reads writes : List ℕ) where
 
   pub refused_kept : (var : ℕ) (ps ps' : List Performed) → ps' ≡ ps → ArePerformed s.draws ps → ArePerformed (refused_draws var) ps'
   refused_kept var ps ps' is are = performed_same s.draws (refused_draws var) ps ps' is are
-      (λ y d among. attempt_stays t (block_of t s) (block_of t s) (refused_entry reads writes var s) (s.draws y) (touches reads writes y) (is_in y reads) d among)
-      (λ y d e among what performed. elim (attempt_news t (block_of t s) (block_of t s) (refused_entry reads writes var s) (s.draws y) (touches reads writes y) (is_in y reads) d among) [
+      (λ y d among. attempt_stays t (block_of t s) (block_of t s) (refused_entry reads writes var s) (s.draws y) (touches reads writes y)
+      (is_in y reads) d among)
+      (λ y d e among what performed. elim (attempt_news t (block_of t s) (block_of t s) (refused_entry reads writes var s) (s.draws y)
+      (touches reads writes y) (is_in y reads) d among) [
         | inl old ↦ old
         | inr (inl look) ↦ absurd (looked_not t (block_of t s) d e look what)
-        | inr (inr own) ↦ absurd (subst IsPerformed (sym (entry_is t (block_of t s) d e (refused_entry reads writes var s) own.1 what)) performed)
+        | inr (inr own) ↦ absurd (subst IsPerformed (sym (entry_is t (block_of t s) d e (refused_entry reads writes var s) own.1 what))
+            performed)
       ])
 
   abbrev pub commit_draws : ℕ → List Draw
@@ -135,30 +176,51 @@ module _ (s : Traced) (t : ℕ) (reads writes : List ℕ) where
     made = refl;
     performed = tt;
     var = refl;
-    access = ap (λ b. record { thread = t; block = b; variables = Some (with_all writes reads) }) at ∙ ap (λ vs. record { thread = t; block = s.tracing.next; variables = Some vs }) (sym (its_variables reads writes s.tracing.numbers));
-    write = (λ i. subst (λ ws. Contains ws y) (sym (its_writes reads writes s.tracing.numbers)) (is_in-contains y writes i), λ c. contains-is_in y writes (subst (λ ws. Contains ws y) (its_writes reads writes s.tracing.numbers) c));
+    access = ap (λ b. record { thread = t; block = b; variables = Some (with_all writes reads) }) at
+        ∙ ap (λ vs. record { thread = t; block = s.tracing.next; variables = Some vs })
+        (sym (its_variables reads writes s.tracing.numbers));
+    write = (
+      λ i. subst (λ ws. Contains ws y) (sym (its_writes reads writes s.tracing.numbers)) (is_in-contains y writes i),
+      λ c.
+          contains-is_in y writes (subst (λ ws. Contains ws y) (its_writes reads writes s.tracing.numbers) c),
+    );
   }
 
-  own_among : (y : ℕ) (own look : Bool) → own ≡ true → Among (with_own own t s.tracing.next (commit_entry reads writes s) (with_look look t (block_of t s) (s.draws y))) drawn_commit
+  own_among : (y : ℕ) (own look : Bool) → own ≡ true
+      → Among (with_own own t s.tracing.next (commit_entry reads writes s) (with_look look t (block_of t s) (s.draws y))) drawn_commit
   own_among y true look e = inl refl
   own_among y false look e = absurd (cc)
 
   -- each variable of the commit has its part
-  part_kept : (block : ℕ) → block ≡ s.tracing.next → (y : ℕ) (d : Draw) → touches reads writes y ≡ true → d ≡ drawn_commit → (j : ℕ) × (p : Performed) × (slice_get (map (part block) (with_all writes reads)) j ≡ Some p) × IsDrawnFor y d p
+  part_kept : (block : ℕ) → block ≡ s.tracing.next → (y : ℕ) (d : Draw) → touches reads writes y ≡ true → d ≡ drawn_commit → (j : ℕ)
+      × (p : Performed) × (slice_get (map (part block) (with_all writes reads)) j ≡ Some p) × IsDrawnFor y d p
   part_kept block at y d touched is =
-      let place = place_of (with_all writes reads) y (is_in-contains y (with_all writes reads) (is_in-touches reads writes y ∙ touched)) in
-      (place.0, part block y, map_there (part block) (with_all writes reads) place.0 y place.1, subst (λ z. IsDrawnFor y z (part block y)) (sym is) (part_draw block at y))
+      let place = place_of (with_all writes reads) y (is_in-contains y (with_all writes reads) (is_in-touches reads writes y ∙ touched))
+      in (
+        place.0,
+        part block y,
+        map_there (part block) (with_all writes reads) place.0 y place.1,
+        subst (λ z. IsDrawnFor y z (part block y))
+            (sym is) (part_draw block at y),
+      )
 
-  part_drawn : (block : ℕ) → block ≡ s.tracing.next → (j : ℕ) (p : Performed) → slice_get (map (part block) (with_all writes reads)) j ≡ Some p → (d : Draw) × Among (commit_draws p.var) d × IsDrawnFor p.var d p
+  part_drawn : (block : ℕ) → block ≡ s.tracing.next → (j : ℕ) (p : Performed) → slice_get (map (part block) (with_all writes reads)) j
+      ≡ Some p → (d : Draw) × Among (commit_draws p.var) d × IsDrawnFor p.var d p
   part_drawn block at j p here =
       let m = map_cases (part block) (with_all writes reads) j p here in
-      let touched : touches reads writes m.0 ≡ true = sym (is_in-touches reads writes m.0) ∙ contains-is_in m.0 (with_all writes reads) (contains_at (with_all writes reads) j m.0 m.1) in
-      subst (λ z. (d : Draw) × Among (commit_draws z.var) d × IsDrawnFor z.var d z) m.2 (drawn_commit, own_among m.0 (touches reads writes m.0) (is_in m.0 reads) touched, part_draw block at m.0)
+      let touched : touches reads writes m.0 ≡ true = sym (is_in-touches reads writes m.0)
+      ∙ contains-is_in m.0 (with_all writes reads) (contains_at (with_all writes reads) j m.0 m.1) in
+      subst (λ z. (d : Draw) × Among (commit_draws z.var) d × IsDrawnFor z.var d z) m.2
+      (drawn_commit, own_among m.0 (touches reads writes m.0) (is_in m.0 reads) touched, part_draw block at m.0)
 
-  pub commit_kept : (ps ps' : List Performed) (block : ℕ) → block ≡ s.tracing.next → ps' ≡ ps ++ map (part_done block t (with_all writes reads) writes) (with_all writes reads) → ArePerformed s.draws ps → ArePerformed commit_draws ps'
+  pub commit_kept : (ps ps' : List Performed) (block : ℕ) → block ≡ s.tracing.next → ps' ≡ ps
+      ++ map (part_done block t (with_all writes reads) writes) (with_all writes reads) → ArePerformed s.draws ps
+      → ArePerformed commit_draws ps'
   commit_kept ps ps' block at is are = performed_more s.draws commit_draws ps ps' (map (part block) (with_all writes reads)) is are
-      (λ y d among. attempt_stays t (block_of t s) s.tracing.next (commit_entry reads writes s) (s.draws y) (touches reads writes y) (is_in y reads) d among)
-      (λ y d e among what performed. elim (attempt_news t (block_of t s) s.tracing.next (commit_entry reads writes s) (s.draws y) (touches reads writes y) (is_in y reads) d among) [
+      (λ y d among. attempt_stays t (block_of t s) s.tracing.next (commit_entry reads writes s) (s.draws y) (touches reads writes y)
+      (is_in y reads) d among)
+      (λ y d e among what performed. elim (attempt_news t (block_of t s) s.tracing.next (commit_entry reads writes s) (s.draws y)
+      (touches reads writes y) (is_in y reads) d among) [
         | inl old ↦ inl old
         | inr (inl look) ↦ absurd (looked_not t (block_of t s) d e look what)
         | inr (inr own) ↦ inr (part_kept block at y d own.0 own.1)

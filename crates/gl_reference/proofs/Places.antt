@@ -17,7 +17,8 @@ pub get_more : {A : Type 0} (xs more : List A) (j : ℕ) (x : A) → slice_get m
 get_more [] more j x e = let here : 0 + j ≡ j = omega arith in rw here e
 get_more (y ∷ xs) more j x e = let here : suc (length xs) + j ≡ suc (length xs + j) = omega arith in rw here (get_more xs more j x e)
 
-pub get_cases : {A : Type 0} (xs more : List A) (i : ℕ) (x : A) → slice_get (xs ++ more) i ≡ Some x → (slice_get xs i ≡ Some x) ⊎ ((j : ℕ) × (slice_get more j ≡ Some x))
+pub get_cases : {A : Type 0} (xs more : List A) (i : ℕ) (x : A) → slice_get (xs ++ more) i ≡ Some x → (slice_get xs i ≡ Some x)
+    ⊎ ((j : ℕ) × (slice_get more j ≡ Some x))
 get_cases [] more i x e = inr (i, e)
 get_cases (y ∷ xs) more zero x e = inl e
 get_cases (y ∷ xs) more (suc i) x e = get_cases xs more i x e
@@ -27,7 +28,8 @@ mapped f None b e = absurd (cc)
 mapped f (Some a) b e = (a, refl, let same : Some (f a) ≡ Some b = e in cc)
 
 -- what stands in a list that was mapped
-pub map_cases : {A B : Type 0} (f : A → B) (xs : List A) (i : ℕ) (b : B) → slice_get (map f xs) i ≡ Some b → (a : A) × (slice_get xs i ≡ Some a) × (f a ≡ b)
+pub map_cases : {A B : Type 0} (f : A → B) (xs : List A) (i : ℕ) (b : B) → slice_get (map f xs) i ≡ Some b → (a : A)
+    × (slice_get xs i ≡ Some a) × (f a ≡ b)
 map_cases f xs i b e = mapped f (slice_get xs i) b (sym (slice_get-map f xs i) ∙ e)
 
 pub map_there : {A B : Type 0} (f : A → B) (xs : List A) (i : ℕ) (a : A) → slice_get xs i ≡ Some a → slice_get (map f xs) i ≡ Some (f a)
@@ -48,7 +50,8 @@ all_at P (x ∷ xs) (suc k) y all e = all_at P xs k y all.1 e
 rises_at : (xs : List ℕ) (i k a b : ℕ) → Rises xs → i < k → slice_get xs i ≡ Some a → slice_get xs k ≡ Some b → a < b
 rises_at [] i k a b rising less e f = absurd (cc)
 rises_at (x ∷ xs) i zero a b rising less e f = absurd (omega arith)
-rises_at (x ∷ xs) zero (suc k) a b rising less e f = let same : x ≡ a = cc in subst (λ z. z < b) same (all_at (λ y. x < y) xs k b rising.0 f)
+rises_at (x ∷ xs) zero (suc k) a b rising less e f = let same : x ≡ a = cc
+    in subst (λ z. z < b) same (all_at (λ y. x < y) xs k b rising.0 f)
 rises_at (x ∷ xs) (suc i) (suc k) a b rising less e f = rises_at xs i k a b rising.1 (omega arith) e f
 
 -- in a list that rises, what is less stands before
@@ -57,7 +60,8 @@ less_before xs i k a b rising e f less = elim (cases_lt k i) [
   | inl before ↦ before
   | inr behind ↦ elim (cases_lt i k) [
     | inl after ↦ absurd (let l = rises_at xs i k a b rising after e f in omega arith)
-    | inr over ↦ absurd (let same : k ≡ i = omega arith in let g : slice_get xs i ≡ Some b = subst (λ j. slice_get xs j ≡ Some b) same f in let z : a ≡ b = cc in omega arith)
+    | inr over ↦ absurd (let same : k ≡ i = omega arith in let g : slice_get xs i ≡ Some b = subst (λ j. slice_get xs j ≡ Some b) same f
+        in let z : a ≡ b = cc in omega arith)
   ]
 ]
 

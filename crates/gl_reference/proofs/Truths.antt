@@ -45,8 +45,13 @@ pub first_fails : (a : Bool) (P Q : Type 0) → a ≡ false → IsTrue a ↔ P �
 first_fails a P Q e p = (λ t. absurd (cc), λ w. absurd (let n = p.1 w.0 in cc))
 
 -- one number that two events have
-pub shared : (a b : Option ℕ) (P Q : ℕ → Type 0) (t : Bool) → ((x : ℕ) → P x ↔ (a ≡ Some x)) → ((x : ℕ) → Q x ↔ (b ≡ Some x)) → IsTrue t ↔ ((x : ℕ) × (a ≡ Some x) × (b ≡ Some x)) → IsTrue t ↔ ((x : ℕ) × P x × Q x)
-shared a b P Q t p q test = (λ is. let w = test.0 is in (w.0, (p w.0).1 w.1, (q w.0).1 w.2), λ w. test.1 (w.0, (p w.0).0 w.1, (q w.0).0 w.2))
+pub shared : (a b : Option ℕ) (P Q : ℕ → Type 0) (t : Bool) → ((x : ℕ) → P x ↔ (a ≡ Some x)) → ((x : ℕ) → Q x ↔ (b ≡ Some x))
+    → IsTrue t ↔ ((x : ℕ) × (a ≡ Some x) × (b ≡ Some x)) → IsTrue t ↔ ((x : ℕ) × P x × Q x)
+shared a b P Q t p q test = (
+  λ is. let w = test.0 is
+      in (w.0, (p w.0).1 w.1, (q w.0).1 w.2),
+  λ w. test.1 (w.0, (p w.0).0 w.1, (q w.0).0 w.2),
+)
 
 -- the five cases
 Cases : Stamp → Stamp → Type 0
@@ -81,5 +86,8 @@ pub synchronizes_by :
     IsTrue ((((m || v) || (k && g)) || (n && j)) || c) ↔ SynchronizesWith e f
 unfolding Cases
 synchronizes_by e f m v k g n j c pm pv pk pg pn pj pc =
-    let all : IsTrue ((((m || v) || (k && g)) || (n && j)) || c) ↔ Cases e f = either (((m || v) || (k && g)) || (n && j)) c _ _ (either ((m || v) || (k && g)) (n && j) _ _ (either (m || v) (k && g) _ _ (either m v _ _ pm pv) (both k g _ _ pk pg)) (both n j _ _ pn pj)) pc in
+    let all : IsTrue ((((m || v) || (k && g)) || (n && j)) || c) ↔ Cases e f =
+    either (((m || v) || (k && g)) || (n && j)) c _ _
+    (either ((m || v) || (k && g)) (n && j) _ _ (either (m || v) (k && g) _ _ (either m v _ _ pm pv) (both k g _ _ pk pg))
+    (both n j _ _ pn pj)) pc in
     (λ t. from_case e f (all.0 t), λ w. all.1 (to_case e f w))

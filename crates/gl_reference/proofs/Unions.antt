@@ -22,11 +22,13 @@ pub longer : (x : ℕ) (ys : List ℕ) → (Contains ys x → ⊥) → length (w
 longer x [] none = refl
 longer x (y ∷ ys) none = by_same (x == y) refl (λ c. longer x ys c)
   where
-    by_less : (b : Bool) → ((Contains ys x → ⊥) → length (with_one x ys) ≡ length ys + 1) → length (if b then x ∷ (y ∷ ys) else y ∷ with_one x ys) ≡ suc (length ys) + 1
+    by_less : (b : Bool) → ((Contains ys x → ⊥) → length (with_one x ys) ≡ length ys + 1)
+        → length (if b then x ∷ (y ∷ ys) else y ∷ with_one x ys) ≡ suc (length ys) + 1
     by_less true rest = omega arith
     by_less false rest = omega (arith, rest (λ c. none (contains_behind y x ys c)))
 
-    by_same : (b : Bool) → (x == y) ≡ b → ((Contains ys x → ⊥) → length (with_one x ys) ≡ length ys + 1) → length (if b then y ∷ ys else if nat_lt x y then x ∷ (y ∷ ys) else y ∷ with_one x ys) ≡ suc (length ys) + 1
+    by_same : (b : Bool) → (x == y) ≡ b → ((Contains ys x → ⊥) → length (with_one x ys) ≡ length ys + 1)
+        → length (if b then y ∷ ys else if nat_lt x y then x ∷ (y ∷ ys) else y ∷ with_one x ys) ≡ suc (length ys) + 1
     by_same true e rest = absurd (none (subst (Contains (y ∷ ys)) (sym (eqb-true x y e)) (contains_front y ys)))
     by_same false e rest = by_less (nat_lt x y) rest
 
@@ -38,7 +40,8 @@ one_length x (y ∷ ys) = by_same (x == y) (one_length x ys)
     by_less true rest = omega arith
     by_less false rest = omega arith
 
-    by_same : (b : Bool) → length ys ≤ length (with_one x ys) → suc (length ys) ≤ length (if b then y ∷ ys else if nat_lt x y then x ∷ (y ∷ ys) else y ∷ with_one x ys)
+    by_same : (b : Bool) → length ys ≤ length (with_one x ys)
+        → suc (length ys) ≤ length (if b then y ∷ ys else if nat_lt x y then x ∷ (y ∷ ys) else y ∷ with_one x ys)
     by_same true rest = omega arith
     by_same false rest = by_less (nat_lt x y) rest
 
@@ -47,14 +50,20 @@ all_length [] ys = omega arith
 all_length (x ∷ xs) ys = omega (arith, one_length x ys, all_length xs (with_one x ys))
 
 -- a variable for which there is room is put in
-pub inserted : {A B : Type 0} (r : Result A B) (x : ℕ) (old new : List ℕ) → OnOk r (new ≡ with_one x old) → IsErr r ↔ ((length old ≡ TX_VARIABLES) × (Contains old x → ⊥)) → length (with_one x old) ≤ TX_VARIABLES → new ≡ with_one x old
+pub inserted : {A B : Type 0} (r : Result A B) (x : ℕ) (old new : List ℕ) → OnOk r (new ≡ with_one x old)
+    → IsErr r ↔ ((length old ≡ TX_VARIABLES) × (Contains old x → ⊥)) → length (with_one x old) ≤ TX_VARIABLES → new ≡ with_one x old
 inserted (Ok a) x old new ok full room = ok
 inserted (Err e) x old new ok full room = let f = full.0 refl in absurd (omega (arith, longer x old f.1))
 
 -- one variable more is in
-pub put_more : (items writes reads all next : List ℕ) (i : ℕ) → i < length items → (length (with_one (get_or items i 0) all) ≤ TX_VARIABLES → next ≡ with_one (get_or items i 0) all) → length (with_all writes reads) ≤ TX_VARIABLES → with_all (drop i items) all ≡ with_all writes reads → with_all (drop (i + 1) items) next ≡ with_all writes reads
+pub put_more : (items writes reads all next : List ℕ) (i : ℕ) → i < length items
+    → (length (with_one (get_or items i 0) all) ≤ TX_VARIABLES → next ≡ with_one (get_or items i 0) all)
+    → length (with_all writes reads) ≤ TX_VARIABLES → with_all (drop i items) all ≡ with_all writes reads
+    → with_all (drop (i + 1) items) next ≡ with_all writes reads
 put_more items writes reads all next i n put room so_far =
     let split : drop i items ≡ get_or items i 0 ∷ drop (i + 1) items = rw add-one (drop-cons items i 0 n) in
-    let was : with_all (drop (i + 1) items) (with_one (get_or items i 0) all) ≡ with_all writes reads = sym (ap (λ zs. with_all zs all) split) ∙ so_far in
-    let less : length (with_one (get_or items i 0) all) ≤ TX_VARIABLES = omega (arith, all_length (drop (i + 1) items) (with_one (get_or items i 0) all), ap length was) in
+    let was : with_all (drop (i + 1) items) (with_one (get_or items i 0) all)
+    ≡ with_all writes reads = sym (ap (λ zs. with_all zs all) split) ∙ so_far in
+    let less : length (with_one (get_or items i 0) all) ≤ TX_VARIABLES =
+    omega (arith, all_length (drop (i + 1) items) (with_one (get_or items i 0) all), ap length was) in
     ap (with_all (drop (i + 1) items)) (put less) ∙ was

@@ -30,6 +30,7 @@ pub record IsAsBefore (old new : SlowJudge) : Type 0 where
 -- what is said of this next line is right, and the judge was given it, wherever it was given sound lines of which this is so
 abbrev pub IsStepped : ℕ → Item → Judged → SlowJudge → SlowJudge → Type 0
 IsStepped t item judged old new =
-    (lines : List Line) → AreSound (lines ++ record { thread = t; item = item; judged = judged } ∷ []) → AreVerdicts lines → Follows lines old →
+    (lines : List Line) → AreSound (lines ++ record { thread = t; item = item; judged = judged } ∷ []) → AreVerdicts lines
+    → Follows lines old →
     AreVerdicts (lines ++ record { thread = t; item = item; judged = judged } ∷ []) ×
     Follows (lines ++ record { thread = t; item = item; judged = judged } ∷ []) new

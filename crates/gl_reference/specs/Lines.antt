@@ -27,14 +27,19 @@ plain_done block t x write = record { access = record { thread = t; block = bloc
 
 -- the access of x that is part of a performed commit
 abbrev pub part_done : ℕ → ℕ → List ℕ → List ℕ → ℕ → Performed
-part_done block t variables writes x = record { access = record { thread = t; block = block; variables = Some variables }; var = x; write = is_in x writes }
+part_done block t variables writes x = record {
+  access = record { thread = t; block = block; variables = Some variables };
+  var = x;
+  write = is_in x writes;
+}
 
 -- a plain access is raised where it is racy, and else kept, in the block of its thread's last event
 abbrev pub PlainDone : List Stamp → List Performed → ℕ → ℕ → Bool → Judged → List Performed → Type 0
 PlainDone h ps t x write NoAccess ps' = ⊥
 PlainDone h ps t x write (Raised var) ps' = (var ≡ x) × IsRacyNext h ps (plain_next t x write) × (ps' ≡ ps)
 PlainDone h ps t x write WasPerformed ps' =
-    (IsRacyNext h ps (plain_next t x write) → ⊥) × ((block : ℕ) × ((p : ℕ) → IsLastOf h t p → block ≡ p) × (ps' ≡ ps ++ plain_done block t x write ∷ []))
+    (IsRacyNext h ps (plain_next t x write) → ⊥)
+    × ((block : ℕ) × ((p : ℕ) → IsLastOf h t p → block ≡ p) × (ps' ≡ ps ++ plain_done block t x write ∷ []))
 
 -- a commit is refused for the first of its variables on which it is racy; else it is an event, and its parts are kept in that block
 abbrev pub CommitDone : List Stamp → List Performed → ℕ → List ℕ → List ℕ → Judged → List Stamp → List Performed → Type 0

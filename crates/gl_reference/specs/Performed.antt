@@ -17,5 +17,6 @@ pub record IsDrawnFor (x : ℕ) (d : Draw) (p : Performed) : Type 0 where
 
 -- these are the performed accesses of all draws, and no others
 pub record ArePerformed (draws : ℕ → List Draw) (ps : List Performed) : Type 0 where
-  pub kept : (x : ℕ) (d : Draw) (e : Entry) → Among (draws x) d → d.what ≡ Entered e → IsPerformed e → (i : ℕ) × (p : Performed) × (slice_get ps i ≡ Some p) × IsDrawnFor x d p
+  pub kept : (x : ℕ) (d : Draw) (e : Entry) → Among (draws x) d → d.what ≡ Entered e → IsPerformed e → (i : ℕ) × (p : Performed)
+      × (slice_get ps i ≡ Some p) × IsDrawnFor x d p
   pub drawn : (i : ℕ) (p : Performed) → slice_get ps i ≡ Some p → (d : Draw) × Among (draws p.var) d × IsDrawnFor p.var d p

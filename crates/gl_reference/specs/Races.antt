@@ -9,7 +9,8 @@ use Rattle.gl_reference.specs.declared.races.Next.{Next}
 -- both are of one variable and of two threads, one writes it, and they are not both parts of commits
 abbrev pub Conflicts : Performed → Next → Type 0
 Conflicts p n =
-    (((p.var ≡ n.var) × (p.access.thread ≢ n.thread)) × ((p.write ≡ true) ⊎ (n.write ≡ true))) × ((p.access.variables ≡ None) ⊎ (n.variables ≡ None))
+    (((p.var ≡ n.var) × (p.access.thread ≢ n.thread)) × ((p.write ≡ true) ⊎ (n.write ≡ true)))
+    × ((p.access.variables ≡ None) ⊎ (n.variables ≡ None))
 
 -- the next access conflicts with the performed one, which does not happen before it
 abbrev pub RacesWith : List Stamp → Next → Performed → Type 0

@@ -33,7 +33,8 @@ none_below t n (l ∷ ls) le above =
 abbrev pub GathersNext : ℕ → List (ℕ × List Entry) → Type 0
 GathersNext t ls = by_thread (below (t + 1) ls) ≡ by_thread (below t ls) ++ with_thread (t, lists_of ls t)
 
-next_is_first : (t : ℕ) (l : ℕ × List Entry) (ls : List (ℕ × List Entry)) → l.0 ≡ t → AllByRecursion (λ s. l.0 < s) (map (λ l. l.0) ls) → GathersNext t (l ∷ ls)
+next_is_first : (t : ℕ) (l : ℕ × List Entry) (ls : List (ℕ × List Entry)) → l.0 ≡ t → AllByRecursion (λ s. l.0 < s) (map (λ l. l.0) ls)
+    → GathersNext t (l ∷ ls)
 next_is_first t l ls same above =
     let within : nat_lt l.0 (t + 1) ≡ true = grind (arith, nat_tests) in
     let out : nat_lt l.0 t ≡ false = grind (arith, nat_tests) in
@@ -41,7 +42,8 @@ next_is_first t l ls same above =
     rw (within, out, here, none_below l.0 (t + 1) ls (omega arith) above, none_below l.0 t ls (omega arith) above)
     (append-nil (with_thread l) ∙ ap (λ s. with_thread (s, l.1)) same)
 
-next_is_later : (t : ℕ) (l : ℕ × List Entry) (ls : List (ℕ × List Entry)) → (l.0 < t) ⊎ (t < l.0) → GathersNext t ls → GathersNext t (l ∷ ls)
+next_is_later : (t : ℕ) (l : ℕ × List Entry) (ls : List (ℕ × List Entry)) → (l.0 < t) ⊎ (t < l.0) → GathersNext t ls
+    → GathersNext t (l ∷ ls)
 next_is_later t l ls (inl lt) more =
     let within_next : nat_lt l.0 (t + 1) ≡ true = grind (arith, nat_tests) in
     let within : nat_lt l.0 t ≡ true = grind (arith, nat_tests) in
@@ -58,7 +60,10 @@ next_is_later t l ls (inr lt) more =
 pub gathers_next : (t : ℕ) (ls : List (ℕ × List Entry)) → Rises (map (λ l. l.0) ls) → GathersNext t ls
 gathers_next t [] rises = refl
 gathers_next t (l ∷ ls) rises =
-    elim (cases_order l.0 t) [ inl same ↦ next_is_first t l ls same rises.0 | inr other ↦ next_is_later t l ls other (gathers_next t ls rises.1) ]
+    elim (cases_order l.0 t) [
+      | inl same ↦ next_is_first t l ls same rises.0
+      | inr other ↦ next_is_later t l ls other (gathers_next t ls rises.1)
+    ]
 
 -- all threads are below their limit
 pub all_below : (ls : List (ℕ × List Entry)) → AllByRecursion IsListKept ls → below THREADS ls ≡ ls

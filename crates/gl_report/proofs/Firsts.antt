@@ -23,7 +23,8 @@ passed : (p : ℕ) (e : Entry) (es : List Entry) → is_event_at p e ≡ false �
 passed p e es other = find-append (is_event_at p) es (e ∷ []) ∙ rw other (or_none (find (is_event_at p) es))
 
 -- one that has this position is first where none was
-met : (p : ℕ) (e : Entry) (es : List Entry) → is_event_at p e ≡ true → find (is_event_at p) (es ++ e ∷ []) ≡ option_or (find (is_event_at p) es) (Some e)
+met : (p : ℕ) (e : Entry) (es : List Entry) → is_event_at p e ≡ true → find (is_event_at p) (es ++ e ∷ [])
+    ≡ option_or (find (is_event_at p) es) (Some e)
 met p e es here = find-append (is_event_at p) es (e ∷ []) ∙ rw here refl
 
 or_entry : {A B : Type 0} (v : A → B) (o : Option A) (a : A) → option_or (option_map v o) (Some (v a)) ≡ Some (v (unwrap_or o a))
@@ -37,17 +38,21 @@ module _ {A : Type 0} (v : A → Entry) (es : List Entry) (slots : List (Option 
 
   -- one behind all slots
   pub past_end : (e : Entry) (at : ℕ) → position_of e ≡ Some at → length slots ≤ at → AreFirsts v (es ++ e ∷ []) slots
-  past_end e at is out = λ p lt. (let other : is_event_at p e ≡ false = rw is (grind (arith, nat_tests)) in are p lt ∙ sym (passed p e es other))
+  past_end e at is out = λ p lt. (let other : is_event_at p e ≡ false = rw is (grind (arith, nat_tests)) in are p lt
+      ∙ sym (passed p e es other))
 
   -- one that has a slot: the slot keeps what it has, or else gets the entry
-  module _ (a new : A) (at : ℕ) (is : position_of (v a) ≡ Some at) (within : at < length slots) (new_is : new ≡ unwrap_or (get_or slots at None) a) where
+  module _ (a new : A) (at : ℕ) (is : position_of (v a) ≡ Some at) (within : at < length slots) (new_is : new
+      ≡ unwrap_or (get_or slots at None) a) where
     noted_at : (p : ℕ) → p < length slots → option_map v (get_or (set slots at (Some new)) p None) ≡ find (is_event_at p) (es ++ v a ∷ [])
     noted_at p lt = by_place (cases_eq p at) where
       by_place : (p ≡ at) ⊎ (p ≢ at) → option_map v (get_or (set slots at (Some new)) p None) ≡ find (is_event_at p) (es ++ v a ∷ [])
       by_place (inl same) =
           let here : is_event_at p (v a) ≡ true = rw is (eq-eqb at p (sym same)) in
-          let old : option_map v (get_or slots at None) ≡ find (is_event_at p) es = ap (λ n. option_map v (get_or slots n None)) (sym same) ∙ are p lt in
-          ap (option_map v) (get_or-set_at slots at p (Some new) None same within) ∙ ap (λ (x : A). Some (v x)) new_is ∙ sym (or_entry v (get_or slots at None) a)
+          let old : option_map v (get_or slots at None) ≡ find (is_event_at p) es = ap (λ n. option_map v (get_or slots n None)) (sym same)
+          ∙ are p lt in
+          ap (option_map v) (get_or-set_at slots at p (Some new) None same within) ∙ ap (λ (x : A). Some (v x)) new_is
+          ∙ sym (or_entry v (get_or slots at None) a)
           ∙ ap (λ o. option_or o (Some (v a))) old ∙ sym (met p (v a) es here)
       by_place (inr apart) =
           let other : is_event_at p (v a) ≡ false = rw is (grind (arith, nat_tests)) in
@@ -67,7 +72,8 @@ module _ {A : Type 0} (v : A → Entry) (es : List Entry) (slots : List (Option 
       let last : flat_map (out_lines_at v) (slot ∷ []) ≡ flat_map out_line (entry_prints (find (is_event_at n) es)) =
       append-nil (out_lines_at v slot) ∙ ap (λ o. flat_map out_line (entry_prints o)) (are n lt) in
       ap (flat_map (out_lines_at v)) (take-suc slots n None lt) ∙ flat_map-append (out_lines_at v) (take n slots) (slot ∷ [])
-      ∙ ap (λ front. front ++ flat_map (out_lines_at v) (slot ∷ [])) (prints_below n (omega arith)) ∙ ap (λ back. flat_map out_line (printed_below es n) ++ back) last
+      ∙ ap (λ front. front ++ flat_map (out_lines_at v) (slot ∷ [])) (prints_below n (omega arith))
+      ∙ ap (λ back. flat_map out_line (printed_below es n) ++ back) last
       ∙ sym (flat_map-append out_line (printed_below es n) (entry_prints (find (is_event_at n) es)))
 
   pub prints_are : flat_map (out_lines_at v) slots ≡ flat_map out_line (printed_below es (length slots))

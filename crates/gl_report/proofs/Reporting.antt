@@ -18,17 +18,20 @@ map_map : {A B C : Type 0} (f : B → C) (g : A → B) (xs : List A) → map f (
 map_map f g [] = refl
 map_map f g (x ∷ xs) = ap (λ rest. f (g x) ∷ rest) (map_map f g xs)
 
-flat_flat : {A B C : Type 0} (f : B → List C) (g : A → List B) (xs : List A) → flat_map f (flat_map g xs) ≡ flat_map (λ x. flat_map f (g x)) xs
+flat_flat : {A B C : Type 0} (f : B → List C) (g : A → List B) (xs : List A) → flat_map f (flat_map g xs)
+    ≡ flat_map (λ x. flat_map f (g x)) xs
 flat_flat f g [] = refl
 flat_flat f g (x ∷ xs) = flat_map-append f (g x) (flat_map g xs) ∙ ap (λ rest. flat_map f (g x) ++ rest) (flat_flat f g xs)
 
 sum_same : {A : Type 0} (f g : A → ℕ) (xs : List A) → ((x : A) → f x ≡ g x) → sum_by f xs ≡ sum_by g xs
 sum_same f g [] same = refl
-sum_same f g (x ∷ xs) same = (let one = same x in let more = sum_same f g xs same in let left = sum_by-cons f x xs in let right = sum_by-cons g x xs in omega arith)
+sum_same f g (x ∷ xs) same = (let one = same x in let more = sum_same f g xs same in let left = sum_by-cons f x xs
+    in let right = sum_by-cons g x xs in omega arith)
 
 sum_mapped : {A B : Type 0} (v : A → B) (f : B → ℕ) (xs : List A) → sum_by f (map v xs) ≡ sum_by (λ x. f (v x)) xs
 sum_mapped v f [] = refl
-sum_mapped v f (x ∷ xs) = (let more = sum_mapped v f xs in let left = sum_by-cons f (v x) (map v xs) in let right = sum_by-cons (λ y. f (v y)) x xs in omega arith)
+sum_mapped v f (x ∷ xs) = (let more = sum_mapped v f xs in let left = sum_by-cons f (v x) (map v xs)
+    in let right = sum_by-cons (λ y. f (v y)) x xs in omega arith)
 
 -- ## By thread
 
@@ -37,10 +40,12 @@ entries_are : (made : List (ℕ × List Entry)) → map (λ p. p.1) (by_thread m
 entries_are [] = refl
 entries_are (l ∷ ls) =
     map-append (λ p. p.1) (with_thread l) (by_thread ls)
-    ∙ ap (λ front. front ++ map (λ p. p.1) (by_thread ls)) (map_map (λ (p : ℕ × Entry). p.1) (λ e. (l.0, e)) l.1 ∙ map-id l.1) ∙ ap (λ back. l.1 ++ back) (entries_are ls)
+    ∙ ap (λ front. front ++ map (λ p. p.1) (by_thread ls)) (map_map (λ (p : ℕ × Entry). p.1) (λ e. (l.0, e)) l.1 ∙ map-id l.1)
+    ∙ ap (λ back. l.1 ++ back) (entries_are ls)
 
 -- what each entry of each thread gives
-gives_are : {A : Type 0} (h : ℕ → Entry → List A) (made : List (ℕ × List Entry)) → flat_map (λ p. h p.0 p.1) (by_thread made) ≡ flat_map (λ l. flat_map (h l.0) l.1) made
+gives_are : {A : Type 0} (h : ℕ → Entry → List A) (made : List (ℕ × List Entry)) → flat_map (λ p. h p.0 p.1) (by_thread made)
+    ≡ flat_map (λ l. flat_map (h l.0) l.1) made
 gives_are h [] = refl
 gives_are h (l ∷ ls) =
     flat_map-append (λ p. h p.0 p.1) (with_thread l) (by_thread ls)
@@ -84,16 +89,22 @@ module _ {A : Type 0} (v : A → ℕ × Entry) (xs : List A) (made : List (ℕ �
 
   -- the text that grew by these lines
   pub report_is :
-      (none outs races ends whole prints : List ℕ) (n count : ℕ) → none ≡ [] → outs ≡ none ++ prints → prints ≡ flat_map out_line (printed_below (all_entries made) n) →
-      n ≡ event_count made → races ≡ outs ++ flat_map (λ x. raced_lines (v x).0 (v x).1) xs → ends ≡ races ++ flat_map (λ x. ended_lines (v x).0 (v x).1) xs →
+      (none outs races ends whole prints : List ℕ) (n count : ℕ) → none ≡ [] → outs ≡ none ++ prints → prints
+      ≡ flat_map out_line (printed_below (all_entries made) n) →
+      n ≡ event_count made → races ≡ outs ++ flat_map (λ x. raced_lines (v x).0 (v x).1) xs → ends ≡ races
+      ++ flat_map (λ x. ended_lines (v x).0 (v x).1) xs →
       count ≡ count_by (λ x. is_raised (v x).1) xs → whole ≡ ends ++ line_of (codes "races " ++ decimal count) → whole ≡ report_of made
   report_is none outs races ends whole prints n count is_none with_outs prints_is n_is with_races with_ends count_is with_count =
       let P = flat_map out_line (printed made) in
       let R = flat_map (λ bytes. bytes) (race_lines made) in
       let E = flat_map (λ bytes. bytes) (end_lines made) in
       let L = races_line made in
-      let at_outs : outs ≡ P = with_outs ∙ ap (λ s. s ++ prints) is_none ∙ prints_is ∙ ap (λ m. flat_map out_line (printed_below (all_entries made) m)) n_is in
-      let at_races : races ≡ P ++ R = with_races ∙ ap (λ s. s ++ flat_map (λ x. raced_lines (v x).0 (v x).1) xs) at_outs ∙ ap (λ s. P ++ s) races_are in
-      let at_ends : ends ≡ (P ++ R) ++ E = with_ends ∙ ap (λ s. s ++ flat_map (λ x. ended_lines (v x).0 (v x).1) xs) at_races ∙ ap (λ s. (P ++ R) ++ s) ends_are in
-      let at_whole : whole ≡ ((P ++ R) ++ E) ++ L = with_count ∙ ap (λ m. ends ++ line_of (codes "races " ++ decimal m)) (count_is ∙ many_races) ∙ ap (λ s. s ++ L) at_ends in
+      let at_outs : outs ≡ P = with_outs ∙ ap (λ s. s ++ prints) is_none ∙ prints_is
+      ∙ ap (λ m. flat_map out_line (printed_below (all_entries made) m)) n_is in
+      let at_races : races ≡ P ++ R = with_races ∙ ap (λ s. s ++ flat_map (λ x. raced_lines (v x).0 (v x).1) xs) at_outs
+      ∙ ap (λ s. P ++ s) races_are in
+      let at_ends : ends ≡ (P ++ R) ++ E = with_ends ∙ ap (λ s. s ++ flat_map (λ x. ended_lines (v x).0 (v x).1) xs) at_races
+      ∙ ap (λ s. (P ++ R) ++ s) ends_are in
+      let at_whole : whole ≡ ((P ++ R) ++ E) ++ L = with_count
+      ∙ ap (λ m. ends ++ line_of (codes "races " ++ decimal m)) (count_is ∙ many_races) ∙ ap (λ s. s ++ L) at_ends in
       at_whole ∙ append_assoc (P ++ R) E L ∙ append_assoc P R (E ++ L)

@@ -23,7 +23,8 @@ last_is (u ∷ w ∷ vs) v = last_is (w ∷ vs) v
 counts_mapped : {A B : Type 0} (v : A → B) (p : B → Bool) (xs : List A) → count_by p (map v xs) ≡ count_by (λ x. p (v x)) xs
 counts_mapped v p [] = refl
 counts_mapped v p (x ∷ xs) =
-    (let more = counts_mapped v p xs in let left = sum_by-cons (λ y. cond (p y) 1 0) (v x) (map v xs) in let right = sum_by-cons (λ y. cond (p (v y)) 1 0) x xs in omega arith)
+    (let more = counts_mapped v p xs in let left = sum_by-cons (λ y. cond (p y) 1 0) (v x) (map v xs)
+    in let right = sum_by-cons (λ y. cond (p (v y)) 1 0) x xs in omega arith)
 
 -- the commits of entries that are those of a record
 pub commits_are :
@@ -38,17 +39,11 @@ module _ {A : Type 0} (v : A → Entry) (es : List Entry) (slots : List (Option 
   values_below (suc n) le =
       let lt : n < length slots = omega arith in
       let slot = get_or slots n None in
-      let last : flat_map (prints_at v) (slot ∷ []) ≡ entry_prints (find (is_event_at n) es) = append-nil (prints_at v slot) ∙ ap entry_prints (are n lt) in
+      let last : flat_map (prints_at v) (slot ∷ []) ≡ entry_prints (find (is_event_at n) es) = append-nil (prints_at v slot)
+      ∙ ap entry_prints (are n lt) in
       ap (flat_map (prints_at v)) (take-suc slots n None lt) ∙ flat_map-append (prints_at v) (take n slots) (slot ∷ [])
-      ∙ ap (λ front. front ++ flat_map (prints_at v) (slot ∷ [])) (values_below n (omega arith)) ∙ ap (λ back. printed_below es n ++ back) last
+      ∙ ap (λ front. front ++ flat_map (prints_at v) (slot ∷ [])) (values_below n (omega arith))
+      ∙ ap (λ back. printed_below es n ++ back) last
 
   pub values_are : flat_map (prints_at v) slots ≡ printed_below es (length slots)
   values_are = ap (flat_map (prints_at v)) (sym (take-length slots)) ∙ values_below (length slots) (omega arith)
-
--- one slot more at the end of those that were looked at
-pub prints_more :
-    {A : Type 0} (v : A → Entry) (slots : List (Option A)) (k : ℕ) → k < length slots →
-    flat_map (prints_at v) (take (suc k) slots) ≡ flat_map (prints_at v) (take k slots) ++ prints_at v (get_or slots k None)
-prints_more v slots k lt =
-    ap (flat_map (prints_at v)) (take-suc slots k None lt) ∙ flat_map-append (prints_at v) (take k slots) (get_or slots k None ∷ [])
-    ∙ ap (λ back. flat_map (prints_at v) (take k slots) ++ back) (append-nil (prints_at v (get_or slots k None)))

@@ -23,7 +23,8 @@ use Rattle.gl_riders.specs.Riding.{Rides, DrawsFor, life_at}
 use Rattle.gl_riders.proofs.Growing.{rides_few}
 use Rattle.gl_riders.proofs.Telling.{LifeFor}
 
-stage_life : (P : Bytecode) (c : Config) (stage : Stage) → StageIsOrderly P c stage → IsAsk (ask_of stage) → LifeFor (ask_of stage) (life_at stage)
+stage_life : (P : Bytecode) (c : Config) (stage : Stage) → StageIsOrderly P c stage → IsAsk (ask_of stage)
+    → LifeFor (ask_of stage) (life_at stage)
 stage_life P c New orderly asks = absurd asks
 stage_life P c Begins orderly asks = refl
 stage_life P c Runs orderly asks = absurd asks
@@ -49,7 +50,8 @@ stage_life P c (Leaves ending o) orderly asks = refl
 stage_life P c (Ends ending) orderly asks = refl
 stage_life P c (IsOver ending) orderly asks = absurd asks
 
-pub rides_life : (P : Bytecode) (id : TableId) (c : Config) (own : Own) (txn : Option Attempting) → Rides P id c own txn → IsAsk (ask_of c.stage) → LifeFor (ask_of c.stage) (life_of own.mine)
+pub rides_life : (P : Bytecode) (id : TableId) (c : Config) (own : Own) (txn : Option Attempting) → Rides P id c own txn
+    → IsAsk (ask_of c.stage) → LifeFor (ask_of c.stage) (life_of own.mine)
 rides_life P id c own txn rides asks = rw rides.life (stage_life P c c.stage rides.orderly.stage asks)
 
 none_some : {A : Type 0} (o : Option A) → is_some o ≡ false → o ≡ None
@@ -65,7 +67,8 @@ outside_by : (o : Option Attempt) (ask : Ask) → Attends o ask → (IsAskedInsi
 outside_by None ask attends out = refl
 outside_by (Some a) ask attends out = absurd (out attends)
 
-pub outside : (P : Bytecode) (id : TableId) (c : Config) (own : Own) (txn : Option Attempting) → Rides P id c own txn → (IsAskedInside (ask_of c.stage) → ⊥) → IsOutside c txn
+pub outside : (P : Bytecode) (id : TableId) (c : Config) (own : Own) (txn : Option Attempting) → Rides P id c own txn
+    → (IsAskedInside (ask_of c.stage) → ⊥) → IsOutside c txn
 outside P id c own txn rides out =
     let none : c.attempt ≡ None = outside_by c.attempt (ask_of c.stage) rides.fits.attends out in
     record { attempt = none; idle = none_some txn (rides.running ∙ ap is_some none) }
@@ -108,10 +111,12 @@ event_asks Input event = tt
 event_asks TxBegin event = absurd event
 event_asks (TxEnd keep) event = absurd event
 
-pub event_outside : (P : Bytecode) (id : TableId) (c : Config) (own : Own) (txn : Option Attempting) → Rides P id c own txn → IsEvent (ask_of c.stage) → IsOutside c txn
+pub event_outside : (P : Bytecode) (id : TableId) (c : Config) (own : Own) (txn : Option Attempting) → Rides P id c own txn
+    → IsEvent (ask_of c.stage) → IsOutside c txn
 event_outside P id c own txn rides event = outside P id c own txn rides (event_inside (ask_of c.stage) event)
 
-pub event_life : (P : Bytecode) (id : TableId) (c : Config) (own : Own) (txn : Option Attempting) → Rides P id c own txn → IsEvent (ask_of c.stage) → LifeFor (ask_of c.stage) (life_of own.mine)
+pub event_life : (P : Bytecode) (id : TableId) (c : Config) (own : Own) (txn : Option Attempting) → Rides P id c own txn
+    → IsEvent (ask_of c.stage) → LifeFor (ask_of c.stage) (life_of own.mine)
 event_life P id c own txn rides event = rides_life P id c own txn rides (event_asks (ask_of c.stage) event)
 
 -- what each event call asks, but how far the thread is
@@ -124,7 +129,15 @@ record MayBegin (z : TableView) (v : PassView) : Type 0 where
   few : counted v.own.mine < 2 ^ 50
 
 may_call : (z : TableView) (v : PassView) (c : Call) → MayBegin z v → life_of v.own.mine ≡ life_for c → MayCall c z v
-may_call z v c may life = record { table = may.table; held = may.held; drawn = may.drawn; owed = may.owed; spare = may.spare; few = may.few; life = life }
+may_call z v c may life = record {
+  table = may.table;
+  held = may.held;
+  drawn = may.drawn;
+  owed = may.owed;
+  spare = may.spare;
+  few = may.few;
+  life = life;
+}
 
 may_by : (z : TableView) (v : PassView) (ask : Ask) → LifeFor ask (life_of v.own.mine) → MayBegin z v → MayAsk z v ask
 may_by z v Begin life may = may_call z v call.Begin may life
@@ -148,7 +161,8 @@ may_by z v (TxEnd keep) life may = tt
 pub no_draws : (txn : Option Attempting) (own : Own) → txn ≡ None → DrawsFor txn own → own.drawn ≡ []
 no_draws txn own none draws = (let d : DrawsFor None own = (rw none at draws) in d)
 
-pub may_ask : (P : Bytecode) (z : TableView) (c : Config) (v : PassView) (txn : Option Attempting) → Rides P z.id c v.own txn → v.own.owed ≡ [] → 0 < v.spare → IsEvent (ask_of c.stage) → MayAsk z v (ask_of c.stage)
+pub may_ask : (P : Bytecode) (z : TableView) (c : Config) (v : PassView) (txn : Option Attempting) → Rides P z.id c v.own txn → v.own.owed
+    ≡ [] → 0 < v.spare → IsEvent (ask_of c.stage) → MayAsk z v (ask_of c.stage)
 may_ask P z c v txn rides clear room event =
     let out = event_outside P z.id c v.own txn rides event in
     may_by z v (ask_of c.stage) (event_life P z.id c v.own txn rides event)

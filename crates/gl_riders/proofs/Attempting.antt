@@ -67,7 +67,8 @@ unnumbered (Some (k, false)) (Some a) is = refl
 
 pub access_answers :
     (P : Bytecode) (c : Config) (x : ℕ) (write : Option ℤ) (s : Seen) (own new : Own) → c.attempt ≡ None → life_of own.mine ≡ Running →
-    own.drawn ≡ [] → repeat_number (right_of own.mine x) write ≡ None → HasEntry x write own s new → IsAnswered P c (access_ask x write) (access_reply write s) own new None None
+    own.drawn ≡ [] → repeat_number (right_of own.mine x) write ≡ None → HasEntry x write own s new
+    → IsAnswered P c (access_ask x write) (access_reply write s) own new None None
 access_answers P c x None (Value a) own new none runs drawn first is = rw is.own (record {
   exchange = Made (Plain x is.number false false a false);
   gives = rw (none, same_nat x) refl;
@@ -140,7 +141,8 @@ access_answers P c x (Some b) (Raised k) own new none runs drawn first is = rw i
 -- a repeat
 pub repeat_answers :
     (P : Bytecode) (c : Config) (x nth : ℕ) (write : Option ℤ) (s : Seen) (own new : Own) → c.attempt ≡ None → life_of own.mine ≡ Running →
-    own.drawn ≡ [] → repeat_number (right_of own.mine x) write ≡ Some nth → is_raised s ≡ false → new ≡ repeated x nth (is_some write) (value_told write s) own →
+    own.drawn ≡ [] → repeat_number (right_of own.mine x) write ≡ Some nth → is_raised s ≡ false → new
+    ≡ repeated x nth (is_some write) (value_told write s) own →
     IsAnswered P c (access_ask x write) (access_reply write s) own new None None
 repeat_answers P c x nth None (Value a) own new none runs drawn again calm is = rw is (record {
   exchange = Made (Plain x nth true false a false);
@@ -181,10 +183,13 @@ repeat_answers P c x nth (Some b) (Raised k) own new none runs drawn again calm 
 
 -- the one or the other
 pub plain_answers :
-    (P : Bytecode) (c : Config) (x : ℕ) (write : Option ℤ) (s : Seen) (own new : Own) → c.attempt ≡ None → life_of own.mine ≡ Running → own.drawn ≡ [] →
-    PlainBy (repeat_number (right_of own.mine x) write) x write s own new → IsAnswered P c (access_ask x write) (access_reply write s) own new None None
+    (P : Bytecode) (c : Config) (x : ℕ) (write : Option ℤ) (s : Seen) (own new : Own) → c.attempt ≡ None → life_of own.mine ≡ Running
+    → own.drawn ≡ [] →
+    PlainBy (repeat_number (right_of own.mine x) write) x write s own new
+    → IsAnswered P c (access_ask x write) (access_reply write s) own new None None
 plain_answers P c x write s own new none runs drawn by = by_number (repeat_number (right_of own.mine x) write) refl by where
-  by_number : (o : Option ℕ) → repeat_number (right_of own.mine x) write ≡ o → PlainBy o x write s own new → IsAnswered P c (access_ask x write) (access_reply write s) own new None None
+  by_number : (o : Option ℕ) → repeat_number (right_of own.mine x) write ≡ o → PlainBy o x write s own new
+      → IsAnswered P c (access_ask x write) (access_reply write s) own new None None
   by_number None first is = access_answers P c x write s own new none runs drawn first is
   by_number (Some n) again is = repeat_answers P c x n write s own new none runs drawn again is.1 is.0
 
@@ -201,7 +206,8 @@ word_written [] x = refl
 word_written (w ∷ ws) x = by_test (w.var == x) (word_written ws x) where
   by_test :
       (b : Bool) → word_of (map write_pair ws) x ≡ option_map (λ w. w.value) (find (λ p. p.var == x) ws) →
-      (if b then Some w.value else word_of (map write_pair ws) x) ≡ option_map (λ w. w.value) (if b then Some w else find (λ p. p.var == x) ws)
+      (if b then Some w.value else word_of (map write_pair ws) x)
+      ≡ option_map (λ w. w.value) (if b then Some w else find (λ p. p.var == x) ws)
   by_test true more = refl
   by_test false more = more
 
@@ -210,7 +216,8 @@ word_looked [] x = refl
 word_looked (l ∷ ls) x = by_test (l.var == x) (word_looked ls x) where
   by_test :
       (b : Bool) → word_of (map look_pair ls) x ≡ option_map (λ l. l.value) (find (λ p. p.var == x) ls) →
-      (if b then Some l.value else word_of (map look_pair ls) x) ≡ option_map (λ l. l.value) (if b then Some l else find (λ p. p.var == x) ls)
+      (if b then Some l.value else word_of (map look_pair ls) x)
+      ≡ option_map (λ l. l.value) (if b then Some l else find (λ p. p.var == x) ls)
   by_test true more = refl
   by_test false more = more
 
@@ -234,24 +241,33 @@ turned x y = by_tests (x == y) (y == x) refl refl where
   by_tests true false p q = absurd (let e : x ≡ y = grind (arith, nat_tests) in let f : (y == x) ≡ true = eq-eqb y x (sym e) in cc)
   by_tests false true p q = absurd (let e : y ≡ x = grind (arith, nat_tests) in let f : (x == y) ≡ true = eq-eqb x y (sym e) in cc)
 
-put_looked : (x : ℕ) (value : ℤ) (nth : ℕ) (ls : List Look) → map look_pair (with_part (λ p. p.var) (record { var = x; value = value; nth = nth }) ls) ≡ with_word x value (map look_pair ls)
+put_looked : (x : ℕ) (value : ℤ) (nth : ℕ) (ls : List Look)
+    → map look_pair (with_part (λ p. p.var) (record { var = x; value = value; nth = nth }) ls) ≡ with_word x value (map look_pair ls)
 put_looked x value nth [] = refl
 put_looked x value nth (l ∷ ls) = rw (turned x l.var) (by_tests (l.var == x) (nat_lt x l.var) (put_looked x value nth ls)) where
   by_tests :
-      (b d : Bool) → map look_pair (with_part (λ p. p.var) (record { var = x; value = value; nth = nth }) ls) ≡ with_word x value (map look_pair ls) →
-      map look_pair (if b then (record { var = x; value = value; nth = nth }) ∷ ls else if d then (record { var = x; value = value; nth = nth }) ∷ (l ∷ ls) else l ∷ with_part (λ p. p.var) (record { var = x; value = value; nth = nth }) ls)
-      ≡ (if b then (x, value) ∷ map look_pair ls else if d then (x, value) ∷ look_pair l ∷ map look_pair ls else look_pair l ∷ with_word x value (map look_pair ls))
+      (b d : Bool) → map look_pair (with_part (λ p. p.var) (record { var = x; value = value; nth = nth }) ls)
+      ≡ with_word x value (map look_pair ls) →
+      map look_pair (if b then (record { var = x; value = value; nth = nth }) ∷ ls else if d
+      then (record { var = x; value = value; nth = nth }) ∷ (l ∷ ls) else l
+      ∷ with_part (λ p. p.var) (record { var = x; value = value; nth = nth }) ls)
+      ≡ (if b then (x, value) ∷ map look_pair ls else if d then (x, value) ∷ look_pair l ∷ map look_pair ls else look_pair l
+      ∷ with_word x value (map look_pair ls))
   by_tests true d more = refl
   by_tests false true more = refl
   by_tests false false more = ap (λ ws. look_pair l ∷ ws) more
 
-put_written : (x : ℕ) (value : ℤ) (ws : List Pair) → map write_pair (with_part (λ p. p.var) (record { var = x; value = value }) ws) ≡ with_word x value (map write_pair ws)
+put_written : (x : ℕ) (value : ℤ) (ws : List Pair) → map write_pair (with_part (λ p. p.var) (record { var = x; value = value }) ws)
+    ≡ with_word x value (map write_pair ws)
 put_written x value [] = refl
 put_written x value (w ∷ ws) = rw (turned x w.var) (by_tests (w.var == x) (nat_lt x w.var) (put_written x value ws)) where
   by_tests :
-      (b d : Bool) → map write_pair (with_part (λ p. p.var) (record { var = x; value = value }) ws) ≡ with_word x value (map write_pair ws) →
-      map write_pair (if b then (record { var = x; value = value }) ∷ ws else if d then (record { var = x; value = value }) ∷ (w ∷ ws) else w ∷ with_part (λ p. p.var) (record { var = x; value = value }) ws)
-      ≡ (if b then (x, value) ∷ map write_pair ws else if d then (x, value) ∷ write_pair w ∷ map write_pair ws else write_pair w ∷ with_word x value (map write_pair ws))
+      (b d : Bool) → map write_pair (with_part (λ p. p.var) (record { var = x; value = value }) ws)
+      ≡ with_word x value (map write_pair ws) →
+      map write_pair (if b then (record { var = x; value = value }) ∷ ws else if d then (record { var = x; value = value }) ∷ (w ∷ ws)
+      else w ∷ with_part (λ p. p.var) (record { var = x; value = value }) ws)
+      ≡ (if b then (x, value) ∷ map write_pair ws else if d then (x, value) ∷ write_pair w ∷ map write_pair ws else write_pair w
+      ∷ with_word x value (map write_pair ws))
   by_tests true d more = refl
   by_tests false true more = refl
   by_tests false false more = ap (λ us. write_pair w ∷ us) more
@@ -263,10 +279,13 @@ same_words_itself (w ∷ ws) = rw (same_nat w.0, same_int w.1, same_words_itself
 -- ## Replies that leave no entry
 
 quiet_answers :
-    (P : Bytecode) (c : Config) (ask : Ask) (reply : Reply) (own new : Own) (txn after : Option Attempting) → new ≡ record own { drawn = new.drawn } →
-    is_quiet c.attempt (progress_of c txn) ask reply ≡ true → suits c.attempt ask reply ≡ true → LeavesRightly c ask reply → StartsRight P reply →
+    (P : Bytecode) (c : Config) (ask : Ask) (reply : Reply) (own new : Own) (txn after : Option Attempting) → new
+    ≡ record own { drawn = new.drawn } →
+    is_quiet c.attempt (progress_of c txn) ask reply ≡ true → suits c.attempt ask reply ≡ true → LeavesRightly c ask reply
+    → StartsRight P reply →
     looks_of after ≡ looks_after (progress_of c txn) ask reply → writes_of after ≡ writes_after (progress_of c txn) ask reply →
-    is_some after ≡ runs_after ask (is_some txn) → ((l : Life) → l ≡ life_told ask l) → ((levels : List ℕ) → levels ≡ levels_told ask reply levels) →
+    is_some after ≡ runs_after ask (is_some txn) → ((l : Life) → l ≡ life_told ask l)
+    → ((levels : List ℕ) → levels ≡ levels_told ask reply levels) →
     DrawsFor after new → IsAnswered P c ask reply own new txn after
 quiet_answers P c ask reply own new txn after rest quiet fits leaves starts looks writes running life levels draws =
     let mine : new.mine ≡ own.mine = ap (λ (v : Own). v.mine) rest in
@@ -310,7 +329,8 @@ begin_answers P c own new a none drawn same is =
 
 knows_in : (c : Config) (a : Attempting) (x : ℕ) → knows (progress_of c (Some a)) x ≡ is_in a x
 knows_in c a x = rw (word_written a.writes x, word_looked a.looks x) (by_words (written a x) (looked a x)) where
-  by_words : (w : Option Pair) (l : Option Look) → (is_some (option_map (λ (v : Pair). v.value) w) || is_some (option_map (λ (v : Look). v.value) l)) ≡ is_in_by w l
+  by_words : (w : Option Pair) (l : Option Look)
+      → (is_some (option_map (λ (v : Pair). v.value) w) || is_some (option_map (λ (v : Look). v.value) l)) ≡ is_in_by w l
   by_words (Some w) l = refl
   by_words None (Some l) = refl
   by_words None None = refl
@@ -325,21 +345,26 @@ module _ (P : Bytecode) (c : Config) (att : Attempt) (runs : c.attempt ≡ Some 
   no_look : knows p x ≡ true → (value : ℤ) → p.looks ≡ looks_after p (Read x) (Answer value)
   no_look known value = rw (runs, known) refl
 
-  pub read_answers : (value : ℤ) (own new : Own) (b : Attempting) → DrawsFor (Some a) own → IsRead x value a own b new → IsAnswered P c (Read x) (Answer value) own new (Some a) (Some b)
+  pub read_answers : (value : ℤ) (own new : Own) (b : Attempting) → DrawsFor (Some a) own → IsRead x value a own b new
+      → IsAnswered P c (Read x) (Answer value) own new (Some a) (Some b)
   read_answers value own new b draws read = by_words (written a x) (looked a x) refl refl read where
     known_answers :
-        knows p x ≡ true → is_word (known_word (word_of p.writes x) (word_of p.looks x)) (nat_lt (touched p) TX_VARIABLES) value ≡ true → b ≡ a →
+        knows p x ≡ true → is_word (known_word (word_of p.writes x) (word_of p.looks x)) (nat_lt (touched p) TX_VARIABLES) value ≡ true → b
+        ≡ a →
         new ≡ own → IsAnswered P c (Read x) (Answer value) own new (Some a) (Some b)
     known_answers known word same_b same_new =
         rw same_b
-        (quiet_answers P c (Read x) (Answer value) own new (Some a) (Some a) (rw same_new refl) (rw runs word) refl tt tt (no_look known value) refl refl
+        (quiet_answers P c (Read x) (Answer value) own new (Some a) (Some a) (rw same_new refl) (rw runs word) refl tt tt
+        (no_look known value) refl refl
         (λ l. refl) (λ ls. refl) (rw same_new draws))
 
-    by_words : (w : Option Pair) (l : Option Look) → written a x ≡ w → looked a x ≡ l → ReadBy w l x value a own b new → IsAnswered P c (Read x) (Answer value) own new (Some a) (Some b)
+    by_words : (w : Option Pair) (l : Option Look) → written a x ≡ w → looked a x ≡ l → ReadBy w l x value a own b new
+        → IsAnswered P c (Read x) (Answer value) own new (Some a) (Some b)
     by_words (Some w) l is_w is_l r =
         known_answers (knows_in c a x ∙ rw is_w refl) (rw (word_written a.writes x, is_w, r.0) (same_int w.value)) r.1 r.2
     by_words None (Some l) is_w is_l r =
-        known_answers (knows_in c a x ∙ rw (is_w, is_l) refl) (rw (word_written a.writes x, is_w, word_looked a.looks x, is_l, r.0) (same_int l.value)) r.1 r.2
+        known_answers (knows_in c a x ∙ rw (is_w, is_l) refl)
+        (rw (word_written a.writes x, is_w, word_looked a.looks x, is_l, r.0) (same_int l.value)) r.1 r.2
     by_words None None is_w is_l r =
         let nth = r.0 in
         let room : nat_lt (touched p) TX_VARIABLES ≡ true = rw (touches c a) (search (rules, r.4)) in
@@ -347,16 +372,19 @@ module _ (P : Bytecode) (c : Config) (att : Attempt) (runs : c.attempt ≡ Some 
         let looks' : looks_of (Some b) ≡ looks_after p (Read x) (Answer value) = rw (runs, new_one, r.1) (put_looked x value nth a.looks) in
         let writes' : writes_of (Some b) ≡ writes_after p (Read x) (Answer value) = rw r.1 refl in
         quiet_answers P c (Read x) (Answer value) own new (Some a) (Some b) (drawn_rest own new _ r.3)
-        (rw (runs, word_written a.writes x, is_w, word_looked a.looks x, is_l) room) refl tt tt looks' writes' refl (λ l. refl) (λ ls. refl) r.2
+        (rw (runs, word_written a.writes x, is_w, word_looked a.looks x, is_l) room) refl tt tt looks' writes' refl (λ l. refl)
+        (λ ls. refl) r.2
 
   pub write_answers :
       (value : ℤ) (own new : Own) (b : Attempting) → DrawsFor (Some a) own → new ≡ own → b ≡ with_write x value a →
       (is_in a x ≡ true) ⊎ (size a < TX_VARIABLES) → IsAnswered P c (Write x value) Gone own new (Some a) (Some b)
   write_answers value own new b draws same_new is room =
-      let quiet : (knows p x || nat_lt (touched p) TX_VARIABLES) ≡ true = rw (knows_in c a x, touches c a) (by_room (is_in a x) (size a) room) in
+      let quiet : (knows p x || nat_lt (touched p) TX_VARIABLES)
+      ≡ true = rw (knows_in c a x, touches c a) (by_room (is_in a x) (size a) room) in
       let looks' : looks_of (Some b) ≡ looks_after p (Write x value) Gone = rw is refl in
       let writes' : writes_of (Some b) ≡ writes_after p (Write x value) Gone = rw (is, runs) (put_written x value a.writes) in
-      quiet_answers P c (Write x value) Gone own new (Some a) (Some b) (rw same_new refl) (rw runs quiet) refl tt tt looks' writes' refl (λ l. refl) (λ ls. refl)
+      quiet_answers P c (Write x value) Gone own new (Some a) (Some b) (rw same_new refl) (rw runs quiet) refl tt tt looks' writes' refl
+      (λ l. refl) (λ ls. refl)
       (rw (is, same_new) (record { looks = draws.looks; ends = draws.ends; each = draws.each }))
     where
       by_room : (k : Bool) (n : ℕ) → (k ≡ true) ⊎ (n < TX_VARIABLES) → (k || nat_lt n TX_VARIABLES) ≡ true
@@ -373,19 +401,23 @@ module _ (P : Bytecode) (c : Config) (att : Attempt) (runs : c.attempt ≡ Some 
 
     by_write : (w : Option ℤ) → IsAnswered P c (access_ask x w) (Raise TX_TOO_LARGE) own new (Some a) (Some a)
     by_write None =
-        quiet_answers P c (Read x) (Raise TX_TOO_LARGE) own new (Some a) (Some a) (rw same_new refl) (rw runs quiet) (rw runs refl) tt tt refl refl refl
+        quiet_answers P c (Read x) (Raise TX_TOO_LARGE) own new (Some a) (Some a) (rw same_new refl) (rw runs quiet) (rw runs refl) tt tt
+        refl refl refl
         (λ l. refl) (λ ls. refl) (rw same_new draws)
     by_write (Some b) =
-        quiet_answers P c (Write x b) (Raise TX_TOO_LARGE) own new (Some a) (Some a) (rw same_new refl) (rw runs quiet) (rw runs refl) tt tt refl refl refl
+        quiet_answers P c (Write x b) (Raise TX_TOO_LARGE) own new (Some a) (Some a) (rw same_new refl) (rw runs quiet) (rw runs refl) tt
+        tt refl refl refl
         (λ l. refl) (λ ls. refl) (rw same_new draws)
 
 -- ## The end of an attempt
 
 is_its : (c : Config) (a : Attempting) (keep : Bool) (tx : Tx) → IsEndOf a keep tx → is_its_end (progress_of c (Some a)) keep tx ≡ true
-is_its c a true tx end = rw (end.looks, end.writes, same_words_itself (map look_pair a.looks), same_words_itself (map write_pair a.writes)) refl
+is_its c a true tx end = rw (end.looks, end.writes, same_words_itself (map look_pair a.looks), same_words_itself (map write_pair a.writes))
+    refl
 is_its c a false tx end = rw (end.looks, end.writes, same_words_itself (map look_pair a.looks)) refl
 
-end_gives : (c : Config) (a : Attempting) (keep : Bool) (e : HowEnded) (tx : Tx) → IsEndOf a keep tx → reply_of (progress_of c (Some a)) (TxEnd keep) (Made (entry_of e tx)) ≡ Some (end_reply e)
+end_gives : (c : Config) (a : Attempting) (keep : Bool) (e : HowEnded) (tx : Tx) → IsEndOf a keep tx
+    → reply_of (progress_of c (Some a)) (TxEnd keep) (Made (entry_of e tx)) ≡ Some (end_reply e)
 end_gives c a keep (Done at) tx end = rw (is_its c a keep tx end) refl
 end_gives c a keep (WasRaised var) tx end = rw (is_its c a keep tx end) refl
 end_gives c a keep (Changed var read found) tx end = rw (is_its c a keep tx end) refl
@@ -395,7 +427,8 @@ end_lives l (Done at) tx runs = rw runs refl
 end_lives l (WasRaised var) tx runs = rw runs refl
 end_lives l (Changed var read found) tx runs = rw runs refl
 
-end_levels : (levels : List ℕ) (keep : Bool) (e : HowEnded) (tx : Tx) → levels_entry levels (entry_of e tx) ≡ levels_told (TxEnd keep) (end_reply e) levels
+end_levels : (levels : List ℕ) (keep : Bool) (e : HowEnded) (tx : Tx) → levels_entry levels (entry_of e tx)
+    ≡ levels_told (TxEnd keep) (end_reply e) levels
 end_levels levels keep (Done at) tx = refl
 end_levels levels keep (WasRaised var) tx = refl
 end_levels levels keep (Changed var read found) tx = refl
@@ -421,7 +454,8 @@ end_repeats (WasRaised var) tx own = tt
 end_repeats (Changed var read found) tx own = tt
 
 pub end_answers :
-    (P : Bytecode) (c : Config) (a : Attempting) (keep : Bool) (e : HowEnded) (own new : Own) → life_of own.mine ≡ Running → HasEnded a keep e own new →
+    (P : Bytecode) (c : Config) (a : Attempting) (keep : Bool) (e : HowEnded) (own new : Own) → life_of own.mine ≡ Running
+    → HasEnded a keep e own new →
     IsAnswered P c (TxEnd keep) (end_reply e) own new (Some a) None
 end_answers P c a keep e own new runs end = rw end.own (record {
   exchange = Made (entry_of e end.tx);

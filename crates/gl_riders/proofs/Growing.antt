@@ -22,12 +22,11 @@ use Rattle.gl_vm.specs.Orderly.{IsOrderly, StageIsOrderly}
 use Rattle.gl_vm.proofs.Work.{Falls, step_falls, entries_bounded}
 use Rattle.gl_rule.specs.Lives.{life_of}
 use Rattle.gl_table.specs.PassView.{Own}
-use Rattle.gl_table.specs.RightOf.{right_of}
 use Rattle.gl_txn.specs.Attempts.{Attempting}
-use Rattle.gl_riders.specs.Exchanges.{IsAnswered, LeavesRightly, RepeatsRightly, life_told, suits}
+use Rattle.gl_riders.specs.Exchanges.{IsAnswered, LeavesRightly, life_told, suits}
 use Rattle.gl_rule.specs.Levels.{levels_of}
 use Rattle.gl_riders.specs.Riding.{DrawsFor, Rides, life_of_state, progress_of}
-use Rattle.gl_riders.specs.Sparing.{Spares, allows}
+use Rattle.gl_riders.specs.Sparing.{Spares}
 use Rattle.gl_riders.specs.Sweeping.{AreTrims, IsSwept}
 use Rattle.gl_riders.proofs.Sparings.{spares_on, spares_trims}
 use Rattle.gl_riders.proofs.Lists.{IsOpen, counted_same, levels_swept, life_swept}
@@ -62,7 +61,8 @@ takes_stage P c reply (Leaves ending o) orderly fits leaves = leaves orderly.ent
 takes_stage P c reply (Ends ending) orderly fits leaves = fits
 takes_stage P c reply (IsOver ending) orderly fits leaves = cc
 
-pub takes_told : (P : Bytecode) (c : Config) (reply : Reply) → IsOrderly P c → suits c.attempt (ask_of c.stage) reply ≡ true → LeavesRightly c (ask_of c.stage) reply → takes c reply ≡ true
+pub takes_told : (P : Bytecode) (c : Config) (reply : Reply) → IsOrderly P c → suits c.attempt (ask_of c.stage) reply ≡ true
+    → LeavesRightly c (ask_of c.stage) reply → takes c reply ≡ true
 takes_told P c reply orderly fits leaves = takes_stage P c reply c.stage orderly.stage fits leaves
 
 -- ## One answer more
@@ -106,7 +106,8 @@ rides_on P id c reply own new txn after rides answered range attempt =
     let f : Falls P c ask reply d = step_falls P c reply rides.orderly taken in
     let told : told_one P answered.exchange p ≡ Some (progress_of d after) =
     ap (replied P p) answered.gives
-    ∙ ap (λ b. if b then Some (let q : Progress = record { config = d; looks = looks_after p ask reply; writes = writes_after p ask reply } in q) else None) taken
+    ∙ ap (λ b. if b then Some (let q : Progress = record { config = d; looks = looks_after p ask reply; writes = writes_after p ask reply }
+    in q) else None) taken
     ∙ (λ i. Some (record { config = d; looks = sym answered.looks i; writes = sym answered.writes i })) in
     let same_id : new.id ≡ own.id = ap (λ (v : Own). v.id) answered.rest in
     let bound = f.limit in
@@ -131,11 +132,14 @@ rides_on P id c reply own new txn after rides answered range attempt =
 
 -- ## Trims
 
-along_trims : (P : Bytecode) (steps t : ℕ) (list ts : List Entry) (p : Progress) → Along P steps t list p → AreTrims ts → Along P steps t (list ++ ts) p
-along_trims P steps t list [] p along trims = (let at : List Entry → Type 0 = λ es. Along P steps t es p in subst at (sym (append-nil list)) along)
+along_trims : (P : Bytecode) (steps t : ℕ) (list ts : List Entry) (p : Progress) → Along P steps t list p → AreTrims ts
+    → Along P steps t (list ++ ts) p
+along_trims P steps t list [] p along trims =
+    (let at : List Entry → Type 0 = λ es. Along P steps t es p in subst at (sym (append-nil list)) along)
 along_trims P steps t list (Trim low ∷ ts) p along trims =
     let at : List Entry → Type 0 = λ es. Along P steps t es p in
-    subst at (append_assoc list (Trim low ∷ []) ts) (along_trims P steps t (list ++ Trim low ∷ []) ts p (along_trim P steps t list p low along) trims)
+    subst at (append_assoc list (Trim low ∷ []) ts)
+    (along_trims P steps t (list ++ Trim low ∷ []) ts p (along_trim P steps t list p low along) trims)
 along_trims P steps t list (Sync at act value ∷ ts) p along trims = absurd trims
 along_trims P steps t list (Commit at tx ∷ ts) p along trims = absurd trims
 along_trims P steps t list (Plain x n k w v r ∷ ts) p along trims = absurd trims
@@ -153,14 +157,16 @@ draws_same (Some a) old new same draws = record {
   each = λ y. rw same (draws.each y);
 }
 
-pub rides_swept : (P : Bytecode) (id : TableId) (c : Config) (old new : Own) (txn : Option Attempting) → Rides P id c old txn → IsOpen (life_of old.mine) → IsSwept old new → Rides P id c new txn
+pub rides_swept : (P : Bytecode) (id : TableId) (c : Config) (old new : Own) (txn : Option Attempting) → Rides P id c old txn
+    → IsOpen (life_of old.mine) → IsSwept old new → Rides P id c new txn
 rides_swept P id c old new txn rides goes swept =
     let id : new.id ≡ old.id = ap (λ (v : Own). v.id) swept.own in
     let mine : new.mine ≡ old.mine ++ swept.trims = ap (λ (v : Own). v.mine) swept.own in
     record {
       along =
           (let at : ℕ × List Entry → Type 0 = λ t. Along P c.limit t.0 t.1 (progress_of c txn) in
-          subst at (λ i. (sym id i, sym mine i)) (along_trims P c.limit old.id old.mine swept.trims (progress_of c txn) rides.along swept.are_trims));
+          subst at (λ i. (sym id i, sym mine i)) (along_trims P c.limit old.id old.mine swept.trims (progress_of c txn) rides.along
+          swept.are_trims));
       short = rides.short;
       fits = rides.fits;
       orderly = rides.orderly;
@@ -170,13 +176,15 @@ rides_swept P id c old new txn rides goes swept =
       levels = ap levels_of mine ∙ levels_swept old.mine swept.trims swept.are_trims ∙ rides.levels;
       table = ap (λ (v : Own). v.table) swept.own ∙ rides.table;
       held = ap (λ (v : Own). v.held) swept.own ∙ rides.held;
-      spares = (let at : List Entry → Type 0 = λ es. Spares es in subst at (sym mine) (spares_trims old.mine swept.trims rides.spares swept.are_trims));
+      spares = (let at : List Entry → Type 0 = λ es. Spares es
+          in subst at (sym mine) (spares_trims old.mine swept.trims rides.spares swept.are_trims));
       drawn = draws_same txn old new (ap (λ (v : Own). v.drawn) swept.own) rides.drawn;
     }
 
 -- ## Words that are written back
 
-pub rides_paid : (P : Bytecode) (id : TableId) (c : Config) (old new : Own) (txn : Option Attempting) → Rides P id c old txn → new ≡ record old { owed = new.owed } → Rides P id c new txn
+pub rides_paid : (P : Bytecode) (id : TableId) (c : Config) (old new : Own) (txn : Option Attempting) → Rides P id c old txn → new
+    ≡ record old { owed = new.owed } → Rides P id c new txn
 rides_paid P id c old new txn rides paid = rw paid (record {
   along = rides.along;
   short = rides.short;
@@ -192,43 +200,10 @@ rides_paid P id c old new txn rides paid = rw paid (record {
   drawn = draws_same txn old (record old { owed = new.owed }) refl rides.drawn;
 })
 
--- an answer after some were written back
-pub answered_paid :
-    (P : Bytecode) (c : Config) (ask : Ask) (reply : Reply) (own mid new : Own) (txn after : Option Attempting) → mid ≡ record own { owed = mid.owed } →
-    IsAnswered P c ask reply mid new txn after → IsAnswered P c ask reply own new txn after
-answered_paid P c ask reply own mid new txn after paid answered =
-    let at : Own → Type 0 = λ v. IsAnswered P c ask reply v new txn after in
-    let a : IsAnswered P c ask reply (record own { owed = mid.owed }) new txn after = subst at paid answered in
-    record {
-      exchange = a.exchange;
-      gives = a.gives;
-      kept = a.kept;
-      fitting = a.fitting;
-      leaves = a.leaves;
-      starts = a.starts;
-      mine = a.mine;
-      rest = a.rest;
-      repeats = repeats_paid a.exchange own (record own { owed = mid.owed }) refl a.repeats;
-      looks = a.looks;
-      writes = a.writes;
-      running = a.running;
-      life = a.life;
-      levels = a.levels;
-      drawn = a.drawn;
-    }
-  where
-    repeats_paid : (x : Exchange) (v u : Own) → u.mine ≡ v.mine → RepeatsRightly x u → RepeatsRightly x v
-    repeats_paid (Quiet r) v u same by = tt
-    repeats_paid (Made (Sync at act value)) v u same by = tt
-    repeats_paid (Made (Commit at tx)) v u same by = tt
-    repeats_paid (Made (Abort tx why)) v u same by = tt
-    repeats_paid (Made (Trim low)) v u same by = by
-    repeats_paid (Made (Ended' e)) v u same by = by
-    repeats_paid (Made (Plain x n cached write value raised)) v u same by = by ∙ ap (λ es. allows (right_of es x) write) same
-
 -- ## What the calls ask
 
-pub rides_few : (P : Bytecode) (id : TableId) (c : Config) (own : Own) (txn : Option Attempting) → Rides P id c own txn → counted own.mine < 2 ^ 50
+pub rides_few : (P : Bytecode) (id : TableId) (c : Config) (own : Own) (txn : Option Attempting) → Rides P id c own txn
+    → counted own.mine < 2 ^ 50
 rides_few P id c own txn rides =
     let bound = entries_bounded P c.limit own.id own.mine (progress_of c txn) rides.along in
     let same = counted_same own.mine in

@@ -35,7 +35,8 @@ cons_cases x v xs (suc k, less, is) = inr (k, omega arith, is)
 pub filter_keeps : (p : ℕ × ℤ → Bool) (xs : List (ℕ × ℤ)) (v : ℕ × ℤ) → Contains xs v → p v ≡ true → Contains (filter p xs) v
 filter_keeps p [] v there passes = absurd (let less = there.1 in omega arith)
 filter_keeps p (x ∷ xs) v there passes = elim (cons_cases x v xs there) [
-  | inl same ↦ (let e : p x ≡ true = ap p same ∙ passes in rw e (let at : ℕ × ℤ → Type 0 = λ u. Contains (x ∷ filter p xs) u in subst at same (head_is x (filter p xs))))
+  | inl same ↦ (let e : p x ≡ true = ap p same ∙ passes
+      in rw e (let at : ℕ × ℤ → Type 0 = λ u. Contains (x ∷ filter p xs) u in subst at same (head_is x (filter p xs))))
   | inr more ↦ by_test (p x) (filter_keeps p xs v more passes)
 ] where
   by_test : (b : Bool) → Contains (filter p xs) v → Contains (cond b (x ∷ filter p xs) (filter p xs)) v
@@ -73,7 +74,8 @@ its_own x a = (let e : (x == x) ≡ true = eq-eqb x x refl in rw e refl)
 
 -- ## The last performed access
 
-pub last_new : (es : List Entry) (x nth : ℕ) (cached write : Bool) (value : ℤ) → IsLast (es ++ Plain x nth cached write value false ∷ []) x value
+pub last_new : (es : List Entry) (x nth : ℕ) (cached write : Bool) (value : ℤ)
+    → IsLast (es ++ Plain x nth cached write value false ∷ []) x value
 last_new es x nth cached write value =
     let e : Entry = Plain x nth cached write value false in
     let long : length (es ++ e ∷ []) ≡ length es + 1 = length-append es (e ∷ []) in
@@ -86,7 +88,8 @@ last_new es x nth cached write value =
       latest = λ j f v a after before has. absurd (omega arith);
     }
 
-pub last_kept : (es : List Entry) (e : Entry) (x : ℕ) (value : ℤ) → ((v : ℤ) → HasValue e x v → ⊥) → IsLast es x value → IsLast (es ++ e ∷ []) x value
+pub last_kept : (es : List Entry) (e : Entry) (x : ℕ) (value : ℤ) → ((v : ℤ) → HasValue e x v → ⊥) → IsLast es x value
+    → IsLast (es ++ e ∷ []) x value
 last_kept es e x value other last =
     let long : length (es ++ e ∷ []) ≡ length es + 1 = length-append es (e ∷ []) in
     let early = last.before in
@@ -102,17 +105,22 @@ last_kept es e x value other last =
       ];
     }
 
-pub last_other : (es : List Entry) (x y nth : ℕ) (cached write raised : Bool) (value was : ℤ) → y ≢ x → IsLast es y was → IsLast (es ++ Plain x nth cached write value raised ∷ []) y was
-last_other es x y nth cached write raised value was apart last = last_kept es (Plain x nth cached write value raised) y was (λ v has. apart (sym has.1)) last
+pub last_other : (es : List Entry) (x y nth : ℕ) (cached write raised : Bool) (value was : ℤ) → y ≢ x → IsLast es y was
+    → IsLast (es ++ Plain x nth cached write value raised ∷ []) y was
+last_other es x y nth cached write raised value was apart last =
+    last_kept es (Plain x nth cached write value raised) y was (λ v has. apart (sym has.1)) last
 
-pub last_raised : (es : List Entry) (x y nth : ℕ) (cached write : Bool) (value was : ℤ) → IsLast es y was → IsLast (es ++ Plain x nth cached write value true ∷ []) y was
-last_raised es x y nth cached write value was last = last_kept es (Plain x nth cached write value true) y was (λ v has. (let t : true ≡ false = has.0 in cc)) last
+pub last_raised : (es : List Entry) (x y nth : ℕ) (cached write : Bool) (value was : ℤ) → IsLast es y was
+    → IsLast (es ++ Plain x nth cached write value true ∷ []) y was
+last_raised es x y nth cached write value was last =
+    last_kept es (Plain x nth cached write value true) y was (λ v has. (let t : true ≡ false = has.0 in cc)) last
 
 pub last_trims : (es ts : List Entry) (x : ℕ) (value : ℤ) → AreTrims ts → IsLast es x value → IsLast (es ++ ts) x value
 last_trims es [] x value trims last = (let at : List Entry → Type 0 = λ fs. IsLast fs x value in subst at (sym (append-nil es)) last)
 last_trims es (Trim low ∷ ts) x value trims last =
     let at : List Entry → Type 0 = λ fs. IsLast fs x value in
-    subst at (append_assoc es (Trim low ∷ []) ts) (last_trims (es ++ Trim low ∷ []) ts x value trims (last_kept es (Trim low) x value (λ v has. has) last))
+    subst at (append_assoc es (Trim low ∷ []) ts)
+    (last_trims (es ++ Trim low ∷ []) ts x value trims (last_kept es (Trim low) x value (λ v has. has) last))
 last_trims es (Sync at act value' ∷ ts) x value trims last = absurd trims
 last_trims es (Commit at tx ∷ ts) x value trims last = absurd trims
 last_trims es (Plain y n k w v r ∷ ts) x value trims last = absurd trims

@@ -32,7 +32,8 @@ word_other ws x y w apart = get_or-set_other ws x y w None apart
 
 never_changed : (o : Option Word) (a : ℤ) → clean_word o ≡ Some (record { value = a; dirty = true }) → ⊥
 never_changed None a is = cc
-never_changed (Some w) a is = (let e : (record w { dirty = false }) ≡ record { value = a; dirty = true } = cc in let t : false ≡ true = ap (λ (v : Word). v.dirty) e in cc)
+never_changed (Some w) a is = (let e : (record w { dirty = false }) ≡ record { value = a; dirty = true } = cc in let t : false
+    ≡ true = ap (λ (v : Word). v.dirty) e in cc)
 
 -- one word is written back
 pub record IsPaid (ws : Words) (x : ℕ) (own new : Own) : Type 0 where
@@ -40,7 +41,8 @@ pub record IsPaid (ws : Words) (x : ℕ) (own new : Own) : Type 0 where
   pub less : length new.owed < length own.owed
 
 pub paid :
-    (ws : Words) (own new : Own) (x : ℕ) (a : ℤ) → Owns ws own → x < VARIABLES → IsChanged ws x a → new ≡ record own { owed = without_owed x own.owed } →
+    (ws : Words) (own new : Own) (x : ℕ) (a : ℤ) → Owns ws own → x < VARIABLES → IsChanged ws x a → new
+    ≡ record own { owed = without_owed x own.owed } →
     IsPaid ws x own new
 paid ws own new x a owns near changed new_is = rw new_is (record {
   owns = record {
@@ -52,10 +54,14 @@ paid ws own new x a owns near changed new_is = rw new_is (record {
       )
       | no apart ↦ (
         (λ there. word_other ws x y (clean_word (word_at ws x)) apart ∙ (owns.owed y b).0 (filter_has (others x) own.owed (y, b) there)),
-        (λ is. filter_keeps (others x) own.owed (y, b) ((owns.owed y b).1 (sym (word_other ws x y (clean_word (word_at ws x)) apart) ∙ is)) (is_other x y b apart)),
+        (λ is. filter_keeps (others x) own.owed (y, b) ((owns.owed y b).1 (sym (word_other ws x y (clean_word (word_at ws x)) apart) ∙ is))
+            (is_other x y b apart)),
       )
     ];
-    kept = λ y r right. elim (ℕ_discrete y x) [ yes same ↦ at_its y (owns.kept y r right) same | no apart ↦ elsewhere y (owns.kept y r right) apart ];
+    kept = λ y r right. elim (ℕ_discrete y x) [
+      | yes same ↦ at_its y (owns.kept y r right) same
+      | no apart ↦ elsewhere y (owns.kept y r right) apart
+    ];
     writes = λ y b there. owns.writes y b (filter_has (others x) own.owed (y, b) there);
   };
   less = fewer (others x) own.owed (x, a) ((owns.owed x a).1 changed) (its_own x a);
@@ -64,14 +70,16 @@ paid ws own new x a owns near changed new_is = rw new_is (record {
   at_its y h same = record {
     word = record h.word { dirty = false };
     there = (let at : ℕ → Type 0 = λ z. word_at (cleaned x ws) z ≡ Some (record h.word { dirty = false }) in
-        subst at (sym same) (word_same ws x (clean_word (word_at ws x)) near owns.long ∙ ap clean_word (ap (word_at ws) (sym same) ∙ h.there)));
+        subst at (sym same) (word_same ws x (clean_word (word_at ws x)) near owns.long
+        ∙ ap clean_word (ap (word_at ws) (sym same) ∙ h.there)));
     last = h.last;
   }
 
   elsewhere : (y : ℕ) → HasWord ws own.mine y → y ≢ x → HasWord (cleaned x ws) own.mine y
   elsewhere y h apart = record { word = h.word; there = word_other ws x y (clean_word (word_at ws x)) apart ∙ h.there; last = h.last }
 
-pub rest_on : (a b d : Own) (ws : List (ℕ × ℤ)) → b ≡ record a { owed = b.owed } → d ≡ record b { owed = ws } → d ≡ record a { owed = d.owed }
+pub rest_on : (a b d : Own) (ws : List (ℕ × ℤ)) → b ≡ record a { owed = b.owed } → d ≡ record b { owed = ws } → d
+    ≡ record a { owed = d.owed }
 rest_on a b d ws first is = rw is (ap (λ (v : Own). let o : Own = record v { owed = ws } in o) first)
 
 -- where no word was changed nothing is owed
@@ -94,22 +102,26 @@ right_there (Some (k, w)) n None is = (let same : k ≡ n = cc in record { by_wr
 right_there (Some (k, true)) n (Some a) is = (let same : k ≡ n = cc in record { by_write = true; is = rw same refl; enough = λ t. refl })
 right_there (Some (k, false)) n (Some a) is = cc
 
-pub has_word : (ws : Words) (own : Own) (x n : ℕ) (write : Option ℤ) → Owns ws own → repeat_number (right_of own.mine x) write ≡ Some n → HasWord ws own.mine x
+pub has_word : (ws : Words) (own : Own) (x n : ℕ) (write : Option ℤ) → Owns ws own → repeat_number (right_of own.mine x) write ≡ Some n
+    → HasWord ws own.mine x
 has_word ws own x n write owns may = (let r = right_there (right_of own.mine x) n write may in owns.kept x (n, r.by_write) r.is)
 
 -- what the table asks of a repeat
 may_cache :
-    (v : PassView) (x n : ℕ) (write : Option ℤ) (value : ℤ) → v.own.held ≡ [] → life_of v.own.mine ≡ Running → repeat_number (right_of v.own.mine x) write ≡ Some n →
+    (v : PassView) (x n : ℕ) (write : Option ℤ) (value : ℤ) → v.own.held ≡ [] → life_of v.own.mine ≡ Running
+    → repeat_number (right_of v.own.mine x) write ≡ Some n →
     (is_some write ≡ false → IsLast v.own.mine x value) → MayRepeat v x n (is_some write) value
 may_cache v x n write value held runs may last =
     let r = right_there (right_of v.own.mine x) n write may in
     record { held = held; runs = runs; by_write = r.by_write; right = r.is; enough = r.enough; word = last }
 
-found : (ws : Words) (mine : List Entry) (x : ℕ) (value : ℤ) → (h : HasWord ws mine x) → option_map (λ (w : Word). w.value) (word_at ws x) ≡ Some value → h.word.value ≡ value
+found : (ws : Words) (mine : List Entry) (x : ℕ) (value : ℤ) → (h : HasWord ws mine x) → option_map (λ (w : Word). w.value) (word_at ws x)
+    ≡ Some value → h.word.value ≡ value
 found ws mine x value h is = (let e : Some h.word.value ≡ Some value = ap (option_map (λ (w : Word). w.value)) (sym h.there) ∙ is in cc)
 
 pub may_read :
-    (v : PassView) (ws : Words) (x n : ℕ) (value : ℤ) → Owns ws v.own → v.own.held ≡ [] → life_of v.own.mine ≡ Running → repeat_number (right_of v.own.mine x) None ≡ Some n →
+    (v : PassView) (ws : Words) (x n : ℕ) (value : ℤ) → Owns ws v.own → v.own.held ≡ [] → life_of v.own.mine ≡ Running
+    → repeat_number (right_of v.own.mine x) None ≡ Some n →
     option_map (λ (w : Word). w.value) (word_at ws x) ≡ Some value → MayRepeat v x n false value
 may_read v ws x n value owns held runs may is =
     let h = has_word ws v.own x n None owns may in
@@ -117,12 +129,14 @@ may_read v ws x n value owns held runs may is =
     may_cache v x n None value held runs may (λ w. subst at (found ws v.own.mine x value h is) h.last)
 
 pub may_write :
-    (v : PassView) (x n : ℕ) (a : ℤ) → v.own.held ≡ [] → life_of v.own.mine ≡ Running → repeat_number (right_of v.own.mine x) (Some a) ≡ Some n →
+    (v : PassView) (x n : ℕ) (a : ℤ) → v.own.held ≡ [] → life_of v.own.mine ≡ Running → repeat_number (right_of v.own.mine x) (Some a)
+    ≡ Some n →
     MayRepeat v x n true a
 may_write v x n a held runs may = may_cache v x n (Some a) a held runs may (λ w. cc)
 
 pub owns_read :
-    (ws : Words) (own new : Own) (x nth : ℕ) (value : ℤ) → Owns ws own → option_map (λ (w : Word). w.value) (word_at ws x) ≡ Some value → new ≡ repeated x nth false value own → Owns ws new
+    (ws : Words) (own new : Own) (x nth : ℕ) (value : ℤ) → Owns ws own → option_map (λ (w : Word). w.value) (word_at ws x) ≡ Some value
+    → new ≡ repeated x nth false value own → Owns ws new
 owns_read ws own new x nth value owns is new_is = rw new_is (record {
   long = owns.long;
   owed = owns.owed;
@@ -132,7 +146,8 @@ owns_read ws own new x nth value owns is new_is = rw new_is (record {
     last = elim (ℕ_discrete y x) [
       | yes here ↦
           (let there' : word_at ws x ≡ Some h.word = ap (word_at ws) (sym here) ∙ h.there in
-          let v : value ≡ h.word.value = (let e : Some value ≡ Some h.word.value = sym is ∙ ap (option_map (λ (w : Word). w.value)) there' in cc) in
+          let v : value ≡ h.word.value = (let e : Some value ≡ Some h.word.value = sym is ∙ ap (option_map (λ (w : Word). w.value)) there'
+          in cc) in
           let at : ℕ × ℤ → Type 0 = λ t. IsLast (own.mine ++ Plain x nth true false value false ∷ []) t.0 t.1 in
           subst at (λ i. (sym here i, v i)) (last_new own.mine x nth true false value))
       | no apart ↦ last_other own.mine x y nth true false false value h.word.value apart h.last
@@ -144,7 +159,8 @@ owns_read ws own new x nth value owns is new_is = rw new_is (record {
   same y = unnumbered_right own.mine x nth true false false value y refl
 
 pub owns_write :
-    (ws : Words) (own new : Own) (x nth : ℕ) (a : ℤ) → Owns ws own → x < VARIABLES → repeat_number (right_of own.mine x) (Some a) ≡ Some nth → new ≡ repeated x nth true a own →
+    (ws : Words) (own new : Own) (x nth : ℕ) (a : ℤ) → Owns ws own → x < VARIABLES → repeat_number (right_of own.mine x) (Some a)
+    ≡ Some nth → new ≡ repeated x nth true a own →
     Owns (with_word x (record { value = a; dirty = true }) ws) new
 owns_write ws own new x nth a owns near may new_is = rw new_is (record {
   long = length-set ws x (Some w) ∙ owns.long;
@@ -213,16 +229,19 @@ first_right : (r : Option (ℕ × Bool)) (n : ℕ) (write : Option ℤ) → r �
 first_right None n write is may = cc
 first_right (Some (k, w)) n None is may = cc
 first_right (Some (k, true)) n (Some a) is may = cc
-first_right (Some (k, false)) n (Some a) is may = (let e : (k, false) ≡ (n, true) = cc in let t : false ≡ true = ap (λ (q : ℕ × Bool). q.1) e in cc)
+first_right (Some (k, false)) n (Some a) is may =
+    (let e : (k, false) ≡ (n, true) = cc in let t : false ≡ true = ap (λ (q : ℕ × Bool). q.1) e in cc)
 
 -- where there is no right, nothing is owed
-pub unowed : (ws : Words) (own : Own) (x : ℕ) (write : Option ℤ) → Owns ws own → repeat_number (right_of own.mine x) write ≡ None → (o : ℕ × ℤ) → Contains own.owed o → o.0 ≡ x → ⊥
+pub unowed : (ws : Words) (own : Own) (x : ℕ) (write : Option ℤ) → Owns ws own → repeat_number (right_of own.mine x) write ≡ None
+    → (o : ℕ × ℤ) → Contains own.owed o → o.0 ≡ x → ⊥
 unowed ws own x write owns may o there is =
     let m = owns.writes o.0 o.1 there in
     first_right (right_of own.mine x) m.nth write (ap (right_of own.mine) (sym is) ∙ m.right) may
 
 pub owns_access :
-    (ws : Words) (own new : Own) (x : ℕ) (write : Option ℤ) (v : ℤ) → Owns ws own → x < VARIABLES → repeat_number (right_of own.mine x) write ≡ None →
+    (ws : Words) (own new : Own) (x : ℕ) (write : Option ℤ) (v : ℤ) → Owns ws own → x < VARIABLES
+    → repeat_number (right_of own.mine x) write ≡ None →
     HasEntry x write own (Value v) new → Owns (with_word x (record { value = value_told write (Value v); dirty = false }) ws) new
 owns_access ws own new x write v owns near may entry = rw entry.own (record {
   long = length-set ws x (Some w) ∙ owns.long;
@@ -269,7 +288,8 @@ owns_access ws own new x write v owns near may entry = rw entry.own (record {
   e : Entry
   e = Plain x entry.number false (is_some write) (value_told write (Value v)) false
 
-  put : word_at (with_word x (record { value = value_told write (Value v); dirty = false }) ws) x ≡ Some (record { value = value_told write (Value v); dirty = false })
+  put : word_at (with_word x (record { value = value_told write (Value v); dirty = false }) ws) x
+      ≡ Some (record { value = value_told write (Value v); dirty = false })
   put = word_same ws x (Some (record { value = value_told write (Value v); dirty = false })) near owns.long
 
   behind : (y : ℕ) → y ≢ x → right_of (own.mine ++ e ∷ []) y ≡ right_of own.mine y
@@ -278,7 +298,8 @@ owns_access ws own new x write v owns near may entry = rw entry.own (record {
     by_test true t = absurd (apart (let p : x ≡ y = grind (arith, nat_tests) in sym p))
     by_test false t = refl
 
-pub owns_raised : (ws : Words) (own new : Own) (x k : ℕ) (write : Option ℤ) → Owns ws own → HasEntry x write own (Raised k) new → Owns ws new
+pub owns_raised : (ws : Words) (own new : Own) (x k : ℕ) (write : Option ℤ) → Owns ws own → HasEntry x write own (Raised k) new
+    → Owns ws new
 owns_raised ws own new x k write owns entry = rw entry.own (record {
   long = owns.long;
   owed = owns.owed;
@@ -289,7 +310,8 @@ owns_raised ws own new x k write owns entry = rw entry.own (record {
   });
   writes = λ y b there. (let m = owns.writes y b there in record { nth = m.nth; right = same y ∙ m.right });
 }) where
-  same : (y : ℕ) → right_of (own.mine ++ Plain x entry.number false (is_some write) (value_told write (Raised k)) true ∷ []) y ≡ right_of own.mine y
+  same : (y : ℕ) → right_of (own.mine ++ Plain x entry.number false (is_some write) (value_told write (Raised k)) true ∷ []) y
+      ≡ right_of own.mine y
   same y = unnumbered_right own.mine x entry.number false (is_some write) true (value_told write (Raised k)) y refl
 
 pub value_or : (write : Option ℤ) (v : ℤ) → unwrap_or write v ≡ value_told write (Value v)
@@ -320,5 +342,6 @@ owns_swept ws own new swept owns = rw swept.own (record {
     there = h.there;
     last = last_trims own.mine swept.trims x h.word.value swept.are_trims h.last;
   });
-  writes = λ x a there. (let m = owns.writes x a there in record { nth = m.nth; right = right_swept own.mine swept.trims x swept.are_trims ∙ m.right });
+  writes = λ x a there. (let m = owns.writes x a there
+      in record { nth = m.nth; right = right_swept own.mine swept.trims x swept.are_trims ∙ m.right });
 })

@@ -1,10 +1,9 @@
 -- The rights of a list stay what it grants, and the list stays sparing.
-use Rattle.std.proofs.Common.{◌≡◌, ◌≢◌, ℕ, ℤ, zero, suc, ◌<◌, ◌==◌, Bool, true, false, ◌||◌, List, [], ◌∷◌, ◌++◌, length, refl, sym, ◌∙◌, ap, subst, arith, Option, Some, None, inl, inr, eq-eqb}
+use Rattle.std.proofs.Common.{◌≡◌, ◌≢◌, ℕ, ℤ, ◌<◌, ◌==◌, Bool, true, false, ◌||◌, List, [], ◌∷◌, ◌++◌, length, refl, sym, ◌∙◌, ap, subst, arith, Option, Some, None, inl, inr, eq-eqb}
 use Rattle.std.specs.Prelude.{◌⊎◌, ◌↔◌, if◌then◌else◌}
 use Rattle.std.proofs.lemmas.Bool.Decides.{nat_tests}
 use Rattle.std.proofs.lemmas.List.{append-nil, append_assoc}
 use native.Mathlib.Decide.{ℕ_discrete}
-use Rattle.gl_model.specs.declared.event.Act.{Act}
 use Rattle.gl_model.specs.Entries.{Entry, Sync, Commit, Plain, Abort, Trim, Over}
 use Rattle.gl_model.specs.Form.{At, EndsRights, GivesRight}
 use Rattle.gl_draws.proofs.Pushes.{at_kept, at_new, at_cases, at_within}
@@ -55,7 +54,8 @@ given_is es i x write (j, less, (e, there, (m, (w, gives, enough))), no_end) = r
 is_given : (es : List Entry) (i x : ℕ) (write : Bool) → IsGiven es i x write → Given es i x write
 is_given es i x write g = (g.j, g.before, (g.entry, g.there, (g.nth, (g.w, g.gives, g.enough))), g.no_end)
 
-given_more : (es : List Entry) (e : Entry) (i x : ℕ) (write : Bool) → i < length es → IsGiven es i x write → IsGiven (es ++ e ∷ []) i x write
+given_more : (es : List Entry) (e : Entry) (i x : ℕ) (write : Bool) → i < length es → IsGiven es i x write
+    → IsGiven (es ++ e ∷ []) i x write
 given_more es e i x write less g = record {
   j = g.j;
   before = g.before;
@@ -68,7 +68,8 @@ given_more es e i x write less g = record {
   no_end = λ l f a after low ends. g.no_end l f (at_before es e f l (omega arith) a) after low ends;
 }
 
-given_less : (es : List Entry) (e : Entry) (i x : ℕ) (write : Bool) → i < length es → IsGiven (es ++ e ∷ []) i x write → IsGiven es i x write
+given_less : (es : List Entry) (e : Entry) (i x : ℕ) (write : Bool) → i < length es → IsGiven (es ++ e ∷ []) i x write
+    → IsGiven es i x write
 given_less es e i x write less g =
     let before = g.before in
     record {
@@ -84,7 +85,8 @@ given_less es e i x write less g =
     }
 
 -- at the end of the list it is what the list grants
-granted_given : (es : List Entry) (e : Entry) (x : ℕ) (write w : Bool) → Grants es x w → (write ≡ true → w ≡ true) → IsGiven (es ++ e ∷ []) (length es) x write
+granted_given : (es : List Entry) (e : Entry) (x : ℕ) (write w : Bool) → Grants es x w → (write ≡ true → w ≡ true)
+    → IsGiven (es ++ e ∷ []) (length es) x write
 granted_given es e x write w g enough = record {
   j = g.index;
   before = at_within es g.index g.entry g.there;
@@ -109,7 +111,8 @@ given_granted es e x write g = record {
 
 -- an entry is as sparing asks at the end of the list
 abbrev IsSparedNext : List Entry → Entry → Type 0
-IsSparedNext es e = (x k : ℕ) (cached write raised : Bool) (value : ℤ) → e ≡ Plain x k cached write value raised → (cached ≡ true) ↔ IsGiven (es ++ e ∷ []) (length es) x write
+IsSparedNext es e = (x k : ℕ) (cached write raised : Bool) (value : ℤ) → e ≡ Plain x k cached write value raised
+    → (cached ≡ true) ↔ IsGiven (es ++ e ∷ []) (length es) x write
 
 spared_more : (es : List Entry) (e : Entry) → IsSpared es → IsSparedNext es e → IsSpared (es ++ e ∷ [])
 spared_more es e spared next i x k cached write raised value a = elim (at_cases es e (Plain x k cached write value raised) i a) [
@@ -133,7 +136,8 @@ spared_more es e spared next i x k cached write raised value a = elim (at_cases 
 
 -- what is granted after one entry more was granted before, or is given by that entry
 granted_old :
-    (es : List Entry) (e : Entry) (x : ℕ) (w : Bool) → ((m : ℕ) → GivesRight e x m w → ⊥) → Grants (es ++ e ∷ []) x w → Grants es x w × (EndsRights e → ⊥)
+    (es : List Entry) (e : Entry) (x : ℕ) (w : Bool) → ((m : ℕ) → GivesRight e x m w → ⊥) → Grants (es ++ e ∷ []) x w → Grants es x w
+    × (EndsRights e → ⊥)
 granted_old es e x w other g = elim (at_cases es e g.entry g.index g.there) [
   | inl old ↦
       (let less = at_within es g.index g.entry old in (
@@ -231,14 +235,17 @@ right_noted es (Trim low) x note = right_push es (Trim low) x
 right_noted es (Over ending) x note = right_push es (Over ending) x
 
 -- the same right, where an entry changes none
-right_to : (es : List Entry) (e : Entry) (x : ℕ) (w : Bool) → right_of (es ++ e ∷ []) x ≡ right_of es x → HasRightTo es x w → HasRightTo (es ++ e ∷ []) x w
+right_to : (es : List Entry) (e : Entry) (x : ℕ) (w : Bool) → right_of (es ++ e ∷ []) x ≡ right_of es x → HasRightTo es x w
+    → HasRightTo (es ++ e ∷ []) x w
 right_to es e x w same r = record { nth = r.nth; by_write = r.by_write; right = same ∙ r.right; enough = r.enough }
 
 pub spares_note : (es : List Entry) (e : Entry) → Spares es → IsNote e → Spares (es ++ e ∷ [])
 spares_note es e s note = record {
   granted = λ x n w is. granted_kept es e x w (λ ends. note_goes e note ends) (s.granted x n w (sym (right_noted es e x note) ∙ is));
-  complete = λ x w g. right_to es e x w (right_noted es e x note) (s.complete x w (granted_old es e x w (λ m gives. note_gives e x m w note gives) g).0);
-  spared = spared_more es e s.spared (λ x k cached write raised value is. absurd (let at : Entry → Type 0 = λ f. IsNote f in subst at is note));
+  complete = λ x w g. right_to es e x w (right_noted es e x note)
+      (s.complete x w (granted_old es e x w (λ m gives. note_gives e x m w note gives) g).0);
+  spared = spared_more es e s.spared (λ x k cached write raised value is. absurd (let at : Entry → Type 0 = λ f. IsNote f
+      in subst at is note));
 }
 
 pub spares_trims : (es ts : List Entry) → Spares es → AreTrims ts → Spares (es ++ ts)
@@ -260,7 +267,8 @@ record IsAllowed (es : List Entry) (x : ℕ) (write : Bool) : Type 0 where
   grants : Grants es x w
   enough : write ≡ true → w ≡ true
 
-allowed_by : (es : List Entry) (x : ℕ) (write : Bool) (o : Option (ℕ × Bool)) → Spares es → right_of es x ≡ o → allows o write ≡ true → IsAllowed es x write
+allowed_by : (es : List Entry) (x : ℕ) (write : Bool) (o : Option (ℕ × Bool)) → Spares es → right_of es x ≡ o → allows o write ≡ true
+    → IsAllowed es x write
 allowed_by es x write None s is may = cc
 allowed_by es x true (Some (n, w)) s is may = record { w = w; grants = s.granted x n w is; enough = λ t. may }
 allowed_by es x false (Some (n, w)) s is may = record { w = w; grants = s.granted x n w is; enough = λ t. cc }
@@ -269,13 +277,11 @@ allows_right : (write w : Bool) (n : ℕ) → (write ≡ true → w ≡ true) �
 allows_right true w n enough = enough refl
 allows_right false w n enough = refl
 
-right_allows : (es : List Entry) (x : ℕ) (write w : Bool) → Spares es → Grants es x w → (write ≡ true → w ≡ true) → allows (right_of es x) write ≡ true
+right_allows : (es : List Entry) (x : ℕ) (write w : Bool) → Spares es → Grants es x w → (write ≡ true → w ≡ true)
+    → allows (right_of es x) write ≡ true
 right_allows es x write w s g enough =
     let r = s.complete x w g in
     ap (λ o. allows o write) r.right ∙ allows_right write r.by_write r.nth (λ t. r.enough (enough t))
-
-plain_goes : (x n : ℕ) (cached write raised : Bool) (value : ℤ) → EndsRights (Plain x n cached write value raised) → ⊥
-plain_goes x n cached write raised value ends = ends
 
 plain_spared :
     (es : List Entry) (x n : ℕ) (cached write raised : Bool) (value : ℤ) → Spares es → cached ≡ allows (right_of es x) write →
@@ -293,14 +299,16 @@ plain_spared es x n cached write raised value s is y k cached' write' raised' va
     )
 
 -- a repeat, or a raised access, changes no right
-pub unnumbered_right : (es : List Entry) (x n : ℕ) (cached write raised : Bool) (value : ℤ) (y : ℕ) → (cached || raised) ≡ true → right_of (es ++ Plain x n cached write value raised ∷ []) y ≡ right_of es y
+pub unnumbered_right : (es : List Entry) (x n : ℕ) (cached write raised : Bool) (value : ℤ) (y : ℕ) → (cached || raised) ≡ true
+    → right_of (es ++ Plain x n cached write value raised ∷ []) y ≡ right_of es y
 unnumbered_right es x n true write raised value y none = right_push es (Plain x n true write value raised) y
 unnumbered_right es x n false write true value y none = right_push es (Plain x n false write value true) y
 unnumbered_right es x n false write false value y none = cc
 
 -- a numbered performed entry
 numbered :
-    (es : List Entry) (x n : ℕ) (write : Bool) (value : ℤ) → Spares es → false ≡ allows (right_of es x) write → Spares (es ++ Plain x n false write value false ∷ [])
+    (es : List Entry) (x n : ℕ) (write : Bool) (value : ℤ) → Spares es → false ≡ allows (right_of es x) write
+    → Spares (es ++ Plain x n false write value false ∷ [])
 numbered es x n write value s is = record {
   granted = λ y m w right. by_test y m w (x == y) refl (sym (right_push es e y) ∙ right);
   complete = λ y w g. complete' y w g;
@@ -316,7 +324,11 @@ numbered es x n write value s is = record {
     there = at_new es e;
     nth = n;
     gives = (refl, refl, refl, refl, refl);
-    no_end = λ l f a after ends. (let less = at_within (es ++ e ∷ []) l f a in elim (at_cases es e f l a) [ inl old ↦ (let within = at_within es l f old in absurd (omega arith)) | inr new ↦ (let j = new.0 in absurd (omega arith)) ]);
+    no_end = λ l f a after ends. (let less = at_within (es ++ e ∷ []) l f a
+        in elim (at_cases es e f l a) [
+          | inl old ↦ (let within = at_within es l f old in absurd (omega arith))
+          | inr new ↦ (let j = new.0 in absurd (omega arith))
+        ]);
   }
 
   by_test : (y m : ℕ) (w b : Bool) → (x == y) ≡ b → (if b then Some (n, write) else right_of es y) ≡ Some (m, w) → Grants (es ++ e ∷ []) y w
@@ -362,7 +374,8 @@ numbered es x n write value s is = record {
                 } in
                 let at : ℕ → Type 0 = λ z. Grants es z w in
                 weaker w (subst at same g') t)
-            | inr new ↦ (let at : Entry → Type 0 = λ f. GivesRight f y g.nth w in let gives : GivesRight e y g.nth w = subst at new.1 g.gives in gives.4 ∙ t)
+            | inr new ↦ (let at : Entry → Type 0 = λ f. GivesRight f y g.nth w
+                in let gives : GivesRight e y g.nth w = subst at new.1 g.gives in gives.4 ∙ t)
           ];
         })
     | no other ↦
@@ -376,7 +389,8 @@ unnumbered :
     (cached || raised) ≡ true → Spares (es ++ Plain x n cached write value raised ∷ [])
 unnumbered es x n cached write raised value s is none = record {
   granted = λ y m w right. granted_kept es e y w (λ ends. ends) (s.granted y m w (sym (right_same y) ∙ right));
-  complete = λ y w g. right_to es e y w (right_same y) (s.complete y w (granted_old es e y w (λ m gives. neither cached raised none gives.0 gives.1) g).0);
+  complete = λ y w g. right_to es e y w (right_same y)
+      (s.complete y w (granted_old es e y w (λ m gives. neither cached raised none gives.0 gives.1) g).0);
   spared = spared_more es e s.spared (plain_spared es x n cached write raised value s is);
 } where
   e : Entry
@@ -391,7 +405,8 @@ unnumbered es x n cached write raised value s is none = record {
   neither false false some is' is'' = cc
 
 pub spares_plain :
-    (es : List Entry) (x n : ℕ) (cached write raised : Bool) (value : ℤ) → Spares es → cached ≡ allows (right_of es x) write → Spares (es ++ Plain x n cached write value raised ∷ [])
+    (es : List Entry) (x n : ℕ) (cached write raised : Bool) (value : ℤ) → Spares es → cached ≡ allows (right_of es x) write
+    → Spares (es ++ Plain x n cached write value raised ∷ [])
 spares_plain es x n true write raised value s is = unnumbered es x n true write raised value s is refl
 spares_plain es x n false write true value s is = unnumbered es x n false write true value s is refl
 spares_plain es x n false write false value s is = numbered es x n write value s is
@@ -406,45 +421,11 @@ spares_entry own (Plain x n cached write value raised) s r = spares_plain own.mi
 spares_entry own (Trim low) s r = absurd r
 spares_entry own (Over ending) s r = absurd r
 
-pub spares_on : (own new : Own) (x : Exchange) → Spares own.mine → RepeatsRightly x own → new.mine ≡ own.mine ++ entries_of (x ∷ []) → Spares new.mine
+pub spares_on : (own new : Own) (x : Exchange) → Spares own.mine → RepeatsRightly x own → new.mine ≡ own.mine ++ entries_of (x ∷ [])
+    → Spares new.mine
 spares_on own new (Made e) s r mine = rw mine (spares_entry own e s r)
 spares_on own new (Quiet reply) s r mine =
     let mine' : new.mine ≡ own.mine = mine ∙ append-nil own.mine in
     rw mine' s
 
 -- ## What the definition refuses
-
--- two reads of a variable, both numbered, in one block
-pub numbers_each : (x : ℕ) (a : ℤ) → IsSpared (Plain x 0 false false a false ∷ Plain x 1 false false a false ∷ []) → ⊥
-numbers_each x a spared =
-    let es : List Entry = Plain x 0 false false a false ∷ Plain x 1 false false a false ∷ [] in
-    let right : IsGiven es 1 x false = record {
-      j = 0;
-      before = omega arith;
-      entry = Plain x 0 false false a false;
-      there = refl;
-      nth = 0;
-      w = false;
-      gives = (refl, refl, refl, refl, refl);
-      enough = λ t. t;
-      no_end = λ l f at after low ends. absurd (omega arith);
-    } in
-    let said : false ≡ true = (spared 1 x 1 false false false a refl).1 (is_given es 1 x false right) in
-    cc
-
--- a repeat behind an event
-pub repeats_late : (x p : ℕ) (act : Act) (a b : ℤ) → IsSpared (Plain x 0 false false a false ∷ Sync p act b ∷ Plain x 0 true false a false ∷ []) → ⊥
-repeats_late x p act a b spared =
-    let es : List Entry = Plain x 0 false false a false ∷ Sync p act b ∷ Plain x 0 true false a false ∷ [] in
-    let g : IsGiven es 2 x false = given_is es 2 x false ((spared 2 x 0 true false false a refl).0 refl) in
-    by_place es g.j g.before g.entry g.there g.nth g.w g.gives (λ low. g.no_end 1 (Sync p act b) refl low (omega arith) tt) refl where
-      by_place :
-          (es : List Entry) (j : ℕ) → j < 2 → (e : Entry) → At es j e → (m : ℕ) (w : Bool) → GivesRight e x m w → (j < 1 → ⊥) →
-          es ≡ Plain x 0 false false a false ∷ Sync p act b ∷ Plain x 0 true false a false ∷ [] → ⊥
-      by_place es zero less e there m w gives early is = early (omega arith)
-      by_place es (suc zero) less e there m w gives early is =
-          let there' : Some (Sync p act b) ≡ Some e = (let at : List Entry → Type 0 = λ fs. At fs 1 e in subst at is there) in
-          let same : Sync p act b ≡ e = cc in
-          let at : Entry → Type 0 = λ f. GivesRight f x m w in
-          subst at (sym same) gives
-      by_place es (suc (suc n)) less e there m w gives early is = absurd (omega arith)

@@ -17,7 +17,7 @@ use Rattle.gl_bytecode.specs.Machine.{Config}
 use Rattle.gl_bytecode.specs.Programs.{Bytecode}
 use Rattle.gl_bytecode.specs.Runs.{Made, reply_of_act, looks_after, writes_after}
 use Rattle.gl_vm.specs.Asking.{levels_told}
-use Rattle.gl_events.specs.Calls.{child_in, done_of, not_owner, heap_full, threads_full, input_end, bad_thread}
+use Rattle.gl_events.specs.Calls.{child_in, not_owner, heap_full, threads_full, input_end, bad_thread}
 use Rattle.gl_events.specs.declared.done.Done.{Done}
 use Rattle.gl_rule.specs.Lives.{Life, Unbegun, Running, life_after, life_of}
 use Rattle.gl_table.specs.Doing.{told}
@@ -54,7 +54,8 @@ module _ (c : Config) (none : c.attempt ≡ None) (life : Life) (levels : List �
     by_level true out five = rw five (record {
       gives = rw (same_int (pos o)) refl;
       fits = refl;
-      leaves = λ entered. (let in' : 0 < slice_index levels o = (rw same entered) in let z : slice_index levels o ≡ 0 = grind (arith, nat_tests) in absurd (omega arith));
+      leaves = λ entered. (let in' : 0 < slice_index levels o = (rw same entered) in let z : slice_index levels o
+          ≡ 0 = grind (arith, nat_tests) in absurd (omega arith));
       lives = λ at. rw runs refl;
       changes = refl;
     })
@@ -66,8 +67,10 @@ module _ (c : Config) (none : c.attempt ≡ None) (life : Life) (levels : List �
       changes = refl;
     })
 
-  fork_tells : (f : ℕ) (a : ℤ) (code : ℕ) (value : ℤ) → life ≡ Running → ((code ≡ 0) × (value ≡ pos (child_in value))) ⊎ (code ≡ threads_full) →
-      Tells c life levels (Fork f a) (if code == 0 then Forked (child_in value) f else Fail threads_full) (if code == 0 then a else pos 0) (answer_or code value)
+  fork_tells : (f : ℕ) (a : ℤ) (code : ℕ) (value : ℤ) → life ≡ Running → ((code ≡ 0) × (value ≡ pos (child_in value)))
+      ⊎ (code ≡ threads_full) →
+      Tells c life levels (Fork f a) (if code == 0 then Forked (child_in value) f else Fail threads_full) (if code == 0 then a else pos 0)
+      (answer_or code value)
   fork_tells f a code value runs (inl z) =
       rw z.0 (record {
         gives = rw (same_nat f, same_int a) (ap (λ v. Some (Value v)) (sym z.1));
@@ -76,22 +79,34 @@ module _ (c : Config) (none : c.attempt ≡ None) (life : Life) (levels : List �
         lives = λ at. rw runs refl;
         changes = refl;
       })
-  fork_tells f a code value runs (inr e) = rw e (record { gives = refl; fits = refl; leaves = tt; lives = λ at. rw runs refl; changes = refl })
+  fork_tells f a code value runs (inr e) = rw e
+      (record { gives = refl; fits = refl; leaves = tt; lives = λ at. rw runs refl; changes = refl })
 
   join_tells : (u code : ℕ) → life ≡ Running → (code ≡ 0) ⊎ (code ≡ bad_thread) →
       Tells c life levels (Join u) (if code == 0 then Joined u else Fail bad_thread) (if code == 0 then pos 0 else pos u) (go_or code)
-  join_tells u code runs (inl z) = rw z (record { gives = rw (same_nat u) refl; fits = refl; leaves = tt; lives = λ at. rw runs refl; changes = refl })
-  join_tells u code runs (inr e) = rw e (record { gives = rw (same_int (pos u)) refl; fits = refl; leaves = tt; lives = λ at. rw runs refl; changes = refl })
+  join_tells u code runs (inl z) = rw z (record
+      { gives = rw (same_nat u) refl; fits = refl; leaves = tt; lives = λ at. rw runs refl; changes = refl })
+  join_tells u code runs (inr e) = rw e (record {
+    gives = rw (same_int (pos u)) refl;
+    fits = refl;
+    leaves = tt;
+    lives = λ at. rw runs refl;
+    changes = refl;
+  })
 
   alloc_tells : (k code : ℕ) (value : ℤ) → life ≡ Running → (code ≡ 0) ⊎ (code ≡ heap_full) →
-      Tells c life levels (Alloc k) (if code == 0 then Allocated k else Fail heap_full) (if code == 0 then value else pos k) (answer_or code value)
-  alloc_tells k code value runs (inl z) = rw z (record { gives = rw (same_nat k) refl; fits = refl; leaves = tt; lives = λ at. rw runs refl; changes = refl })
-  alloc_tells k code value runs (inr e) = rw e (record { gives = rw (same_int (pos k)) refl; fits = refl; leaves = tt; lives = λ at. rw runs refl; changes = refl })
+      Tells c life levels (Alloc k) (if code == 0 then Allocated k else Fail heap_full) (if code == 0 then value else pos k)
+      (answer_or code value)
+  alloc_tells k code value runs (inl z) = rw z
+      (record { gives = rw (same_nat k) refl; fits = refl; leaves = tt; lives = λ at. rw runs refl; changes = refl })
+  alloc_tells k code value runs (inr e) = rw e
+      (record { gives = rw (same_int (pos k)) refl; fits = refl; leaves = tt; lives = λ at. rw runs refl; changes = refl })
 
   input_tells : (code : ℕ) (value : ℤ) → life ≡ Running → (code ≡ 0) ⊎ ((code ≡ input_end) × (value ≡ pos 0)) →
       Tells c life levels Input (if code == 0 then Taken else Fail input_end) value (answer_or code value)
   input_tells code value runs (inl z) = rw z (record { gives = refl; fits = refl; leaves = tt; lives = λ at. rw runs refl; changes = refl })
-  input_tells code value runs (inr e) = rw (e.0, e.1) (record { gives = refl; fits = refl; leaves = tt; lives = λ at. rw runs refl; changes = refl })
+  input_tells code value runs (inr e) = rw (e.0, e.1)
+      (record { gives = refl; fits = refl; leaves = tt; lives = λ at. rw runs refl; changes = refl })
 
 -- ## The answer
 
@@ -153,7 +168,8 @@ no_attempt (Print a) event = refl
 no_attempt Input event = refl
 
 by_act :
-    (P : Bytecode) (c : Config) (ask : Ask) (reply : Reply) (own new : Own) (at : ℕ) (act : Act) (value : ℤ) → IsEvent ask → own.drawn ≡ [] →
+    (P : Bytecode) (c : Config) (ask : Ask) (reply : Reply) (own new : Own) (at : ℕ) (act : Act) (value : ℤ) → IsEvent ask → own.drawn
+    ≡ [] →
     new ≡ told (Sync at act value) own → Tells c (life_of own.mine) (levels_of own.mine) ask act value reply → StartsRight P reply →
     IsAnswered P c ask reply own new None None
 by_act P c ask reply own new at act value event drawn is tells starts = rw is (record {
@@ -207,41 +223,48 @@ answer_starts P code value = by_test (code == 0) where
   by_test false = tt
 
 pub event_answers :
-    (P : Bytecode) (setting : Setting) (c : Config) (ask : Ask) (d : Done) (own new : Own) → IsSetFor P setting → Fits P c → c.attempt ≡ None →
-    IsEvent ask → LifeFor ask (life_of own.mine) → levels_of own.mine ≡ c.levels → own.drawn ≡ [] → IsDoneFor setting (levels_of own.mine) ask d →
+    (P : Bytecode) (setting : Setting) (c : Config) (ask : Ask) (d : Done) (own new : Own) → IsSetFor P setting → Fits P c → c.attempt
+    ≡ None →
+    IsEvent ask → LifeFor ask (life_of own.mine) → levels_of own.mine ≡ c.levels → own.drawn ≡ []
+    → IsDoneFor setting (levels_of own.mine) ask d →
     new ≡ told (event_entry ask d) own → IsAnswered P c ask (event_reply ask d) own new None None
 event_answers P setting c Begin d own new set fits none event runs levels drawn done is =
-    by_act P c Begin _ own new d.at _ _ tt drawn is (record { gives = refl; fits = refl; leaves = tt; lives = λ at. rw runs refl; changes = refl }) (may_begin P setting c d.func set fits done)
+    by_act P c Begin _ own new d.at _ _ tt drawn is
+    (record { gives = refl; fits = refl; leaves = tt; lives = λ at. rw runs refl; changes = refl })
+    (may_begin P setting c d.func set fits done)
 event_answers P setting c End d own new set fits none event runs levels drawn done is =
-    by_act P c End _ own new d.at _ _ tt drawn is (record { gives = refl; fits = refl; leaves = tt; lives = λ at. rw runs refl; changes = refl }) tt
+    by_act P c End _ own new d.at _ _ tt drawn is
+    (record { gives = refl; fits = refl; leaves = tt; lives = λ at. rw runs refl; changes = refl }) tt
 event_answers P setting c (VRead v) d own new set fits none event runs levels drawn done is =
-    by_act P c (VRead v) _ own new d.at _ _ tt drawn is (record { gives = rw (same_nat v) refl; fits = refl; leaves = tt; lives = λ at. rw runs refl; changes = refl }) tt
+    by_act P c (VRead v) _ own new d.at _ _ tt drawn is
+    (record { gives = rw (same_nat v) refl; fits = refl; leaves = tt; lives = λ at. rw runs refl; changes = refl }) tt
 event_answers P setting c (VWrite v a) d own new set fits none event runs levels drawn done is =
-    by_act P c (VWrite v a) _ own new d.at _ _ tt drawn is (record { gives = rw (same_nat v, same_int a) refl; fits = refl; leaves = tt; lives = λ at. rw runs refl; changes = refl }) tt
+    by_act P c (VWrite v a) _ own new d.at _ _ tt drawn is
+    (record { gives = rw (same_nat v, same_int a) refl; fits = refl; leaves = tt; lives = λ at. rw runs refl; changes = refl }) tt
 event_answers P setting c (Enter o) d own new set fits none event runs levels drawn done is =
-    by_act P c (Enter o) _ own new d.at _ _ tt drawn is (record { gives = rw (same_nat o) refl; fits = refl; leaves = tt; lives = λ at. rw runs refl; changes = refl }) tt
+    by_act P c (Enter o) _ own new d.at _ _ tt drawn is
+    (record { gives = rw (same_nat o) refl; fits = refl; leaves = tt; lives = λ at. rw runs refl; changes = refl }) tt
 event_answers P setting c (Exit o) d own new set fits none event runs levels drawn done is =
-    by_act P c (Exit o) _ own new d.at _ _ tt drawn is (exit_tells c none (life_of own.mine) (levels_of own.mine) o d.code runs done levels) (go_starts P d.code)
+    by_act P c (Exit o) _ own new d.at _ _ tt drawn is
+    (exit_tells c none (life_of own.mine) (levels_of own.mine) o d.code runs done levels) (go_starts P d.code)
 event_answers P setting c (Fork f a) d own new set fits none event runs levels drawn done is =
-    by_act P c (Fork f a) _ own new d.at _ _ tt drawn is (fork_tells c none (life_of own.mine) (levels_of own.mine) f a d.code d.value runs done) (answer_starts P d.code d.value)
+    by_act P c (Fork f a) _ own new d.at _ _ tt drawn is
+    (fork_tells c none (life_of own.mine) (levels_of own.mine) f a d.code d.value runs done) (answer_starts P d.code d.value)
 event_answers P setting c (Join u) d own new set fits none event runs levels drawn done is =
-    by_act P c (Join u) _ own new d.at _ _ tt drawn is (join_tells c none (life_of own.mine) (levels_of own.mine) u d.code runs done) (go_starts P d.code)
+    by_act P c (Join u) _ own new d.at _ _ tt drawn is (join_tells c none (life_of own.mine) (levels_of own.mine) u d.code runs done)
+    (go_starts P d.code)
 event_answers P setting c (Alloc k) d own new set fits none event runs levels drawn done is =
-    by_act P c (Alloc k) _ own new d.at _ _ tt drawn is (alloc_tells c none (life_of own.mine) (levels_of own.mine) k d.code d.value runs done) (answer_starts P d.code d.value)
+    by_act P c (Alloc k) _ own new d.at _ _ tt drawn is
+    (alloc_tells c none (life_of own.mine) (levels_of own.mine) k d.code d.value runs done) (answer_starts P d.code d.value)
 event_answers P setting c (Print a) d own new set fits none event runs levels drawn done is =
-    by_act P c (Print a) _ own new d.at _ _ tt drawn is (record { gives = rw (same_int a) refl; fits = refl; leaves = tt; lives = λ at. rw runs refl; changes = refl }) tt
+    by_act P c (Print a) _ own new d.at _ _ tt drawn is
+    (record { gives = rw (same_int a) refl; fits = refl; leaves = tt; lives = λ at. rw runs refl; changes = refl }) tt
 event_answers P setting c Input d own new set fits none event runs levels drawn done is =
-    by_act P c Input _ own new d.at _ _ tt drawn is (input_tells c none (life_of own.mine) (levels_of own.mine) d.code d.value runs done) (answer_starts P d.code d.value)
+    by_act P c Input _ own new d.at _ _ tt drawn is (input_tells c none (life_of own.mine) (levels_of own.mine) d.code d.value runs done)
+    (answer_starts P d.code d.value)
 event_answers P setting c Go d own new set fits none event runs levels drawn done is = absurd event
 event_answers P setting c (Over e) d own new set fits none event runs levels drawn done is = absurd event
 event_answers P setting c (Read x) d own new set fits none event runs levels drawn done is = absurd event
 event_answers P setting c (Write x a) d own new set fits none event runs levels drawn done is = absurd event
 event_answers P setting c TxBegin d own new set fits none event runs levels drawn done is = absurd event
 event_answers P setting c (TxEnd keep) d own new set fits none event runs levels drawn done is = absurd event
-
--- a refused input answers 0
-pub input_done : (d : Done) → (d.code ≡ 0) ⊎ (d.code ≡ input_end) → d ≡ done_of d.at (if d.code == 0 then Taken else Fail input_end) d.value → (d.code ≡ 0) ⊎ ((d.code ≡ input_end) × (d.value ≡ pos 0))
-input_done d (inl z) is = inl z
-input_done d (inr e) is = inr (e, by_code d.code e is) where
-  by_code : (k : ℕ) → k ≡ input_end → d ≡ done_of d.at (if k == 0 then Taken else Fail input_end) d.value → d.value ≡ pos 0
-  by_code k same is' = (let is'' : d ≡ done_of d.at (Fail input_end) d.value = (rw same at is') in ap (λ (x : Done). x.value) is'')

@@ -1,7 +1,6 @@
 -- A try of what the machine asks: what its call needs, and what it answers.
 use Rattle.std.proofs.Common.{◌≡◌, ℕ, ℤ, ◌<◌, Bool, true, false, [], ◌∷◌, ◌++◌, refl, sym, ◌∙◌, ap, Option, Some, None, is_some, subst}
 use Rattle.std.specs.Prelude.{◌⊎◌}
-use Rattle.atomic_table.specs.Seated.{TableId}
 use Rattle.gl_model.specs.Entries.{Entry}
 use Rattle.gl_model.specs.Form.{EndsRights}
 use Rattle.gl_model.specs.declared.tx.Pair.{Pair}
@@ -47,19 +46,24 @@ module _ (P : Bytecode) (z : TableView) (c : Config) where
   -- ## Events
 
   pub event_may :
-      (v : PassView) (txn : Option Attempting) (ask : Ask) → ask ≡ ask_of c.stage → Rides P z.id c v.own txn → v.own.owed ≡ [] → 0 < v.spare → IsEvent ask →
+      (v : PassView) (txn : Option Attempting) (ask : Ask) → ask ≡ ask_of c.stage → Rides P z.id c v.own txn → v.own.owed ≡ []
+      → 0 < v.spare → IsEvent ask →
       MayAsk z v ask
   event_may v txn ask is rides clear room event = rw is (may_ask P z c v txn rides clear room (rw is at event))
 
   pub event_tried :
-      (own new : Own) (txn : Option Attempting) (ask : Ask) (d : Done) → ask ≡ ask_of c.stage → IsSetFor P z.key.setting → Rides P z.id c own txn →
-      IsEvent ask → IsDoneFor z.key.setting (levels_of own.mine) ask d → new ≡ told (event_entry ask d) own → IsAnswered P c ask (event_reply ask d) own new txn txn
+      (own new : Own) (txn : Option Attempting) (ask : Ask) (d : Done) → ask ≡ ask_of c.stage → IsSetFor P z.key.setting
+      → Rides P z.id c own txn →
+      IsEvent ask → IsDoneFor z.key.setting (levels_of own.mine) ask d → new ≡ told (event_entry ask d) own
+      → IsAnswered P c ask (event_reply ask d) own new txn txn
   event_tried own new txn ask d is set rides event done new_is =
-      let at : Ask → Type 0 = λ a. IsEvent a → IsDoneFor z.key.setting (levels_of own.mine) a d → new ≡ told (event_entry a d) own → IsAnswered P c a (event_reply a d) own new txn txn in
+      let at : Ask → Type 0 = λ a. IsEvent a → IsDoneFor z.key.setting (levels_of own.mine) a d → new ≡ told (event_entry a d) own
+      → IsAnswered P c a (event_reply a d) own new txn txn in
       subst at (sym is) (λ ev done' new_is'.
       let out = event_outside P z.id c own txn rides ev in
       rw out.idle
-      (event_answers P z.key.setting c (ask_of c.stage) d own new set rides.fits out.attempt ev (event_life P z.id c own txn rides ev) rides.levels
+      (event_answers P z.key.setting c (ask_of c.stage) d own new set rides.fits out.attempt ev (event_life P z.id c own txn rides ev)
+      rides.levels
       (no_draws txn own out.idle rides.drawn) done' new_is')) event done new_is
 
   -- ## Asks of a thread that runs
@@ -122,7 +126,8 @@ module _ (P : Bytecode) (z : TableView) (c : Config) where
   run_asks TxBegin run = tt
   run_asks (TxEnd keep) run = tt
 
-  pub rides_run : (own : Own) (txn : Option Attempting) (ask : Ask) → ask ≡ ask_of c.stage → Rides P z.id c own txn → IsRun ask → life_of own.mine ≡ Running
+  pub rides_run : (own : Own) (txn : Option Attempting) (ask : Ask) → ask ≡ ask_of c.stage → Rides P z.id c own txn → IsRun ask
+      → life_of own.mine ≡ Running
   rides_run own txn ask is rides run =
       let run' : IsRun (ask_of c.stage) = rw is at run in
       run_life (ask_of c.stage) (life_of own.mine) run' (rides_life P z.id c own txn rides (run_asks (ask_of c.stage) run'))
@@ -131,14 +136,16 @@ module _ (P : Bytecode) (z : TableView) (c : Config) where
   access_runs x None = tt
   access_runs x (Some a) = tt
 
-  pub access_life : (own : Own) (txn : Option Attempting) (x : ℕ) (write : Option ℤ) → access_ask x write ≡ ask_of c.stage → Rides P z.id c own txn → life_of own.mine ≡ Running
+  pub access_life : (own : Own) (txn : Option Attempting) (x : ℕ) (write : Option ℤ) → access_ask x write ≡ ask_of c.stage
+      → Rides P z.id c own txn → life_of own.mine ≡ Running
   access_life own txn x write is rides = rides_run own txn (access_ask x write) is rides (access_runs x write)
 
   near_by : (x : ℕ) (write : Option ℤ) → AsksInRange P (access_ask x write) → x < VARIABLES
   near_by x None near = near
   near_by x (Some a) near = near
 
-  pub access_near : (own : Own) (txn : Option Attempting) (x : ℕ) (write : Option ℤ) → access_ask x write ≡ ask_of c.stage → Rides P z.id c own txn → x < VARIABLES
+  pub access_near : (own : Own) (txn : Option Attempting) (x : ℕ) (write : Option ℤ) → access_ask x write ≡ ask_of c.stage
+      → Rides P z.id c own txn → x < VARIABLES
   access_near own txn x write is rides = near_by x write (rw (sym is) at rides.in_range)
 
   pub outside_draws : (own : Own) (txn : Option Attempting) → txn ≡ None → Rides P z.id c own txn → own.drawn ≡ []
@@ -148,7 +155,8 @@ module _ (P : Bytecode) (z : TableView) (c : Config) where
   none_of None is = refl
   none_of (Some a) is = cc
 
-  pub mark : (v : PassView) (txn : Option Attempting) (x : ℕ) (write : Option ℤ) → access_ask x write ≡ ask_of c.stage → Rides P z.id c v.own txn → txn ≡ None → 0 < v.spare → MayMark z v
+  pub mark : (v : PassView) (txn : Option Attempting) (x : ℕ) (write : Option ℤ) → access_ask x write ≡ ask_of c.stage
+      → Rides P z.id c v.own txn → txn ≡ None → 0 < v.spare → MayMark z v
   mark v txn x write is rides idle room = record {
     table = rides.table;
     held = rides.held;
@@ -159,8 +167,10 @@ module _ (P : Bytecode) (z : TableView) (c : Config) where
   }
 
   pub access_tried :
-      (own new : Own) (txn : Option Attempting) (x : ℕ) (write : Option ℤ) (s : Seen) → access_ask x write ≡ ask_of c.stage → Rides P z.id c own txn → txn ≡ None →
-      PlainBy (repeat_number (right_of own.mine x) write) x write s own new → IsAnswered P c (access_ask x write) (access_reply write s) own new txn txn
+      (own new : Own) (txn : Option Attempting) (x : ℕ) (write : Option ℤ) (s : Seen) → access_ask x write ≡ ask_of c.stage
+      → Rides P z.id c own txn → txn ≡ None →
+      PlainBy (repeat_number (right_of own.mine x) write) x write s own new
+      → IsAnswered P c (access_ask x write) (access_reply write s) own new txn txn
   access_tried own new txn x write s is rides idle by =
       let none : c.attempt ≡ None = none_of c.attempt (sym rides.running ∙ ap is_some idle) in
       rw idle (plain_answers P c x write s own new none (access_life own txn x write is rides) (outside_draws own txn idle rides) by)
@@ -171,14 +181,16 @@ module _ (P : Bytecode) (z : TableView) (c : Config) where
   some_of None is = cc
   some_of (Some a) is = (a, refl)
 
-  in_attempt : (own : Own) (txn : Option Attempting) (a : Attempting) → txn ≡ Some a → Rides P z.id c own txn → (att : Attempt) × (c.attempt ≡ Some att)
+  in_attempt : (own : Own) (txn : Option Attempting) (a : Attempting) → txn ≡ Some a → Rides P z.id c own txn → (att : Attempt)
+      × (c.attempt ≡ Some att)
   in_attempt own txn a is rides = some_of c.attempt (sym rides.running ∙ ap is_some is)
 
   draws_of : (own : Own) (txn : Option Attempting) (a : Attempting) → txn ≡ Some a → Rides P z.id c own txn → DrawsFor (Some a) own
   draws_of own txn a is rides = (let d : DrawsFor (Some a) own = (rw is at rides.drawn) in d)
 
   pub attempt_may :
-      (v : PassView) (txn : Option Attempting) (a : Attempting) (ask : Ask) → txn ≡ Some a → ask ≡ ask_of c.stage → IsRun ask → Rides P z.id c v.own txn → v.own.owed ≡ [] → MayTry z v a
+      (v : PassView) (txn : Option Attempting) (a : Attempting) (ask : Ask) → txn ≡ Some a → ask ≡ ask_of c.stage → IsRun ask
+      → Rides P z.id c v.own txn → v.own.owed ≡ [] → MayTry z v a
   attempt_may v txn a ask is asks run rides clear = record {
     table = rides.table;
     held = rides.held;
@@ -189,21 +201,24 @@ module _ (P : Bytecode) (z : TableView) (c : Config) where
   }
 
   pub read_tried :
-      (own new : Own) (txn after : Option Attempting) (a b : Attempting) (x : ℕ) (value : ℤ) → txn ≡ Some a → after ≡ Some b → Rides P z.id c own txn →
+      (own new : Own) (txn after : Option Attempting) (a b : Attempting) (x : ℕ) (value : ℤ) → txn ≡ Some a → after ≡ Some b
+      → Rides P z.id c own txn →
       IsRead x value a own b new → IsAnswered P c (Read x) (Answer value) own new txn after
   read_tried own new txn after a b x value is becomes rides read =
       let att = in_attempt own txn a is rides in
       rw (is, becomes) (read_answers P c att.0 att.1 a x value own new b (draws_of own txn a is rides) read)
 
   pub write_tried :
-      (own : Own) (txn after : Option Attempting) (a b : Attempting) (x : ℕ) (value : ℤ) → txn ≡ Some a → after ≡ Some b → Rides P z.id c own txn →
+      (own : Own) (txn after : Option Attempting) (a b : Attempting) (x : ℕ) (value : ℤ) → txn ≡ Some a → after ≡ Some b
+      → Rides P z.id c own txn →
       b ≡ with_write x value a → (is_in a x ≡ true) ⊎ (size a < TX_VARIABLES) → IsAnswered P c (Write x value) Gone own own txn after
   write_tried own txn after a b x value is becomes rides new_is room =
       let att = in_attempt own txn a is rides in
       rw (is, becomes) (write_answers P c att.0 att.1 a x value own own b (draws_of own txn a is rides) refl new_is room)
 
   pub large_tried :
-      (own new : Own) (txn after : Option Attempting) (a b : Attempting) (x : ℕ) (write : Option ℤ) → txn ≡ Some a → after ≡ Some b → b ≡ a → Rides P z.id c own txn →
+      (own new : Own) (txn after : Option Attempting) (a b : Attempting) (x : ℕ) (write : Option ℤ) → txn ≡ Some a → after ≡ Some b → b ≡ a
+      → Rides P z.id c own txn →
       new ≡ own → IsTooLarge a x → IsAnswered P c (access_ask x write) (Raise TX_TOO_LARGE) own new txn after
   large_tried own new txn after a b x write is becomes same rides same_own large =
       let att = in_attempt own txn a is rides in
@@ -218,7 +233,8 @@ module _ (P : Bytecode) (z : TableView) (c : Config) where
       rw (out.idle, becomes) (begin_answers P c own own a out.attempt (no_draws txn own out.idle rides.drawn) refl new)
 
   pub end_tried :
-      (own new : Own) (txn after : Option Attempting) (a : Attempting) (keep : Bool) (e : HowEnded) → TxEnd keep ≡ ask_of c.stage → txn ≡ Some a → after ≡ None →
+      (own new : Own) (txn after : Option Attempting) (a : Attempting) (keep : Bool) (e : HowEnded) → TxEnd keep ≡ ask_of c.stage → txn
+      ≡ Some a → after ≡ None →
       Rides P z.id c own txn → HasEnded a keep e own new → IsAnswered P c (TxEnd keep) (end_reply e) own new txn after
   end_tried own new txn after a keep e asks is becomes rides end =
       rw (is, becomes) (end_answers P c a keep e own new (rides_run own txn (TxEnd keep) asks rides tt) end)
@@ -229,7 +245,8 @@ module _ (P : Bytecode) (z : TableView) (c : Config) where
   outside_idle own txn out rides = none_of txn (rides.running ∙ out)
 
   -- what is no access and no step of an attempt is an event
-  pub others : (ask : Ask) → IsAsk ask → ((x : ℕ) → ask ≡ Read x → ⊥) → ((x : ℕ) (a : ℤ) → ask ≡ Write x a → ⊥) → (ask ≡ TxBegin → ⊥) → ((keep : Bool) → ask ≡ TxEnd keep → ⊥) → IsEvent ask
+  pub others : (ask : Ask) → IsAsk ask → ((x : ℕ) → ask ≡ Read x → ⊥) → ((x : ℕ) (a : ℤ) → ask ≡ Write x a → ⊥) → (ask ≡ TxBegin → ⊥)
+      → ((keep : Bool) → ask ≡ TxEnd keep → ⊥) → IsEvent ask
   others Go is r w b e' = absurd is
   others Begin is r w b e' = tt
   others End is r w b e' = tt
@@ -251,7 +268,8 @@ module _ (P : Bytecode) (z : TableView) (c : Config) where
 -- ## Private words after an answer
 
 -- behind an entry that ends rights, where nothing is owed, no word is kept
-kept_none : (txn : Option Attempting) (own new : Own) (e : Entry) → EndsRights e → new.mine ≡ own.mine ++ e ∷ [] → new.owed ≡ [] → AreKept txn no_words new
+kept_none : (txn : Option Attempting) (own new : Own) (e : Entry) → EndsRights e → new.mine ≡ own.mine ++ e ∷ [] → new.owed ≡ []
+    → AreKept txn no_words new
 kept_none None own new e ends mine owed = owns_none new (λ x. ap (λ es. right_of es x) mine ∙ right_ended own.mine e x ends) owed
 kept_none (Some a) own new e ends mine owed = (refl, owed)
 
@@ -274,19 +292,24 @@ entry_ends Input d = tt
 entry_ends TxBegin d = tt
 entry_ends (TxEnd keep) d = tt
 
-pub event_kept : (txn : Option Attempting) (own new : Own) (ask : Ask) (d : Done) → own.owed ≡ [] → new ≡ told (event_entry ask d) own → AreKept txn no_words new
-event_kept txn own new ask d clear is = kept_none txn own new (event_entry ask d) (entry_ends ask d) (ap (λ (v : Own). v.mine) is) (ap (λ (v : Own). v.owed) is ∙ clear)
+pub event_kept : (txn : Option Attempting) (own new : Own) (ask : Ask) (d : Done) → own.owed ≡ [] → new ≡ told (event_entry ask d) own
+    → AreKept txn no_words new
+event_kept txn own new ask d clear is = kept_none txn own new (event_entry ask d) (entry_ends ask d) (ap (λ (v : Own). v.mine) is)
+    (ap (λ (v : Own). v.owed) is ∙ clear)
 
 attempt_ends : (e : HowEnded) (tx : Tx) → EndsRights (entry_of e tx)
 attempt_ends (WasDone at) tx = tt
 attempt_ends (WasRaised var) tx = tt
 attempt_ends (Changed var read found) tx = tt
 
-pub end_kept : (own new : Own) (after : Option Attempting) (a : Attempting) (keep : Bool) (e : HowEnded) → own.owed ≡ [] → HasEnded a keep e own new → AreKept after no_words new
+pub end_kept : (own new : Own) (after : Option Attempting) (a : Attempting) (keep : Bool) (e : HowEnded) → own.owed ≡ []
+    → HasEnded a keep e own new → AreKept after no_words new
 end_kept own new after a keep e clear end =
-    kept_none after own new (entry_of e end.tx) (attempt_ends e end.tx) (ap (λ (v : Own). v.mine) end.own) (ap (λ (v : Own). v.owed) end.own ∙ clear)
+    kept_none after own new (entry_of e end.tx) (attempt_ends e end.tx) (ap (λ (v : Own). v.mine) end.own)
+    (ap (λ (v : Own). v.owed) end.own ∙ clear)
 
-pub within_kept : (own new : Own) (after : Option Attempting) (b : Attempting) → after ≡ Some b → own.owed ≡ [] → new.owed ≡ own.owed → AreKept after no_words new
+pub within_kept : (own new : Own) (after : Option Attempting) (b : Attempting) → after ≡ Some b → own.owed ≡ [] → new.owed ≡ own.owed
+    → AreKept after no_words new
 within_kept own new after b is clear same = rw is (refl, same ∙ clear)
 
 pub read_owed : (own new : Own) (a b : Attempting) (x : ℕ) (value : ℤ) → IsRead x value a own b new → new.owed ≡ own.owed
@@ -296,16 +319,11 @@ read_owed own new a b x value read = by_words (written a x) (looked a x) read wh
   by_words None (Some l) r = ap (λ (v : Own). v.owed) r.2
   by_words None None r = ap (λ (v : Own). v.owed) r.3
 
--- inside an attempt nothing is owed
-pub inside_clear : (P : Bytecode) (id : TableId) (c : Config) (own : Own) (txn : Option Attempting) (words : Words) → is_some c.attempt ≡ true → Rides P id c own txn → AreKept txn words own → own.owed ≡ []
-inside_clear P id c own txn words inside rides kept = by_txn txn (rides.running ∙ inside) kept where
-  by_txn : (t : Option Attempting) → is_some t ≡ true → AreKept t words own → own.owed ≡ []
-  by_txn None is k = cc
-  by_txn (Some a) is k = k.1
-
 -- outside they are the pass's own
 pub outside_owns : (own : Own) (txn : Option Attempting) (words : Words) → txn ≡ None → AreKept txn words own → Owns words own
-outside_owns own txn words is kept = (let at : Option Attempting → Type 0 = λ t. AreKept t words own in let k : AreKept None words own = subst at is kept in k)
+outside_owns own txn words is kept = (let at : Option Attempting → Type 0 = λ t. AreKept t words own
+    in let k : AreKept None words own = subst at is kept in k)
 
 pub owns_outside : (own : Own) (txn : Option Attempting) (words : Words) → txn ≡ None → Owns words own → AreKept txn words own
-owns_outside own txn words is owns = (let at : Option Attempting → Type 0 = λ t. AreKept t words own in let k : AreKept None words own = owns in subst at (sym is) k)
+owns_outside own txn words is owns = (let at : Option Attempting → Type 0 = λ t. AreKept t words own
+    in let k : AreKept None words own = owns in subst at (sym is) k)

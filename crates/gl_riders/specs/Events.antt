@@ -43,7 +43,8 @@ event_entry (VRead v) d = Sync d.at (VolatileRead v) d.value
 event_entry (VWrite v a) d = Sync d.at (VolatileWrite v) a
 event_entry (Enter o) d = Sync d.at (Acq o) (pos 0)
 event_entry (Exit o) d = Sync d.at (if d.code == 0 then Rel o else Fail not_owner) (if d.code == 0 then pos 0 else pos o)
-event_entry (Fork f a) d = Sync d.at (if d.code == 0 then Forked (child_in d.value) f else Fail threads_full) (if d.code == 0 then a else pos 0)
+event_entry (Fork f a) d = Sync d.at (if d.code == 0 then Forked (child_in d.value) f else Fail threads_full) (if d.code == 0 then a
+    else pos 0)
 event_entry (Join u) d = Sync d.at (if d.code == 0 then Joined u else Fail bad_thread) (if d.code == 0 then pos 0 else pos u)
 event_entry (Alloc k) d = Sync d.at (if d.code == 0 then Allocated k else Fail heap_full) (if d.code == 0 then d.value else pos k)
 event_entry (Print a) d = Sync d.at Printed a

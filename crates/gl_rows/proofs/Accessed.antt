@@ -44,7 +44,8 @@ use Rattle.gl_rows.proofs.Windows.{stand_judged}
 
 -- the row was taken, and the tail loaded
 abbrev pub with_row : PassView → ℕ → Row → ℕ → PassView
-with_row p x row tail = after (after p (took (view_of p) (suc x) (slot.Row row))) (saw_tail (view_of (after p (took (view_of p) (suc x) (slot.Row row)))) tail)
+with_row p x row tail = after (after p (took (view_of p) (suc x) (slot.Row row)))
+    (saw_tail (view_of (after p (took (view_of p) (suc x) (slot.Row row)))) tail)
 
 -- and events were loaded
 abbrev pub walked_row : PassView → ℕ → Row → ℕ → List (ℕ × Stamp) → List CellWord → PassView
@@ -55,32 +56,43 @@ row_held x row tail = with_tail tail (new_held (suc x) (slot.Row row))
 
 -- the row is found among the held objects
 pub held_is : (p : PassView) (x : ℕ) (row : Row) (tail : ℕ) → held_at (x + 1) (with_row p x row tail).own.held ≡ row_held x row tail
-held_is p x row tail = ap (λ b. if b then row_held x row tail else held_at (x + 1) (map (with_tail tail) p.own.held)) (eq-eqb (suc x) (x + 1) (omega arith))
+held_is p x row tail = ap (λ b. if b then row_held x row tail else held_at (x + 1) (map (with_tail tail) p.own.held))
+    (eq-eqb (suc x) (x + 1) (omega arith))
 
 -- a pass that walked over its row
-pub walked_is : (p : PassView) (x : ℕ) (row : Row) (tail : ℕ) (w u : PassView) → w ≡ with_row p x row tail → HasWalked row w u → u ≡ walked_row p x row tail u.known u.loaded
+pub walked_is : (p : PassView) (x : ℕ) (row : Row) (tail : ℕ) (w u : PassView) → w ≡ with_row p x row tail → HasWalked row w u → u
+    ≡ walked_row p x row tail u.known u.loaded
 walked_is p x row tail w u is walk =
     let known = ap (λ (z : PassView). z.known) walk.is in
-    walk.is ∙ ap (λ (l : List (ℕ × Stamp)). record w { known = l; loaded = u.loaded }) (sym known) ∙ ap (λ (z : PassView). record z { known = u.known; loaded = u.loaded }) is
+    walk.is ∙ ap (λ (l : List (ℕ × Stamp)). record w { known = l; loaded = u.loaded }) (sym known)
+    ∙ ap (λ (z : PassView). record z { known = u.known; loaded = u.loaded }) is
 
 -- the question, as far as it is looked at by a test
-asks_as : (p : PassView) (q : Question) (write : Option ℤ) → q.thread ≡ p.own.id → q.commit ≡ None → q.write ≡ is_some write → record { thread = q.thread; write = q.write; commit = q.commit; held = [] } ≡ question_of p.own write
+asks_as : (p : PassView) (q : Question) (write : Option ℤ) → q.thread ≡ p.own.id → q.commit ≡ None → q.write ≡ is_some write
+    → record { thread = q.thread; write = q.write; commit = q.commit; held = [] } ≡ question_of p.own write
 asks_as p q write by plain writes =
-    ap (λ t. record { thread = t; write = q.write; commit = q.commit; held = [] }) by ∙ ap (λ v. record { thread = p.own.id; write = q.write; commit = v; held = [] }) plain
+    ap (λ t. record { thread = t; write = q.write; commit = q.commit; held = [] }) by
+    ∙ ap (λ v. record { thread = p.own.id; write = q.write; commit = v; held = [] }) plain
     ∙ ap (λ b. record { thread = p.own.id; write = b; commit = None; held = [] }) writes
 
 pub block_is : (es : List Entry) (p : ℕ) → last_position es ≡ Some p → last_position es ≡ Some (block_of es)
 block_is es p e = e ∙ ap Some (sym (ap or_zero e))
 
 -- the least monitors that its thread owns, before it took the row
-pub least_before : (setting : Setting) (p : PassView) (x : ℕ) (row : Row) (tail : ℕ) (w : PassView) (held : List ℕ) → w ≡ with_row p x row tail → OwnLeast setting w.own.id w.own.mine held → OwnLeast setting p.own.id p.own.mine held
-least_before setting p x row tail w held is least = λ l now. subst (λ (z : PassView). AreEvents l z.own.id z.own.mine → Allows setting l now → AreLeastOwned now z.own.id held) is (least l now)
+pub least_before : (setting : Setting) (p : PassView) (x : ℕ) (row : Row) (tail : ℕ) (w : PassView) (held : List ℕ) → w
+    ≡ with_row p x row tail → OwnLeast setting w.own.id w.own.mine held → OwnLeast setting p.own.id p.own.mine held
+least_before setting p x row tail w held is least =
+    λ l now. subst (λ (z : PassView). AreEvents l z.own.id z.own.mine → Allows setting l now → AreLeastOwned now z.own.id held) is
+    (least l now)
 
 -- what is judged over the lists that the pass cannot tell from the table's
-pub judged_row : (setting : Setting) (p : PassView) (x : ℕ) (row : Row) (tail : ℕ) (w u : PassView) (q : Question) (write : Option ℤ) (verdict : Verdict) (race : Bool) → life_of p.own.mine ≡ Running → w ≡ with_row p x row tail → HasWalked row w u
+pub judged_row : (setting : Setting) (p : PassView) (x : ℕ) (row : Row) (tail : ℕ) (w u : PassView) (q : Question) (write : Option ℤ)
+    (verdict : Verdict) (race : Bool) → life_of p.own.mine ≡ Running → w ≡ with_row p x row tail → HasWalked row w u
     → q.thread ≡ p.own.id → q.commit ≡ None → q.write ≡ is_some write → OwnLeast setting w.own.id w.own.mine q.held
-    → ((l : List Stamp) → IsFitting setting (shelf_of u) u.seen u.known l → IsOfNext setting l q → judging.InfosStand setting l row → (verdict ≡ Race) ↔ SomeFails l row q)
-    → ((race ≡ true) ↔ (verdict ≡ Race)) → (l : List Stamp) → IsFitting setting (shelf_of p) tail u.known l → InfosStand setting l row → (race ≡ true) ↔ SomeFails l row (question_of p.own write)
+    → ((l : List Stamp) → IsFitting setting (shelf_of u) u.seen u.known l → IsOfNext setting l q → judging.InfosStand setting l row
+    → (verdict ≡ Race) ↔ SomeFails l row q)
+    → ((race ≡ true) ↔ (verdict ≡ Race)) → (l : List Stamp) → IsFitting setting (shelf_of p) tail u.known l → InfosStand setting l row
+    → (race ≡ true) ↔ SomeFails l row (question_of p.own write)
 judged_row setting p x row tail w u q write verdict race runs is walk by plain writes least judges same l f stand =
     let u_is = walked_is p x row tail w u is walk in
     let fits = subst (λ (z : PassView). IsFitting setting (shelf_of z) z.seen u.known l) (sym u_is) f in
@@ -92,7 +104,8 @@ judged_row setting p x row tail w u q write verdict race runs is walk by plain w
       commit = refl;
       now = f.now;
       allowed = f.allowed;
-      runs = subst (λ t. f.now.threads t ≡ Rattle.gl_model.specs.Machine.Running) (sym by) (running_law setting l f.now p.own.id b.0 p.own.mine f.allowed f.own b.1 (no_end p.own.mine runs));
+      runs = subst (λ t. f.now.threads t ≡ Rattle.gl_model.specs.Machine.Running) (sym by)
+          (running_law setting l f.now p.own.id b.0 p.own.mine f.allowed f.own b.1 (no_end p.own.mine runs));
       held = subst (λ t. AreLeastOwned f.now t q.held) (sym by) (before l f.now f.own f.allowed);
     } in
     let k = judges l fits next (stand_judged setting l row stand) in
@@ -101,15 +114,20 @@ judged_row setting p x row tail w u q write verdict race runs is walk by plain w
 
 -- the row is held, and lies within the tail
 pub holds_row : (p : PassView) (x : ℕ) (row : Row) (tail : ℕ) (w : PassView) → w ≡ with_row p x row tail → HoldsRow w row
-holds_row p x row tail w is = subst (λ (z : PassView). HoldsRow z row) (sym is) (row_held x row tail, (0, omega arith, refl), (x, refl), refl)
+holds_row p x row tail w is = subst (λ (z : PassView). HoldsRow z row) (sym is)
+    (row_held x row tail, (0, omega arith, refl), (x, refl), refl)
 
-pub row_within : (p : PassView) (x : ℕ) (row : Row) (tail : ℕ) (v w : PassView) → v ≡ after p (took (view_of p) (suc x) (slot.Row row)) → ((h : Held) (r : Row) → Contains v.own.held h → h.taken ≡ slot.Row r → IsWithin r tail) → w ≡ with_row p x row tail → IsWithin row w.seen
+pub row_within : (p : PassView) (x : ℕ) (row : Row) (tail : ℕ) (v w : PassView) → v ≡ after p (took (view_of p) (suc x) (slot.Row row))
+    → ((h : Held) (r : Row) → Contains v.own.held h → h.taken ≡ slot.Row r → IsWithin r tail) → w ≡ with_row p x row tail
+    → IsWithin row w.seen
 row_within p x row tail v w took_is within is =
     let has = subst (λ (z : PassView). Contains z.own.held (new_held (suc x) (slot.Row row))) (sym took_is) (0, omega arith, refl) in
     subst (IsWithin row) (sym (ap (λ (z : PassView). z.seen) is)) (within (new_held (suc x) (slot.Row row)) row has refl)
 
 -- what an access is
-pub access_facts : (row : Row) (w : Option ℤ) (r : Bool) → ((access_of row w r).write ≡ is_some w) × ((access_of row w r).raised ≡ r) × ((access_of row w r).write ≡ false → (access_of row w r).raised ≡ false → (access_of row w r).value ≡ row.value) × ((access_of row w r).raised ≡ true → (access_of row w r).write ≡ false → (access_of row w r).value ≡ pos 0)
+pub access_facts : (row : Row) (w : Option ℤ) (r : Bool) → ((access_of row w r).write ≡ is_some w) × ((access_of row w r).raised ≡ r)
+    × ((access_of row w r).write ≡ false → (access_of row w r).raised ≡ false → (access_of row w r).value ≡ row.value)
+    × ((access_of row w r).raised ≡ true → (access_of row w r).write ≡ false → (access_of row w r).value ≡ pos 0)
 access_facts row (Some v) r = (refl, refl, (λ a b. absurd (cc)), (λ a b. absurd (cc)))
 access_facts row None true = (refl, refl, (λ a b. absurd (cc)), (λ a b. refl))
 access_facts row None false = (refl, refl, (λ a b. refl), (λ a b. absurd (cc)))
@@ -122,7 +140,8 @@ pub record EntryTold (row : Row) (write : Option ℤ) (a : PlainAccess) (n : ℕ
   pub number : HasNumber n s
   pub answers : Answers row write s
 
-pub entry_told : (row : Row) (write : Option ℤ) (r : Bool) (n : ℕ) (s : Seen) → IsSeen (access_of row write r) n s → EntryTold row write (access_of row write r) n s
+pub entry_told : (row : Row) (write : Option ℤ) (r : Bool) (n : ℕ) (s : Seen) → IsSeen (access_of row write r) n s
+    → EntryTold row write (access_of row write r) n s
 entry_told row (Some v) r n (Value u) i = record { write_is = refl; value = refl; raised = i.0; number = tt; answers = i.1 }
 entry_told row (Some v) r n (Raised m) i = record { write_is = refl; value = refl; raised = i.0; number = i.1; answers = tt }
 entry_told row None true n (Value u) i = absurd (let e = i.0 in cc)
@@ -131,9 +150,12 @@ entry_told row None true n (Raised m) i = record { write_is = refl; value = refl
 entry_told row None false n (Raised m) i = absurd (let e = i.0 in cc)
 
 -- the access may be marked
-pub may_mark_row : (z : TableView) (p : PassView) (x : ℕ) (row : Row) (tail : ℕ) (known : List (ℕ × Stamp)) (loaded : List CellWord) (write : Option ℤ) (race : Bool) → MayAccess z p x
-    → ((l : List Stamp) → IsFitting z.key.setting (shelf_of p) tail known l → InfosStand z.key.setting l row → (race ≡ true) ↔ SomeFails l row (question_of p.own write))
-    → (a : PlainAccess) → a ≡ access_of row write race → MayMarkPlain z.key.setting (walked_row p x row tail known loaded) x a.write a.value a.raised
+pub may_mark_row : (z : TableView) (p : PassView) (x : ℕ) (row : Row) (tail : ℕ) (known : List (ℕ × Stamp)) (loaded : List CellWord)
+    (write : Option ℤ) (race : Bool) → MayAccess z p x
+    → ((l : List Stamp) → IsFitting z.key.setting (shelf_of p) tail known l → InfosStand z.key.setting l row
+    → (race ≡ true) ↔ SomeFails l row (question_of p.own write))
+    → (a : PlainAccess) → a ≡ access_of row write race
+    → MayMarkPlain z.key.setting (walked_row p x row tail known loaded) x a.write a.value a.raised
 may_mark_row z p x row tail known loaded write race may judged a is =
     let b = has_block p.own.mine may.runs in
     let f = access_facts row write race in
@@ -142,17 +164,27 @@ may_mark_row z p x row tail known loaded write race may judged a is =
     subst (λ (k : PlainAccess). MayMarkPlain z.key.setting w x k.write k.value k.raised) (sym is) (record {
       taken = row;
       question = question_of p.own write;
-      may = subst (λ h. MayMark z.key.setting (shelf_of w) (view_of w) h x row (block_of p.own.mine) (question_of p.own write) m.write m.value m.raised) (sym (held_is p x row tail)) (record {
-        draws = record { held = (0, omega arith, refl); object = refl; is = refl; first = refl; block = block_is p.own.mine b.0 b.1; goes_on = no_end p.own.mine may.runs; few = may.few; paid = may.owed };
-        idle = may.drawn;
-        fresh = (tail, (0, omega arith, refl));
-        by = refl;
-        plain = refl;
-        writes = sym f.0;
-        judged = λ l fits stand. let k = judged l fits stand in (λ r. k.0 (sym f.1 ∙ r), λ s. f.1 ∙ k.1 s);
-        reads = f.2;
-        zero = f.3;
-      });
+      may = subst (λ h. MayMark z.key.setting (shelf_of w) (view_of w) h x row (block_of p.own.mine) (question_of p.own write) m.write
+          m.value m.raised) (sym (held_is p x row tail)) (record {
+            draws = record {
+              held = (0, omega arith, refl);
+              object = refl;
+              is = refl;
+              first = refl;
+              block = block_is p.own.mine b.0 b.1;
+              goes_on = no_end p.own.mine may.runs;
+              few = may.few;
+              paid = may.owed;
+            };
+            idle = may.drawn;
+            fresh = (tail, (0, omega arith, refl));
+            by = refl;
+            plain = refl;
+            writes = sym f.0;
+            judged = λ l fits stand. let k = judged l fits stand in (λ r. k.0 (sym f.1 ∙ r), λ s. f.1 ∙ k.1 s);
+            reads = f.2;
+            zero = f.3;
+          });
     })
 
 abbrev nones : ℕ → List (Option Info)
@@ -163,7 +195,8 @@ none_there zero t = refl
 none_there (suc n) zero = refl
 none_there (suc n) (suc t) = none_there n t
 
-set_cases : (l : List (Option Info)) (t u : ℕ) (x : Option Info) (o : Info) → slice_index_or (slice_set l t x) u None ≡ Some o → (x ≡ Some o) ⊎ (slice_index_or l u None ≡ Some o)
+set_cases : (l : List (Option Info)) (t u : ℕ) (x : Option Info) (o : Info) → slice_index_or (slice_set l t x) u None ≡ Some o
+    → (x ≡ Some o) ⊎ (slice_index_or l u None ≡ Some o)
 set_cases [] t u x o e = inr e
 set_cases (y ∷ l) zero zero x o e = inl e
 set_cases (y ∷ l) zero (suc u) x o e = inr e
@@ -174,16 +207,26 @@ some_info : (a c : Info) → Some a ≡ Some c → a ≡ c
 some_info a c e = cc
 
 -- the row that keeps a performed write, and a performed read
-wrote_is : (row new noted : Row) (q : Question) (at : ℕ) (value : ℤ) (n : IsNoted row q at noted) → q.write ≡ true → new ≡ record noted { value = value } → new ≡ record { value = value; last_write = Some n.info; reads = replicate THREADS None }
+wrote_is : (row new noted : Row) (q : Question) (at : ℕ) (value : ℤ) (n : IsNoted row q at noted) → q.write ≡ true → new
+    ≡ record noted { value = value } → new ≡ record { value = value; last_write = Some n.info; reads = replicate THREADS None }
 wrote_is row new noted q at value n w is =
-    let k = n.write w in is ∙ ap (λ o. record { value = value; last_write = o; reads = noted.reads }) k.0 ∙ ap (λ rs. record { value = value; last_write = Some n.info; reads = rs }) k.1
+    let k = n.write w in is ∙ ap (λ o. record { value = value; last_write = o; reads = noted.reads }) k.0
+    ∙ ap (λ rs. record { value = value; last_write = Some n.info; reads = rs }) k.1
 
-read_is : (row new noted : Row) (q : Question) (at : ℕ) (value : ℤ) (n : IsNoted row q at noted) → q.write ≡ false → new ≡ record noted { value = value } → new ≡ record { value = value; last_write = row.last_write; reads = set row.reads q.thread (Some n.info) }
+read_is : (row new noted : Row) (q : Question) (at : ℕ) (value : ℤ) (n : IsNoted row q at noted) → q.write ≡ false → new
+    ≡ record noted { value = value } → new ≡ record {
+      value = value;
+      last_write = row.last_write;
+      reads = set row.reads q.thread (Some n.info);
+    }
 read_is row new noted q at value n w is =
-    let k = n.read w in is ∙ ap (λ o. record { value = value; last_write = o; reads = noted.reads }) k.0 ∙ ap (λ rs. record { value = value; last_write = row.last_write; reads = rs }) k.1
+    let k = n.read w in is ∙ ap (λ o. record { value = value; last_write = o; reads = noted.reads }) k.0
+    ∙ ap (λ rs. record { value = value; last_write = row.last_write; reads = rs }) k.1
 
 -- an Info of the row afterwards stands at the position, or was there
-new_or_old : (row new : Row) (q : Question) (at : ℕ) (write raised : Bool) (value : ℤ) → q.write ≡ write → RowAfter row (record { write = write; value = value; raised = raised }) q at new → (o : Info) → InRow new o → (o.pos ≡ at) ⊎ InRow row o
+new_or_old : (row new : Row) (q : Question) (at : ℕ) (write raised : Bool) (value : ℤ) → q.write ≡ write
+    → RowAfter row (record { write = write; value = value; raised = raised }) q at new → (o : Info) → InRow new o → (o.pos ≡ at)
+    ⊎ InRow row o
 new_or_old row new q at write raised value w (inl r) o has = inr (subst (λ k. InRow k o) r.1 has)
 new_or_old row new q at true raised value w (inr r) o has =
     elim (subst (λ k. InRow k o) (wrote_is row new r.1.0 q at value r.1.1 w r.1.2) has) [
@@ -205,7 +248,8 @@ module _ (p : PassView) (x : ℕ) (row : Row) (tail : ℕ) (known : List (ℕ ×
   abbrev pub at_held : PlainAccess → Held → PassView
   at_held a h =
       let w = walked_row p x row tail known loaded in
-      after_storing w (marked (view_of w) (shelf w.own.id (w.own.mine ++ Plain x nth false a.write a.value a.raised ∷ [])) w.own.drawn h (draw p.own.id (block_of p.own.mine) (Entered (Plain x nth false a.write a.value a.raised))))
+      after_storing w (marked (view_of w) (shelf w.own.id (w.own.mine ++ Plain x nth false a.write a.value a.raised ∷ [])) w.own.drawn h
+      (draw p.own.id (block_of p.own.mine) (Entered (Plain x nth false a.write a.value a.raised))))
 
   -- the pass afterwards
   pub record IsStored (a : PlainAccess) (r : PassView) : Type 0 where
@@ -223,15 +267,20 @@ module _ (p : PassView) (x : ℕ) (row : Row) (tail : ℕ) (known : List (ℕ ×
   none_left : (k : ℕ) (h : Held) → h.object ≡ k → without k (h ∷ []) ≡ []
   none_left k h e = ap (λ b. if not b then h ∷ [] else []) (eq-eqb h.object k e)
 
-  pub is_stored : (a : PlainAccess) (u r : PassView) → p.own.held ≡ [] → u ≡ marked_plain (walked_row p x row tail known loaded) x nth a.write a.value a.raised → r ≡ after u (left (view_of u) (suc x) false) → IsStored a r
+  pub is_stored : (a : PlainAccess) (u r : PassView) → p.own.held ≡ [] → u
+      ≡ marked_plain (walked_row p x row tail known loaded) x nth a.write a.value a.raised → r ≡ after u (left (view_of u) (suc x) false)
+      → IsStored a r
   is_stored a u r empty is end =
       let h = row_held x row tail in
-      let h' : Held = record h { drew = Some (draw p.own.id (block_of p.own.mine) (Entered (Plain x nth false a.write a.value a.raised))) } in
+      let h' : Held = record h { drew = Some (draw p.own.id (block_of p.own.mine) (Entered (Plain x nth false a.write a.value a.raised))) }
+      in
       let all = end ∙ ap (λ (z : PassView). after z (left (view_of z) (suc x) false)) (is ∙ ap (at_held a) (held_is p x row tail)) in
       let gone : without (suc x) (h' ∷ without (suc x) (h ∷ map (with_tail tail) p.own.held)) ≡ p.own.held =
-      ap (λ (l : List Held). without (suc x) (h' ∷ without (suc x) (h ∷ map (with_tail tail) l))) empty ∙ ap (λ (l : List Held). without (suc x) (h' ∷ l)) (none_left (suc x) h refl) ∙ none_left (suc x) h' refl ∙ sym empty in
+      ap (λ (l : List Held). without (suc x) (h' ∷ without (suc x) (h ∷ map (with_tail tail) l))) empty
+      ∙ ap (λ (l : List Held). without (suc x) (h' ∷ l)) (none_left (suc x) h refl) ∙ none_left (suc x) h' refl ∙ sym empty in
       record {
-        own = ap (λ (z : PassView). z.own) all ∙ ap (λ (l : List Held). record p.own { mine = p.own.mine ++ Plain x nth false a.write a.value a.raised ∷ []; held = l }) gone;
+        own = ap (λ (z : PassView). z.own) all ∙ ap
+            (λ (l : List Held). record p.own { mine = p.own.mine ++ Plain x nth false a.write a.value a.raised ∷ []; held = l }) gone;
         reads = ap (λ (z : PassView). z.reads) all;
         seen = ap (λ (z : PassView). z.seen) all;
         known_is = ap (λ (z : PassView). z.known) all;
@@ -240,13 +289,19 @@ module _ (p : PassView) (x : ℕ) (row : Row) (tail : ℕ) (known : List (ℕ ×
       }
 
   -- what fits it then fitted it before
-  pub fits_stored : (setting : Setting) (a : PlainAccess) (r : PassView) → IsStored a r → (l : List Stamp) → IsFitting setting (shelf_of r) r.seen r.known l → IsFitting setting (shelf_of p) tail known l
+  pub fits_stored : (setting : Setting) (a : PlainAccess) (r : PassView) → IsStored a r → (l : List Stamp)
+      → IsFitting setting (shelf_of r) r.seen r.known l → IsFitting setting (shelf_of p) tail known l
   fits_stored setting a r s l f =
       let g = subst (λ (o : Own). IsFitting setting (shelf o.id o.mine) r.seen r.known l) s.own f in
-      let h = subst (λ m. IsFitting setting (shelf p.own.id (p.own.mine ++ Plain x nth false a.write a.value a.raised ∷ [])) m r.known l) s.seen g in
-      fits_pop setting p.own.id p.own.mine (Plain x nth false a.write a.value a.raised) tail known l refl (subst (λ (k : List (ℕ × Stamp)). IsFitting setting (shelf p.own.id (p.own.mine ++ Plain x nth false a.write a.value a.raised ∷ [])) tail k l) s.known_is h)
+      let h = subst (λ m. IsFitting setting (shelf p.own.id (p.own.mine ++ Plain x nth false a.write a.value a.raised ∷ [])) m r.known l)
+      s.seen g in
+      fits_pop setting p.own.id p.own.mine (Plain x nth false a.write a.value a.raised) tail known l refl
+      (subst (λ (k : List (ℕ × Stamp)). IsFitting setting
+      (shelf p.own.id (p.own.mine ++ Plain x nth false a.write a.value a.raised ∷ [])) tail k l) s.known_is h)
 
-module _ (setting : Setting) (p : PassView) (x : ℕ) (row : Row) (tail : ℕ) (known : List (ℕ × Stamp)) (loaded : List CellWord) (runs : life_of p.own.mine ≡ Running) (nth : ℕ) (q : Question) (near : p.own.id < THREADS) (by : q.thread ≡ p.own.id) (plain : q.commit ≡ None) (least : OwnLeast setting p.own.id p.own.mine q.held) where
+module _ (setting : Setting) (p : PassView) (x : ℕ) (row : Row) (tail : ℕ) (known : List (ℕ × Stamp)) (loaded : List CellWord)
+    (runs : life_of p.own.mine ≡ Running) (nth : ℕ) (q : Question) (near : p.own.id < THREADS) (by : q.thread ≡ p.own.id) (plain : q.commit
+    ≡ None) (least : OwnLeast setting p.own.id p.own.mine q.held) where
   last : last_position p.own.mine ≡ Some (block_of p.own.mine)
   last = let b = has_block p.own.mine runs in block_is p.own.mine b.0 b.1
 
@@ -259,48 +314,68 @@ module _ (setting : Setting) (p : PassView) (x : ℕ) (row : Row) (tail : ℕ) (
   abbrev Fits : Bool → Bool → ℤ → List Stamp → Type 0
   Fits write raised value l = IsFitting setting (shelf p.own.id (p.own.mine ++ Plain x nth false write value raised ∷ [])) tail known l
 
-  stands : (i : Info) → IsNewInfo q tail i → (write raised : Bool) (value : ℤ) → q.write ≡ write → (l : List Stamp) → Fits write raised value l → InfoFor setting l i (access_drawn (drawn write raised value)) write
+  stands : (i : Info) → IsNewInfo q tail i → (write raised : Bool) (value : ℤ) → q.write ≡ write → (l : List Stamp)
+      → Fits write raised value l → InfoFor setting l i (access_drawn (drawn write raised value)) write
   stands i n write raised value w l f =
       let goes = no_end p.own.mine runs in
-      let k = last_own l p.own.id (p.own.mine ++ entry write raised value ∷ []) f.own (block_of p.own.mine) (still_last setting p.own.id (block_of p.own.mine) x nth p.own.mine write raised value last goes tail known) in
+      let k = last_own l p.own.id (p.own.mine ++ entry write raised value ∷ []) f.own (block_of p.own.mine)
+      (still_last setting p.own.id (block_of p.own.mine) x nth p.own.mine write raised value last goes tail known) in
       let below = slice_get_within l (block_of p.own.mine) k.event k.here in
       let long = f.long in
       let at = n.pos in
-      own_stands setting p.own.id (block_of p.own.mine) x nth p.own.mine write raised value last goes tail known i (n.thread ∙ by) (n.write ∙ w) (n.commit ∙ ap is_some plain) (omega arith) (omega arith)
+      own_stands setting p.own.id (block_of p.own.mine) x nth p.own.mine write raised value last goes tail known i (n.thread ∙ by) (n.write
+      ∙ w) (n.commit ∙ ap is_some plain) (omega arith) (omega arith)
       (λ y. subst (λ t. Has i.set y ↔ InitialLockset t None y) by (subst (λ v. Has i.set y ↔ InitialLockset q.thread v y) plain (n.set y)))
       (subst (OwnLeast setting p.own.id p.own.mine) (sym n.held) least) l f
 
-  follows : (write raised : Bool) (value : ℤ) → q.write ≡ write → (write ≡ false → raised ≡ false → value ≡ row.value) → (new : Row) → RowAfter row (record { write = write; value = value; raised = raised }) q tail new → (l : List Stamp) → Fits write raised value l → (ds : List Draw) → RowStands setting l x ds row
+  follows : (write raised : Bool) (value : ℤ) → q.write ≡ write → (write ≡ false → raised ≡ false → value ≡ row.value) → (new : Row)
+      → RowAfter row (record { write = write; value = value; raised = raised }) q tail new → (l : List Stamp) → Fits write raised value l
+      → (ds : List Draw) → RowStands setting l x ds row
       → RowStands setting l x (drawn write raised value ∷ ds) new
-  follows write true value w v new (inl r) l f ds s = subst (RowStands setting l x (drawn write true value ∷ ds)) (sym r.1) (raised_follows setting p.own.id (block_of p.own.mine) x nth p.own.mine value tail known write row l f ds s)
+  follows write true value w v new (inl r) l f ds s =
+      subst (RowStands setting l x (drawn write true value ∷ ds)) (sym r.1)
+      (raised_follows setting p.own.id (block_of p.own.mine) x nth p.own.mine value tail known write row l f ds s)
   follows write true value w v new (inr r) l f ds s = absurd (let e = r.0 in cc)
   follows write false value w v new (inl r) l f ds s = absurd (let e = r.0 in cc)
   follows true false value w v new (inr r) l f ds s =
       subst (RowStands setting l x (drawn true false value ∷ ds)) (sym (wrote_is row new r.1.0 q tail value r.1.1 w r.1.2))
-      (write_follows setting p.own.id (block_of p.own.mine) x nth p.own.mine value tail known row r.1.1.info (λ m g. stands r.1.1.info r.1.1.is true false value w m g) l f ds s)
+      (write_follows setting p.own.id (block_of p.own.mine) x nth p.own.mine value tail known row r.1.1.info
+      (λ m g. stands r.1.1.info r.1.1.is true false value w m g) l f ds s)
   follows false false value w v new (inr r) l f ds s =
-      let same = read_is row new r.1.0 q tail value r.1.1 w r.1.2 ∙ ap (λ k. record { value = k; last_write = row.last_write; reads = set row.reads q.thread (Some r.1.1.info) }) (v refl refl) ∙ ap (λ t. record { value = row.value; last_write = row.last_write; reads = set row.reads t (Some r.1.1.info) }) by in
+      let same = read_is row new r.1.0 q tail value r.1.1 w r.1.2
+      ∙ ap (λ k. record { value = k; last_write = row.last_write; reads = set row.reads q.thread (Some r.1.1.info) }) (v refl refl)
+      ∙ ap (λ t. record { value = row.value; last_write = row.last_write; reads = set row.reads t (Some r.1.1.info) }) by in
       subst (RowStands setting l x (drawn false false value ∷ ds)) (sym same)
-      (read_follows setting p.own.id (block_of p.own.mine) x nth p.own.mine value tail known row r.1.1.info near (λ m g. stands r.1.1.info r.1.1.is false false value w m g) l f ds s)
+      (read_follows setting p.own.id (block_of p.own.mine) x nth p.own.mine value tail known row r.1.1.info near
+      (λ m g. stands r.1.1.info r.1.1.is false false value w m g) l f ds s)
 
   -- the row may be put back
-  pub may_put_row : (a : PlainAccess) → q.write ≡ a.write → (a.write ≡ false → a.raised ≡ false → a.value ≡ row.value) → (new : Row) (u : PassView) → u ≡ marked_plain (walked_row p x row tail known loaded) x nth a.write a.value a.raised → RowAfter row a q tail new
+  pub may_put_row : (a : PlainAccess) → q.write ≡ a.write → (a.write ≡ false → a.raised ≡ false → a.value ≡ row.value)
+      → (new : Row) (u : PassView) → u ≡ marked_plain (walked_row p x row tail known loaded) x nth a.write a.value a.raised
+      → RowAfter row a q tail new
       → MayPutBack setting (shelf_of u) (view_of u) (suc x) (slot.Row new) false
   may_put_row a w v new u is r =
-      let back : MayPutBack setting (shelf_of (at_held p x row tail known loaded nth a (row_held x row tail))) (view_of (at_held p x row tail known loaded nth a (row_held x row tail))) (suc x) (slot.Row new) false = record {
+      let back : MayPutBack setting (shelf_of (at_held p x row tail known loaded nth a (row_held x row tail)))
+      (view_of (at_held p x row tail known loaded nth a (row_held x row tail))) (suc x) (slot.Row new) false = record {
         held = record (row_held x row tail) { drew = Some (drawn a.write a.raised a.value) };
         has = (0, omega arith, refl);
         object = refl;
         may = record {
-          right = inl (record { fresh = (tail, (0, omega arith, refl)); follows = λ l f ds s. follows a.write a.raised a.value w v new r l f ds s });
-          above = λ o has. elim (new_or_old row new q tail a.write a.raised a.value w r o has) [ inl at ↦ inl (tail, (0, omega arith, refl), omega arith) | inr old ↦ inr (o, old, omega arith) ];
+          right = inl (record {
+            fresh = (tail, (0, omega arith, refl));
+            follows = λ l f ds s. follows a.write a.raised a.value w v new r l f ds s;
+          });
+          above = λ o has. elim (new_or_old row new q tail a.write a.raised a.value w r o has)
+              [ inl at ↦ inl (tail, (0, omega arith, refl), omega arith) | inr old ↦ inr (o, old, omega arith) ];
         };
         quiet = λ e. absurd (cc);
       } in
-      subst (λ (z : PassView). MayPutBack setting (shelf_of z) (view_of z) (suc x) (slot.Row new) false) (sym (is ∙ ap (at_held p x row tail known loaded nth a) (held_is p x row tail))) back
+      subst (λ (z : PassView). MayPutBack setting (shelf_of z) (view_of z) (suc x) (slot.Row new) false)
+      (sym (is ∙ ap (at_held p x row tail known loaded nth a) (held_is p x row tail))) back
 
 -- the events that it loaded
-loads_once : (p : PassView) (x : ℕ) (row : Row) (tail : ℕ) (w u r : PassView) → w ≡ with_row p x row tail → HasWalked row w u → r.seen ≡ tail → r.known ≡ u.known → LoadsOnce row p r
+loads_once : (p : PassView) (x : ℕ) (row : Row) (tail : ℕ) (w u r : PassView) → w ≡ with_row p x row tail → HasWalked row w u → r.seen
+    ≡ tail → r.known ≡ u.known → LoadsOnce row p r
 loads_once p x row tail w u r is walk seen known =
     let at = ap (λ (z : PassView). z.seen) is in
     let ends = walk.ends in
@@ -313,12 +388,17 @@ loads_once p x row tail w u r is walk seen known =
     }
 
 -- none, where an early cut is sure of each Info that conflicts
-pub loads_none : (p : PassView) (x : ℕ) (row : Row) (tail : ℕ) (w u r : PassView) → w ≡ with_row p x row tail → u ≡ w → r.known ≡ u.known → r.known ≡ p.known
+pub loads_none : (p : PassView) (x : ℕ) (row : Row) (tail : ℕ) (w u r : PassView) → w ≡ with_row p x row tail → u ≡ w → r.known ≡ u.known
+    → r.known ≡ p.known
 loads_none p x row tail w u r is same known = known ∙ ap (λ (z : PassView). z.known) (same ∙ is)
 
 -- what the call tells of the row that it took
-pub is_judged : (setting : Setting) (p : PassView) (x : ℕ) (row : Row) (tail : ℕ) (known : List (ℕ × Stamp)) (loaded : List CellWord) (nth : ℕ) (write : Option ℤ) (race : Bool) (a : PlainAccess) (s : Seen) (r : PassView) (w u : PassView) → w ≡ with_row p x row tail → IsWithin row w.seen → HasWalked row w u → known ≡ u.known
-    → a ≡ access_of row write race → IsSeen a nth s → IsStored p x row tail known loaded nth a r → ((l : List Stamp) → IsFitting setting (shelf_of p) tail known l → InfosStand setting l row → (race ≡ true) ↔ SomeFails l row (question_of p.own write)) → IsJudged setting x write p s r
+pub is_judged : (setting : Setting) (p : PassView) (x : ℕ) (row : Row) (tail : ℕ) (known : List (ℕ × Stamp)) (loaded : List CellWord)
+    (nth : ℕ) (write : Option ℤ) (race : Bool) (a : PlainAccess) (s : Seen) (r : PassView) (w u : PassView) → w ≡ with_row p x row tail
+    → IsWithin row w.seen → HasWalked row w u → known ≡ u.known
+    → a ≡ access_of row write race → IsSeen a nth s → IsStored p x row tail known loaded nth a r
+    → ((l : List Stamp) → IsFitting setting (shelf_of p) tail known l → InfosStand setting l row
+    → (race ≡ true) ↔ SomeFails l row (question_of p.own write)) → IsJudged setting x write p s r
 is_judged setting p x row tail known loaded nth write race a s r w u took within walk events is seen stored judged =
     let told = entry_told row write race nth s (subst (λ (b : PlainAccess). IsSeen b nth s) is seen) in
     let same : is_raised s ≡ race = sym told.raised ∙ (access_facts row write race).1 in
@@ -328,5 +408,6 @@ is_judged setting p x row tail known loaded nth write race a s r w u took within
       within = subst (IsWithin row) (ap (λ (z : PassView). z.seen) took ∙ sym stored.seen) within;
       answers = told.answers;
       loads = loads_once p x row tail w u r took walk stored.seen (stored.known_is ∙ events);
-      raised = λ l f stand. let k = judged l (fits_stored p x row tail known loaded nth setting a r stored l f) stand in (λ e. k.0 (sym same ∙ e), λ e. same ∙ k.1 e);
+      raised = λ l f stand. let k = judged l (fits_stored p x row tail known loaded nth setting a r stored l f) stand
+          in (λ e. k.0 (sym same ∙ e), λ e. same ∙ k.1 e);
     }

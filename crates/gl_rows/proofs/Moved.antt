@@ -24,16 +24,20 @@ use Rattle.gl_rows.specs.Walks.{KnowsFrom}
 use Rattle.gl_rows.proofs.Windows.{known_from}
 
 -- the events that were loaded are those of each such list, up to where they end
-pub window_agrees : (setting : Setting) (s : Shelf) (seen : ℕ) (known : List (ℕ × Stamp)) (from to : ℕ) (window l : List Stamp) → from + length window ≡ to → to ≤ seen
-    → ((k : ℕ) (x : Stamp) → slice_get window k ≡ Some x → Contains known (from + k, x)) → IsFitting setting s seen known l → drop from (take to l) ≡ window
+pub window_agrees : (setting : Setting) (s : Shelf) (seen : ℕ) (known : List (ℕ × Stamp)) (from to : ℕ) (window l : List Stamp)
+    → from + length window ≡ to → to ≤ seen
+    → ((k : ℕ) (x : Stamp) → slice_get window k ≡ Some x → Contains known (from + k, x)) → IsFitting setting s seen known l
+    → drop from (take to l) ≡ window
 window_agrees setting s seen known from to window l ends near is f =
     let long : length l ≡ seen = f.long in
     let front : length (take to l) ≡ to = length-take-le to l (omega arith) in
     window_is from (take to l) window (front ∙ sym ends) (λ k x at.
     let in_window = slice_get_within window k x at in
     let within : from + k < length (take to l) = omega arith in
-    let there = All-contains (λ (e : ℕ × Stamp). e.0 < length l → slice_get l e.0 ≡ Some e.1) known (from + k, x) f.knows (is k x at) (omega arith) in
-    sym (get_front (take to l) (drop to l) (from + k) within) ∙ subst (λ (z : List Stamp). slice_get z (from + k) ≡ Some x) (sym (take-append-drop to l)) there)
+    let there = All-contains (λ (e : ℕ × Stamp). e.0 < length l → slice_get l e.0 ≡ Some e.1) known (from + k, x) f.knows (is k x at)
+    (omega arith) in
+    sym (get_front (take to l) (drop to l) (from + k) within)
+    ∙ subst (λ (z : List Stamp). slice_get z (from + k) ≡ Some x) (sym (take-append-drop to l)) there)
 
 module _ (l : List Stamp) (from to : ℕ) (window : List Stamp) (is : drop from (take to l) ≡ window) (near : to ≤ length l) where
   pub info_moved_to : (old new : Info) → from ≤ old.pos → old.pos ≤ length l → IsMovedTo from to window old new → IsMoved l old new
@@ -43,7 +47,8 @@ module _ (l : List Stamp) (from to : ℕ) (window : List Stamp) (is : drop from 
       let sum : old.pos + (to - old.pos) ≡ to = omega arith in
       let first : from + (old.pos - from) ≡ old.pos = omega arith in
       let same : drop (old.pos - from) window ≡ take (new.pos - old.pos) (drop old.pos l) =
-      ap (drop (old.pos - from)) (sym is) ∙ drop-drop (old.pos - from) from (take to l) ∙ ap (λ n. drop n (take to l)) first ∙ ap (λ n. drop old.pos (take n l)) (sym sum) ∙ drop-take old.pos (to - old.pos) l
+      ap (drop (old.pos - from)) (sym is) ∙ drop-drop (old.pos - from) from (take to l) ∙ ap (λ n. drop n (take to l)) first
+      ∙ ap (λ n. drop old.pos (take n l)) (sym sum) ∙ drop-take old.pos (to - old.pos) l
       ∙ ap (λ n. take (n - old.pos) (drop old.pos l)) (sym at) in
       record {
         thread = w.thread;
@@ -55,13 +60,15 @@ module _ (l : List Stamp) (from to : ℕ) (window : List Stamp) (is : drop from 
         set = λ y. subst (λ (xs : List Stamp). Has new.set y ↔ AfterAll (Has old.set) xs y) same (w.set y);
       }
 
-  kept_moved_to : (o n : Option Info) → ((i : Info) → o ≡ Some i → (from ≤ i.pos) × (i.pos ≤ length l)) → AreMovedTo from to window o n → AreMoved l o n
+  kept_moved_to : (o n : Option Info) → ((i : Info) → o ≡ Some i → (from ≤ i.pos) × (i.pos ≤ length l)) → AreMovedTo from to window o n
+      → AreMoved l o n
   kept_moved_to None None at m = tt
   kept_moved_to None (Some n) at m = absurd m
   kept_moved_to (Some o) None at m = absurd m
   kept_moved_to (Some o) (Some n) at m = info_moved_to o n (at o refl).0 (at o refl).1 m
 
-  pub row_moved_to : (old new : Row) → ((i : Info) → InRow old i → from ≤ i.pos) → IsWithin old (length l) → IsRowMovedTo from to window old new → IsRowMoved l old new
+  pub row_moved_to : (old new : Row) → ((i : Info) → InRow old i → from ≤ i.pos) → IsWithin old (length l)
+      → IsRowMovedTo from to window old new → IsRowMoved l old new
   row_moved_to old new behind within m = record {
     value = m.value;
     last_write = kept_moved_to old.last_write new.last_write (λ i e. (behind i (inl e), within.last_write i e)) m.last_write;
@@ -86,7 +93,9 @@ module _ (from to : ℕ) (window : List Stamp) where
   row_above old new m i (inr (t, e)) = kept_above (read_of old.reads t) (read_of new.reads t) (m.reads t) i e
 
 -- a row whose Infos were moved over the events that the pass loaded for it
-pub row_lifted : (setting : Setting) (p q : PassView) (from to : ℕ) (window : List Stamp) (old new : Row) → KnowsFrom from window p q → from + length window ≡ to → to ≤ p.seen → ((i : Info) → InRow old i → from ≤ i.pos) → IsWithin old p.seen → IsRowMovedTo from to window old new
+pub row_lifted : (setting : Setting) (p q : PassView) (from to : ℕ) (window : List Stamp) (old new : Row) → KnowsFrom from window p q
+    → from + length window ≡ to → to ≤ p.seen → ((i : Info) → InRow old i → from ≤ i.pos) → IsWithin old p.seen
+    → IsRowMovedTo from to window old new
     → (l : List Stamp) → IsFitting setting (shelf_of q) q.seen q.known l → IsRowMoved l old new
 row_lifted setting p q from to window old new knows ends near behind within m l f =
     let seen : q.seen ≡ p.seen = ap (λ (z : PassView). z.seen) knows in

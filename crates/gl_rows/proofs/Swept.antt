@@ -28,7 +28,13 @@ far_right x to a b (inl (m, has, le)) = inl (m, Contains-append_right a b (Hold 
 far_right x to a b (inr (by, has)) = inr (by, Contains-append_right a b (Busy (suc x) by) has)
 
 still_trans : (p q r : PassView) → IsStill p q → IsStill q r → IsStill p r
-still_trans p q r a b = record { own = b.own ∙ a.own; spare = b.spare ∙ a.spare; quiet = b.quiet ∙ a.quiet; later = (let m = a.later in let n = b.later in omega arith) }
+still_trans p q r a b = record {
+  own = b.own ∙ a.own;
+  spare = b.spare ∙ a.spare;
+  quiet = b.quiet
+      ∙ a.quiet;
+  later = (let m = a.later in let n = b.later in omega arith);
+}
 
 still_same : (p : PassView) → IsStill p p
 still_same p = record { own = refl; spare = refl; quiet = refl; later = omega arith }
@@ -50,22 +56,32 @@ tried_far x to n p q is le = record {
 }
 
 holds_far : (x to hold : ℕ) (row : _) (holds : List Read) → LoadedHolds x to hold holds → IsFar x to (Taken (suc x) (slot.Row row) ∷ holds)
-holds_far x to hold row holds (inl (le, is)) = inl (hold, subst (λ hs. Contains (Taken (suc x) (slot.Row row) ∷ hs) (Hold (suc x) hold)) (sym is) (1, omega arith, refl), le)
-holds_far x to hold row holds (inr (before, below, same, is)) = inl (hold, subst (λ hs. Contains (Taken (suc x) (slot.Row row) ∷ hs) (Hold (suc x) hold)) (sym is) (2, omega arith, refl), (let e = same in omega arith))
+holds_far x to hold row holds (inl (le, is)) =
+    inl (hold, subst (λ hs. Contains (Taken (suc x) (slot.Row row) ∷ hs) (Hold (suc x) hold)) (sym is) (1, omega arith, refl), le)
+holds_far x to hold row holds (inr (before, below, same, is)) =
+    inl (
+      hold,
+      subst (λ hs. Contains (Taken (suc x) (slot.Row row) ∷ hs) (Hold (suc x) hold)) (sym is) (2, omega arith, refl),
+      (let e = same
+          in omega arith),
+    )
 
 -- a row that was to be moved up, whatever came of it
-pub tried_by : (x to n : ℕ) (p q r : PassView) (answer : Result ℕ WasBusy) → q ≡ after p (saw (view_of p) (Hold (x + 1) n)) → IfOk answer (λ hold. HasAdvanced x to q hold r) → IfErr answer (λ b. ReadBusy x b.by q r) → IsStill q r → IsTried x to p r
+pub tried_by : (x to n : ℕ) (p q r : PassView) (answer : Result ℕ WasBusy) → q ≡ after p (saw (view_of p) (Hold (x + 1) n))
+    → IfOk answer (λ hold. HasAdvanced x to q hold r) → IfErr answer (λ b. ReadBusy x b.by q r) → IsStill q r → IsTried x to p r
 tried_by x to n p q r (Ok hold) is done busy still =
     let h = done in record {
       still = still_trans p q r (still_saw p q (Hold (x + 1) n) is) still;
       further = (Hold (x + 1) n ∷ []) ++ (Taken (suc x) (slot.Row h.row) ∷ h.holds);
-      reads = h.reads ∙ ap (λ (z : PassView). z.reads ++ Taken (suc x) (slot.Row h.row) ∷ h.holds) is ∙ append_assoc p.reads (Hold (x + 1) n ∷ []) (Taken (suc x) (slot.Row h.row) ∷ h.holds);
+      reads = h.reads ∙ ap (λ (z : PassView). z.reads ++ Taken (suc x) (slot.Row h.row) ∷ h.holds) is
+          ∙ append_assoc p.reads (Hold (x + 1) n ∷ []) (Taken (suc x) (slot.Row h.row) ∷ h.holds);
       far = far_right x to (Hold (x + 1) n ∷ []) (Taken (suc x) (slot.Row h.row) ∷ h.holds) (holds_far x to hold h.row h.holds h.loaded);
     }
 tried_by x to n p q r (Err b) is done busy still = record {
   still = still_trans p q r (still_saw p q (Hold (x + 1) n) is) still;
   further = (Hold (x + 1) n ∷ []) ++ Busy (suc x) b.by ∷ [];
-  reads = busy.reads ∙ ap (λ (z : PassView). z.reads ++ Busy (suc x) b.by ∷ []) is ∙ append_assoc p.reads (Hold (x + 1) n ∷ []) (Busy (suc x) b.by ∷ []);
+  reads = busy.reads ∙ ap (λ (z : PassView). z.reads ++ Busy (suc x) b.by ∷ []) is
+      ∙ append_assoc p.reads (Hold (x + 1) n ∷ []) (Busy (suc x) b.by ∷ []);
   far = far_right x to (Hold (x + 1) n ∷ []) (Busy (suc x) b.by ∷ []) (inr (b.by, (0, omega arith, refl)));
 }
 
@@ -86,9 +102,12 @@ tried_next k to p q r a t = record {
 }
 
 -- the tail was loaded first
-pub may_try : (z : TableView) (p q : PassView) (tail : ℕ) → MaySettle z p → q ≡ after p (saw_tail (view_of p) tail) → (q.own ≡ p.own) × (q.own.held ≡ [])
+pub may_try : (z : TableView) (p q : PassView) (tail : ℕ) → MaySettle z p → q ≡ after p (saw_tail (view_of p) tail) → (q.own ≡ p.own)
+    × (q.own.held ≡ [])
 may_try z p q tail may is =
-    let own : q.own ≡ p.own = ap (λ (x : PassView). x.own) is ∙ ap (λ l. record p.own { held = Rattle.std.proofs.Common.map (Rattle.gl_rule.specs.View.with_tail tail) l }) may.held ∙ ap (λ l. record p.own { held = l }) (sym may.held) in
+    let own : q.own ≡ p.own = ap (λ (x : PassView). x.own) is
+    ∙ ap (λ l. record p.own { held = Rattle.std.proofs.Common.map (Rattle.gl_rule.specs.View.with_tail tail) l }) may.held
+    ∙ ap (λ l. record p.own { held = l }) (sym may.held) in
     (own, ap (λ (o : Own). o.held) own ∙ may.held)
 
 -- and the rows tried: the first segment may be raised
@@ -104,26 +123,33 @@ may_settle z p q r may own spare still =
 one_trim : (before to low : ℕ) → low ≡ max before to → (settling.trims before to ≡ []) ⊎ (settling.trims before to ≡ Trim low ∷ [])
 one_trim before to low is = by (nat_lt before to) refl
   where
-    by : (b : Bool) → nat_lt before to ≡ b → ((if nat_lt before to then Trim to ∷ [] else []) ≡ []) ⊎ ((if nat_lt before to then Trim to ∷ [] else []) ≡ Trim low ∷ [])
-    by true e = inr (ap (λ c. if c then Trim to ∷ [] else []) e ∙ ap (λ n. Trim n ∷ []) (let same : to ≡ low = (let b = ltb-true before to e in omega arith) in same))
+    by : (b : Bool) → nat_lt before to ≡ b → ((if nat_lt before to then Trim to ∷ [] else []) ≡ [])
+        ⊎ ((if nat_lt before to then Trim to ∷ [] else []) ≡ Trim low ∷ [])
+    by true e = inr (ap (λ c. if c then Trim to ∷ [] else []) e
+        ∙ ap (λ n. Trim n ∷ []) (let same : to ≡ low = (let b = ltb-true before to e in omega arith) in same))
     by false e = inl (ap (λ c. if c then Trim to ∷ [] else []) e)
 
 -- the whole
-pub swept : (z : TableView) (p q r s : PassView) (tail to low : ℕ) → 0 < z.key.cells → q ≡ after p (saw_tail (view_of p) tail) → p.seen ≤ tail → q.own ≡ p.own → to ≡ tail / z.key.cells * z.key.cells → AreTried VARIABLES to q r → IsSettled z r s low → IsSwept z p s low
+pub swept : (z : TableView) (p q r s : PassView) (tail to low : ℕ) → 0 < z.key.cells → q ≡ after p (saw_tail (view_of p) tail)
+    → p.seen ≤ tail → q.own ≡ p.own → to ≡ tail / z.key.cells * z.key.cells → AreTried VARIABLES to q r → IsSettled z r s low
+    → IsSwept z p s low
 swept z p q r s tail to low some is later own to_is tried settles =
     let l = settles.holds in
     let o = l.one (lit< tt) in
     let reads_q : q.reads ≡ p.reads = ap (λ (x : PassView). x.reads) is in
     let answer = settles.answer in
-    let up : settles.least / z.key.cells ≤ low = subst (λ n. settles.least / z.key.cells ≤ n) (sym answer) (le-max_right settles.before (settles.least / z.key.cells)) in
+    let up : settles.least / z.key.cells ≤ low =
+    subst (λ n. settles.least / z.key.cells ≤ n) (sym answer) (le-max_right settles.before (settles.least / z.key.cells)) in
     let end = tried.further ++ (l.further ++ Hold 0 low ∷ []) in
     record {
       trims = settling.trims settles.before (settles.least / z.key.cells);
       one = one_trim settles.before (settles.least / z.key.cells) low answer;
-      own = settles.own ∙ ap (λ (x : Own). record x { mine = x.mine ++ settling.trims settles.before (settles.least / z.key.cells) }) (tried.still.own ∙ own);
+      own = settles.own ∙ ap (λ (x : Own). record x { mine = x.mine ++ settling.trims settles.before (settles.least / z.key.cells) })
+          (tried.still.own ∙ own);
       tries = tried.further;
       holds = l.further;
-      reads = settles.reads ∙ ap (λ (x : PassView). x.reads ++ Hold 0 low ∷ []) l.is ∙ append_assoc r.reads l.further (Hold 0 low ∷ []) ∙ ap (λ (x : List Read). x ++ (l.further ++ Hold 0 low ∷ [])) tried.reads
+      reads = settles.reads ∙ ap (λ (x : PassView). x.reads ++ Hold 0 low ∷ []) l.is ∙ append_assoc r.reads l.further (Hold 0 low ∷ [])
+          ∙ ap (λ (x : List Read). x ++ (l.further ++ Hold 0 low ∷ [])) tried.reads
           ∙ append_assoc q.reads tried.further (l.further ++ Hold 0 low ∷ []) ∙ ap (λ (x : List Read). x ++ end) reads_q;
       tail = tail;
       later = (later, (let a = tried.still.later in let b = settles.seen in let c = ap (λ (x : PassView). x.seen) is in omega arith));
@@ -135,17 +161,21 @@ swept z p q r s tail to low some is later own to_is tried settles =
       low_is = answer;
       reaches = elim (tried.far o.0 o.1) [
         | inl (m, has, far) ↦ inl (
-            let old = subst (λ (x : List Read). Contains x (Hold (suc o.0) m)) (sym tried.reads) (Contains-append_right q.reads tried.further (Hold (suc o.0) m) has) in
+            let old = subst (λ (x : List Read). Contains x (Hold (suc o.0) m)) (sym tried.reads)
+            (Contains-append_right q.reads tried.further (Hold (suc o.0) m) has) in
             let risen = l.risen o.0 settles.least m o.2 old in
             let le : to ≤ settles.least = omega arith in
-            let seg : tail / z.key.cells ≤ settles.least / z.key.cells = (le-div_iff_mul-le {k = z.key.cells} {x = tail / z.key.cells} {y = settles.least} some).1 (subst (λ n. n ≤ settles.least) to_is le) in
+            let seg : tail / z.key.cells ≤ settles.least / z.key.cells =
+            (le-div_iff_mul-le {k = z.key.cells} {x = tail / z.key.cells} {y = settles.least} some).1
+            (subst (λ n. n ≤ settles.least) to_is le) in
             omega arith)
         | inr (by, has) ↦ inr (
           o.0,
           by,
           settles.least,
           Contains-append_left tried.further (l.further ++ Hold 0 low ∷ []) (Busy (suc o.0) by) has,
-          Contains-append_right tried.further (l.further ++ Hold 0 low ∷ []) (Hold (suc o.0) settles.least) (Contains-append_left l.further (Hold 0 low ∷ []) (Hold (suc o.0) settles.least) o.2),
+          Contains-append_right tried.further (l.further ++ Hold 0 low ∷ []) (Hold (suc o.0) settles.least)
+              (Contains-append_left l.further (Hold 0 low ∷ []) (Hold (suc o.0) settles.least) o.2),
           up,
         )
       ];

@@ -18,7 +18,8 @@ use Rattle.gl_table.specs.PassView.{PassView}
 use Rattle.gl_rows.specs.Walks.{placed_from, KnowsFrom, HasWalkedTo, HasWalked}
 
 -- all of them stand in it, where none is below its first position and none above its end
-pub row_from : (from seen : ℕ) (window : List Stamp) (row : Row) → from + length window ≡ seen → ((i : Info) → InRow row i → from ≤ i.pos) → IsWithin row seen → IsRowFrom from window row
+pub row_from : (from seen : ℕ) (window : List Stamp) (row : Row) → from + length window ≡ seen → ((i : Info) → InRow row i → from ≤ i.pos)
+    → IsWithin row seen → IsRowFrom from window row
 row_from from seen window row ends below within = record {
   last_write = λ i e. (below i (inl e), (let k = within.last_write i e in omega arith));
   reads = λ t i e. (below i (inr (t, e)), (let k = within.reads t i e in omega arith));
@@ -39,23 +40,28 @@ placed_at n (y ∷ xs) zero x e =
     (0, omega arith, ap (λ (z : ℕ × Stamp). z) (let first : n ≡ n + 0 = omega arith in ap (λ m. (m, y)) first ∙ ap (λ z. (n + 0, z)) is))
 placed_at n (y ∷ xs) (suc k) x e =
     let same : suc n + k ≡ n + suc k = omega arith in
-    subst (λ m. Contains (placed_from n (y ∷ xs)) (m, x)) same (in_cons (n, y) (placed_from (suc n) xs) (suc n + k, x) (placed_at (suc n) xs k x e))
+    subst (λ m. Contains (placed_from n (y ∷ xs)) (m, x)) same
+    (in_cons (n, y) (placed_from (suc n) xs) (suc n + k, x) (placed_at (suc n) xs k x e))
 
 -- a pass that loaded nothing
 pub knows_none : (n : ℕ) (p : PassView) → KnowsFrom n [] p p
 knows_none n p = ap (λ (known : List (ℕ × Stamp)). record p { known = known }) (sym (append-nil p.known))
 
 -- a pass that loaded one event more
-pub knows_next : (n m : ℕ) (xs : List Stamp) (x : Stamp) (p q r : PassView) → n + length xs ≡ m → KnowsFrom n xs p q → r ≡ record q { known = r.known; loaded = r.loaded } → r.known ≡ q.known ++ (m, x) ∷ [] → KnowsFrom n (xs ++ x ∷ []) p r
+pub knows_next : (n m : ℕ) (xs : List Stamp) (x : Stamp) (p q r : PassView) → n + length xs ≡ m → KnowsFrom n xs p q → r
+    ≡ record q { known = r.known; loaded = r.loaded } → r.known ≡ q.known ++ (m, x) ∷ [] → KnowsFrom n (xs ++ x ∷ []) p r
 knows_next n m xs x p q r at is more known =
     let k : r.known ≡ p.known ++ placed_from n (xs ++ x ∷ []) =
     known ∙ ap (λ (z : PassView). z.known ++ (m, x) ∷ []) is ∙ append_assoc p.known (placed_from n xs) ((m, x) ∷ [])
     ∙ ap (λ (l : List (ℕ × Stamp)). p.known ++ l) (ap (λ j. placed_from n xs ++ (j, x) ∷ []) (sym at) ∙ sym (placed_push n xs x)) in
-    more ∙ ap (λ (z : PassView). record z { known = r.known; loaded = r.loaded }) is ∙ ap (λ (l : List (ℕ × Stamp)). record p { known = l; loaded = r.loaded }) k
+    more ∙ ap (λ (z : PassView). record z { known = r.known; loaded = r.loaded }) is
+    ∙ ap (λ (l : List (ℕ × Stamp)). record p { known = l; loaded = r.loaded }) k
 
 -- the pass knows each of the events that it loaded
-pub known_from : (n : ℕ) (xs : List Stamp) (p q : PassView) → KnowsFrom n xs p q → (k : ℕ) (x : Stamp) → slice_get xs k ≡ Some x → Contains q.known (n + k, x)
-known_from n xs p q is k x at = subst (λ (l : List (ℕ × Stamp)). Contains l (n + k, x)) (sym (ap (λ (z : PassView). z.known) is)) (Contains-append_right p.known (placed_from n xs) (n + k, x) (placed_at n xs k x at))
+pub known_from : (n : ℕ) (xs : List Stamp) (p q : PassView) → KnowsFrom n xs p q → (k : ℕ) (x : Stamp) → slice_get xs k ≡ Some x
+    → Contains q.known (n + k, x)
+known_from n xs p q is k x at = subst (λ (l : List (ℕ × Stamp)). Contains l (n + k, x)) (sym (ap (λ (z : PassView). z.known) is))
+    (Contains-append_right p.known (placed_from n xs) (n + k, x) (placed_at n xs k x at))
 
 -- the events that were loaded are a window
 pub window_of : (n : ℕ) (xs : List Stamp) (p q : PassView) → KnowsFrom n xs p q → n + length xs ≡ p.seen → IsWindow q.seen q.known n xs
@@ -69,7 +75,8 @@ empty_of [] e = refl
 empty_of (x ∷ xs) e = absurd (omega arith)
 
 -- a walk over a row from the least position of its Infos
-pub has_walked : (row : Row) (n to : ℕ) (xs : List Stamp) (p q : PassView) → KnowsFrom n xs p q → n + length xs ≡ to → (n ≡ to) ⊎ ((i : Info) × InRow row i × (i.pos ≡ n)) → HasWalkedTo row to p q
+pub has_walked : (row : Row) (n to : ℕ) (xs : List Stamp) (p q : PassView) → KnowsFrom n xs p q → n + length xs ≡ to → (n ≡ to)
+    ⊎ ((i : Info) × InRow row i × (i.pos ≡ n)) → HasWalkedTo row to p q
 has_walked row n to xs p q is ends named = record {
   from = n;
   events = xs;
@@ -83,12 +90,15 @@ pub not_walked : (row : Row) (p : PassView) → HasWalked row p p
 not_walked row p = record { from = p.seen; events = []; is = knows_none p.seen p; ends = add-zero p.seen; named = inl refl }
 
 -- what fits with more that is known fits with less
-pub fits_before : (setting : Setting) (s : Shelf) (seen : ℕ) (known further : List (ℕ × Stamp)) (l : List Stamp) → IsFitting setting s seen (known ++ further) l → IsFitting setting s seen known l
+pub fits_before : (setting : Setting) (s : Shelf) (seen : ℕ) (known further : List (ℕ × Stamp)) (l : List Stamp)
+    → IsFitting setting s seen (known ++ further) l → IsFitting setting s seen known l
 fits_before setting s seen known further l f = record {
   long = f.long;
   now = f.now;
   allowed = f.allowed;
-  knows = All-weaker (Contains known) (λ (k : ℕ × Stamp). k.0 < length l → slice_get l k.0 ≡ Some k.1) (λ e c. All-contains (λ (k : ℕ × Stamp). k.0 < length l → slice_get l k.0 ≡ Some k.1) (known ++ further) e f.knows (Contains-append_left known further e c)) known (All-contains_itself known);
+  knows = All-weaker (Contains known) (λ (k : ℕ × Stamp). k.0 < length l → slice_get l k.0 ≡ Some k.1)
+      (λ e c. All-contains (λ (k : ℕ × Stamp). k.0 < length l → slice_get l k.0 ≡ Some k.1) (known ++ further) e f.knows
+      (Contains-append_left known further e c)) known (All-contains_itself known);
   own = f.own;
 }
 

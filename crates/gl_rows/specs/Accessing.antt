@@ -44,7 +44,8 @@ access_of row None raised = record { write = false; value = (if raised then pos 
 
 -- the row after the access: as it was where it is raised, else with the access noted at the position, and its value
 abbrev pub RowAfter : Row → PlainAccess → Question → ℕ → Row → Type 0
-RowAfter old a q at new = ((a.raised ≡ true) × (new ≡ old)) ⊎ ((a.raised ≡ false) × ((noted : Row) × IsNoted old q at noted × (new ≡ record noted { value = a.value })))
+RowAfter old a q at new = ((a.raised ≡ true) × (new ≡ old))
+    ⊎ ((a.raised ≡ false) × ((noted : Row) × IsNoted old q at noted × (new ≡ record noted { value = a.value })))
 
 abbrev pub IsSeen : PlainAccess → ℕ → Seen → Type 0
 IsSeen a n (Value v) = (a.raised ≡ false) × (v ≡ a.value)
@@ -94,7 +95,8 @@ pub record LoadsOnce (row : Row) (p q : PassView) : Type 0 where
 abbrev pub LoadsNone : {X : _} {Y : _} {f : _} {g : _} → Cuts X Y f g → ℕ → Option ℤ → PassView → PassView → Type 0
 LoadsNone cuts x write p q =
     (row : Row) × (q.reads ≡ p.reads ++ Taken (suc x) (slot.Row row) ∷ []) × (held : List ℕ) × AreLeastEntered (levels_of p.own.mine) held
-    × (((i : Info) → Keeps row i → Conflicts i (record (question_of p.own write) { held = held }) → (i.thread < THREADS) × SayYesSurely cuts i (record (question_of p.own write) { held = held })) → q.known ≡ p.known)
+    × (((i : Info) → Keeps row i → Conflicts i (record (question_of p.own write) { held = held }) → (i.thread < THREADS)
+    × SayYesSurely cuts i (record (question_of p.own write) { held = held })) → q.known ≡ p.known)
 
 -- the row that the call took, by which it answered: raised exactly where some Info that conflicts with the access fails its test, over each
 -- list of events that the pass cannot tell from the table's and in which the row's Infos stand for accesses
@@ -105,4 +107,5 @@ pub record IsJudged (setting : Setting) (x : ℕ) (write : Option ℤ) (p : Pass
   pub within : IsWithin row q.seen
   pub answers : Answers row write s
   pub loads : LoadsOnce row p q
-  pub raised : (l : List Stamp) → IsFitting setting (shelf_of q) q.seen q.known l → InfosStand setting l row → (is_raised s ≡ true) ↔ SomeFails l row (question_of p.own write)
+  pub raised : (l : List Stamp) → IsFitting setting (shelf_of q) q.seen q.known l → InfosStand setting l row
+      → (is_raised s ≡ true) ↔ SomeFails l row (question_of p.own write)

@@ -10,7 +10,8 @@ use Rattle.gl_rows.specs.Walks.{placed_from}
 -- the holds that were loaded while x's row was held: the first is no less than the position already, or it is below, and the second is that position
 abbrev pub LoadedHolds : ℕ → ℕ → ℕ → List Read → Type 0
 LoadedHolds x to hold reads =
-    ((to ≤ hold) × (reads ≡ Hold (suc x) hold ∷ [])) ⊎ ((before : ℕ) × (before < to) × (hold ≡ to) × (reads ≡ Hold (suc x) before ∷ Hold (suc x) hold ∷ []))
+    ((to ≤ hold) × (reads ≡ Hold (suc x) hold ∷ []))
+    ⊎ ((before : ℕ) × (before < to) × (hold ≡ to) × (reads ≡ Hold (suc x) before ∷ Hold (suc x) hold ∷ []))
 
 -- x's row was taken, and then its hold was loaded, which is this in the end; the events before the position that were loaded are each loaded once
 pub record HasAdvanced (x to : ℕ) (p : PassView) (hold : ℕ) (q : PassView) : Type 0 where

@@ -34,7 +34,8 @@ pub record AreTried (k to : ℕ) (p q : PassView) : Type 0 where
 -- the segment is at least that of the tail, or, of a row whose turn was read as held, at least that of its hold, as it was loaded then
 abbrev pub Reaches : ℕ → ℕ → ℕ → List Read → Type 0
 Reaches cells tail low reads =
-    (tail / cells ≤ low) ⊎ ((x : ℕ) × (by : ℕ) × (m : ℕ) × Contains reads (Busy (suc x) by) × Contains reads (Hold (suc x) m) × (m / cells ≤ low))
+    (tail / cells ≤ low) ⊎ ((x : ℕ) × (by : ℕ) × (m : ℕ) × Contains reads (Busy (suc x) by) × Contains reads (Hold (suc x) m)
+    × (m / cells ≤ low))
 
 -- the pass stored a Trim of the first segment, or nothing, and the first segment is as far as the rows let it
 pub record IsSwept (z : TableView) (p q : PassView) (low : ℕ) : Type 0 where

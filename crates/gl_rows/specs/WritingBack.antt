@@ -16,7 +16,11 @@ read_busy p x by = after p (refused (view_of p) (suc x) by)
 
 -- the pass took x's row as it was then, and put it back with the word that it owed
 abbrev pub written_back : PassView → ℕ → Row → PassView
-written_back p x row = record p { own = record p.own { owed = without_owed x p.own.owed }; reads = p.reads ++ Taken (suc x) (slot.Row row) ∷ [] }
+written_back p x row = record p {
+  own = record p.own { owed = without_owed x p.own.owed };
+  reads = p.reads ++ Taken (suc x) (slot.Row row)
+      ∷ [];
+}
 
 -- that row, whatever it was
 abbrev pub IsWrittenBack : PassView → ℕ → PassView → Type 0

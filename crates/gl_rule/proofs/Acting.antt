@@ -26,7 +26,9 @@ use Rattle.gl_draws.proofs.Refusing.{refusals_grow}
 use Rattle.gl_rule.proofs.Publishing.{publishes}
 
 -- the numbers of a list with an entry more that draws none, where none waits
-pub numbers_push : (draws : ℕ → List Draw) (drawn : List Drawn) (s : Shelf) (e : Entry) → drawn ≡ [] → ((x k : ℕ) → Rattle.gl_model.specs.Form.Draws e x k → ⊥) → ShelfDraws draws drawn s → ShelfDraws draws [] (shelf s.thread (s.marked ++ e ∷ []))
+pub numbers_push : (draws : ℕ → List Draw) (drawn : List Drawn) (s : Shelf) (e : Entry) → drawn ≡ []
+    → ((x k : ℕ) → Rattle.gl_model.specs.Form.Draws e x k → ⊥) → ShelfDraws draws drawn s
+    → ShelfDraws draws [] (shelf s.thread (s.marked ++ e ∷ []))
 numbers_push draws drawn s e none no_draw k =
     let k' : ShelfDraws draws [] s = subst (λ d. ShelfDraws draws d s) none k in record {
       numbers = drawn_push draws s.thread s.marked [] e no_draw k'.numbers;
@@ -37,8 +39,11 @@ numbers_push draws drawn s e none no_draw k =
     }
 
 -- publishing an act keeps the rule
-pub publishes_act : (key : Key) (slots id : ℕ) (v : View) (c : List (ℕ × Slot)) (s : Shelf) (h : Held) (l l' : ListView) (act : Act) (value : ℤ) → v.shelves ≡ s ∷ [] → v.drawn ≡ [] → MayPublish key s v h l l' (λ n. Sync n act value) (record { thread = s.thread; event = Does act }) value
-    → table.Allows (Rule key) slots id (v, c) 0 (λ n. (n + 1) % 2 ^ 64) (Published s (λ n. Sync n act value) (record { thread = s.thread; event = Does act }) (slot.List l') (λ n g. g.drew) v c)
+pub publishes_act : (key : Key) (slots id : ℕ) (v : View) (c : List (ℕ × Slot)) (s : Shelf) (h : Held) (l l' : ListView) (act : Act)
+    (value : ℤ) → v.shelves ≡ s ∷ [] → v.drawn ≡ []
+    → MayPublish key s v h l l' (λ n. Sync n act value) (record { thread = s.thread; event = Does act }) value
+    → table.Allows (Rule key) slots id (v, c) 0 (λ n. (n + 1) % 2 ^ 64)
+    (Published s (λ n. Sync n act value) (record { thread = s.thread; event = Does act }) (slot.List l') (λ n g. g.drew) v c)
 publishes_act key slots id v c s h l l' act value one none may =
     let x : Stamp = record { thread = s.thread; event = Does act } in
     publishes key slots id v c s h l l' (λ n. Sync n act value) x value (λ n g. g.drew) one may (λ w st new H here exact step. record {
@@ -54,8 +59,13 @@ publishes_act key slots id v c s h l l' act value one none may =
         foreign = λ u y k d ne own at. at;
         elsewhere = λ y. inl refl;
         others = λ r drawn other d. d;
-        own = numbers_push w.draws v.drawn s (Sync (length w.log) act value) none (λ y k d. no_draw act value (length w.log) y k d) (only_shelf (ShelfDraws w.draws v.drawn) v s one (H.views.at id v here).numbers.shelves);
-        held = λ g y row has is r. record { before = r.before; draws_are = r.draws_are; stands = row_grows key.setting w.log (x ∷ []) y r.before row r.stands };
+        own = numbers_push w.draws v.drawn s (Sync (length w.log) act value) none (λ y k d. no_draw act value (length w.log) y k d)
+            (only_shelf (ShelfDraws w.draws v.drawn) v s one (H.views.at id v here).numbers.shelves);
+        held = λ g y row has is r. record {
+          before = r.before;
+          draws_are = r.draws_are;
+          stands = row_grows key.setting w.log (x ∷ []) y r.before row r.stands;
+        };
       };
     })
   where

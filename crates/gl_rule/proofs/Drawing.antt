@@ -33,14 +33,16 @@ module _ (draws : ℕ → List Draw) (x : ℕ) (d : Draw) where
   -- another thread's count stays
   pub count_same : (t y : ℕ) → d.thread ≢ t → count_by t (next y) ≡ count_by t (draws y)
   count_same t y other = elim (ℕ_discrete y x) [
-    | yes e ↦ ap (λ z. count_by t (next z)) e ∙ ap (count_by t) next_here ∙ count_other t d (draws x) other ∙ ap (λ z. count_by t (draws z)) (sym e)
+    | yes e ↦ ap (λ z. count_by t (next z)) e ∙ ap (count_by t) next_here ∙ count_other t d (draws x) other
+        ∙ ap (λ z. count_by t (draws z)) (sym e)
     | no ne ↦ ap (count_by t) (next_else y ne)
   ]
 
   -- the thread's own grows by one at most
   pub count_up : (y : ℕ) → count_by d.thread (next y) ≤ suc (count_by d.thread (draws y))
   count_up y = elim (ℕ_discrete y x) [
-    | yes e ↦ (let a = ap (λ z. count_by d.thread (next z)) e ∙ ap (count_by d.thread) next_here ∙ count_own d.thread d (draws x) refl in let b = ap (λ z. count_by d.thread (draws z)) e in omega arith)
+    | yes e ↦ (let a = ap (λ z. count_by d.thread (next z)) e ∙ ap (count_by d.thread) next_here ∙ count_own d.thread d (draws x) refl
+        in let b = ap (λ z. count_by d.thread (draws z)) e in omega arith)
     | no ne ↦ (let a = ap (count_by d.thread) (next_else y ne) in omega arith)
   ]
 
@@ -49,15 +51,22 @@ module _ (draws : ℕ → List Draw) (x : ℕ) (d : Draw) where
   count_elsewhere t y ne = ap (count_by t) (next_else y ne)
 
   -- the numbers
-  pub numbers_hold : (count count' : ℕ → ℕ) → count' (suc x) ≡ suc (count (suc x)) → ((y : ℕ) → y ≢ x → count' (suc y) ≡ count (suc y)) → d.thread < THREADS → ((y : ℕ) → count_by d.thread (draws y) < 2 ^ 51 + 2) → NumbersHold count draws → NumbersHold count' next
+  pub numbers_hold : (count count' : ℕ → ℕ) → count' (suc x) ≡ suc (count (suc x)) → ((y : ℕ) → y ≢ x → count' (suc y) ≡ count (suc y))
+      → d.thread < THREADS → ((y : ℕ) → count_by d.thread (draws y) < 2 ^ 51 + 2) → NumbersHold count draws → NumbersHold count' next
   numbers_hold count count' here else' named short p = record {
     counts = λ y near. elim (ℕ_discrete y x) [
-      | yes e ↦ ap (λ z. count' (suc z)) e ∙ here ∙ ap suc (sym (ap (λ z. count (suc z)) e) ∙ p.counts y near ∙ ap (λ z. length (draws z)) e) ∙ sym (ap length next_here) ∙ ap (λ z. length (next z)) (sym e)
+      | yes e ↦ ap (λ z. count' (suc z)) e ∙ here
+          ∙ ap suc (sym (ap (λ z. count (suc z)) e) ∙ p.counts y near ∙ ap (λ z. length (draws z)) e) ∙ sym (ap length next_here)
+          ∙ ap (λ z. length (next z)) (sym e)
       | no ne ↦ else' y ne ∙ p.counts y near ∙ sym (ap length (next_else y ne))
     ];
-    threads = λ y e among. elim (ℕ_discrete y x) [ yes is ↦ from e (subst (λ l. Among l e) (ap next is ∙ next_here) among) | no ne ↦ p.threads y e (subst (λ l. Among l e) (next_else y ne) among) ];
+    threads = λ y e among. elim (ℕ_discrete y x) [
+      | yes is ↦ from e (subst (λ l. Among l e) (ap next is ∙ next_here) among)
+      | no ne ↦ p.threads y e (subst (λ l. Among l e) (next_else y ne) among)
+    ];
     few = λ y t. elim (ℕ_discrete d.thread t) [
-      | yes is ↦ (let a = count_up y in let b = short y in let c : count_by d.thread (next y) ≤ 2 ^ 51 + 2 = omega arith in subst (λ u. count_by u (next y) ≤ 2 ^ 51 + 2) is c)
+      | yes is ↦ (let a = count_up y in let b = short y in let c : count_by d.thread (next y) ≤ 2 ^ 51 + 2 = omega arith
+          in subst (λ u. count_by u (next y) ≤ 2 ^ 51 + 2) is c)
       | no ne ↦ (let a = count_same t y ne in let b = p.few y t in omega arith)
     ];
   }
@@ -68,21 +77,32 @@ module _ (draws : ℕ → List Draw) (x : ℕ) (d : Draw) where
 
   -- another thread's numbers stay
   pub numbers_other : (r : Shelf) (drawn : List Drawn) → d.thread ≢ r.thread → ShelfDraws draws drawn r → ShelfDraws next drawn r
-  numbers_other r drawn other k = record { numbers = drawn_other draws x d r.thread r.marked drawn other k.numbers; few = λ y. let c = count_same r.thread y other in let g = k.few y in omega arith; two = k.two; above = k.above; runs = k.runs }
+  numbers_other r drawn other k = record {
+    numbers = drawn_other draws x d r.thread r.marked drawn other k.numbers;
+    few = λ y. let c =
+        count_same r.thread y other in let g = k.few y in omega arith;
+    two = k.two;
+    above = k.above;
+    runs = k.runs;
+  }
 
   -- what is said of the draws
-  pub verdicts_next : (log : List Stamp) → DrawsHold log x (d ∷ draws x) → ((y : ℕ) → DrawsHold log y (draws y)) → (y : ℕ) → DrawsHold log y (next y)
+  pub verdicts_next : (log : List Stamp) → DrawsHold log x (d ∷ draws x) → ((y : ℕ) → DrawsHold log y (draws y)) → (y : ℕ)
+      → DrawsHold log y (next y)
   verdicts_next log new all y = elim (ℕ_discrete y x) [
     | yes e ↦ subst (λ l. DrawsHold log y l) (sym (ap next e ∙ next_here)) (subst (λ z. DrawsHold log z (d ∷ draws x)) (sym e) new)
     | no ne ↦ subst (λ l. DrawsHold log y l) (sym (next_else y ne)) (all y)
   ]
 
 -- one's own numbers at a plain access
-pub numbers_plain : (draws : ℕ → List Draw) (drawn : List Drawn) (s : Shelf) (x p : ℕ) (write raised : Bool) (value : ℤ) → drawn ≡ [] → last_position s.marked ≡ Some p → ShelfDraws draws drawn s
-    → ShelfDraws (with_at draws x (draw s.thread p (Entered (Plain x (length (draws x)) false write value raised)) ∷ draws x)) drawn (shelf s.thread (s.marked ++ Plain x (length (draws x)) false write value raised ∷ []))
+pub numbers_plain : (draws : ℕ → List Draw) (drawn : List Drawn) (s : Shelf) (x p : ℕ) (write raised : Bool) (value : ℤ) → drawn ≡ []
+    → last_position s.marked ≡ Some p → ShelfDraws draws drawn s
+    → ShelfDraws (with_at draws x (draw s.thread p (Entered (Plain x (length (draws x)) false write value raised)) ∷ draws x)) drawn
+    (shelf s.thread (s.marked ++ Plain x (length (draws x)) false write value raised ∷ []))
 numbers_plain draws drawn s x p write raised value none last k = record {
   numbers = drawn_mark draws x s.thread p s.marked drawn write raised value last k.numbers;
-  few = λ y. let c = count_up draws x (draw s.thread p (Entered (Plain x (length (draws x)) false write value raised))) y in let g = k.few y in let up = counted_plain s.marked x (length (draws x)) false write raised value in omega arith;
+  few = λ y. let c = count_up draws x (draw s.thread p (Entered (Plain x (length (draws x)) false write value raised))) y
+      in let g = k.few y in let up = counted_plain s.marked x (length (draws x)) false write raised value in omega arith;
   two = k.two;
   above = λ y n m i e o at dr has. absurd (nothing has);
   runs = λ o has. absurd (nothing has);
@@ -120,10 +140,14 @@ more_cases : (os : List Drawn) (o r : Drawn) → Contains (os ++ o ∷ []) r →
 more_cases [] o r (zero, l, e) = inr (sym e)
 more_cases [] o r (suc k, l, e) = absurd (omega arith)
 more_cases (a ∷ os) o r (zero, l, e) = inl (zero, omega arith, e)
-more_cases (a ∷ os) o r (suc k, l, e) = elim (more_cases os o r (k, omega arith, e)) [ inl c ↦ inl (in_cons a os r c) | inr same ↦ inr same ]
+more_cases (a ∷ os) o r (suc k, l, e) = elim (more_cases os o r (k, omega arith, e)) [
+  | inl c ↦ inl (in_cons a os r c)
+  | inr same ↦ inr same
+]
 
 -- one's own numbers where a number waits for its entry
-module _ (draws : ℕ → List Draw) (drawn : List Drawn) (s : Shelf) (x p : ℕ) (w : What) (look : Option ℤ) (still : IsStill w look) (k : ShelfDraws draws drawn s) where
+module _ (draws : ℕ → List Draw) (drawn : List Drawn) (s : Shelf) (x p : ℕ) (w : What) (look : Option ℤ) (still : IsStill w look)
+    (k : ShelfDraws draws drawn s) where
   abbrev d : Draw
   d = draw s.thread p w
 
@@ -136,28 +160,38 @@ module _ (draws : ℕ → List Draw) (drawn : List Drawn) (s : Shelf) (x p : ℕ
 
   drawn_open : AreDrawn (with_at draws x (d ∷ draws x)) s.thread s.marked (drawn ++ o ∷ [])
   drawn_open = record {
-    kept = λ y n f a own. elim (draw_cases draws x d y n f a) [ inl old ↦ kept_more y n f (k.numbers.kept y n f old own) | inr new ↦ fresh y n f new ];
+    kept = λ y n f a own. elim (draw_cases draws x d y n f a) [
+      | inl old ↦ kept_more y n f (k.numbers.kept y n f old own)
+      | inr new ↦ fresh y n f new
+    ];
     made = λ y n i e a b. let m = k.numbers.made y n i e a b in (m.0, draw_kept draws x d y n m.0 m.1, m.2, kept_more y n m.0 m.3, m.4);
     in_flight = λ r c. elim (more_cases drawn o r c) [
       | inl old ↦ (let m = k.numbers.in_flight r old in (m.0, draw_kept draws x d r.var r.nth m.0 m.1, m.2, m.3))
-      | inr same ↦ subst (λ (z : Drawn). (f : Draw) × DrawAt (with_at draws x (d ∷ draws x) z.var) z.nth f × (f.thread ≡ s.thread) × IsStill f.what z.look) (sym same) (d, draw_new draws x d, refl, still)
+      | inr same ↦ subst (λ (z : Drawn). (f : Draw) × DrawAt (with_at draws x (d ∷ draws x) z.var) z.nth f × (f.thread ≡ s.thread)
+          × IsStill f.what z.look) (sym same) (d, draw_new draws x d, refl, still)
     ];
     rise = k.numbers.rise;
   }
     where
       fresh : (y n : ℕ) (f : Draw) → (y ≡ x) × (n ≡ length (draws x)) × (f ≡ d) → IsKept s.marked (drawn ++ o ∷ []) y n f
-      fresh y n f e = subst (λ a. IsKept s.marked (drawn ++ o ∷ []) a n f) (sym e.0) (subst (λ a. IsKept s.marked (drawn ++ o ∷ []) x a f) (sym e.1) (subst (λ a. IsKept s.marked (drawn ++ o ∷ []) x (length (draws x)) a) (sym e.2) (in_flight look (in_last drawn o) still)))
+      fresh y n f e = subst (λ a. IsKept s.marked (drawn ++ o ∷ []) a n f) (sym e.0)
+          (subst (λ a. IsKept s.marked (drawn ++ o ∷ []) x a f) (sym e.1)
+          (subst (λ a. IsKept s.marked (drawn ++ o ∷ []) x (length (draws x)) a) (sym e.2) (in_flight look (in_last drawn o) still)))
 
   -- a number more waits for its entry
-  pub numbers_open : count_on x drawn ≤ 1 → last_position s.marked ≡ Some p → ((i : ℕ) (e : Entry) → At s.marked i e → Rattle.gl_model.specs.Form.IsEnd e → ⊥) → ShelfDraws (with_at draws x (d ∷ draws x)) (drawn ++ o ∷ []) s
+  pub numbers_open : count_on x drawn ≤ 1 → last_position s.marked ≡ Some p
+      → ((i : ℕ) (e : Entry) → At s.marked i e → Rattle.gl_model.specs.Form.IsEnd e → ⊥)
+      → ShelfDraws (with_at draws x (d ∷ draws x)) (drawn ++ o ∷ []) s
   numbers_open room last goes_on = record {
     numbers = drawn_open;
     few = λ y. elim (ℕ_discrete x y) [
       | yes e ↦ (let a = count_up draws x d y in let b = k.few y in let c = count_on_push y drawn o e in omega arith)
-      | no ne ↦ (let a = count_elsewhere draws x d s.thread y (λ z. ne (sym z)) in let b = k.few y in let c = count_on_else y drawn o ne in omega arith)
+      | no ne ↦ (let a = count_elsewhere draws x d s.thread y (λ z. ne (sym z)) in let b = k.few y in let c = count_on_else y drawn o ne
+          in omega arith)
     ];
     two = λ y. elim (ℕ_discrete x y) [
-      | yes e ↦ (let c = count_on_push y drawn o e in let q : count_on y drawn ≤ 1 = subst (λ z. count_on z drawn ≤ 1) e room in omega arith)
+      | yes e ↦ (let c = count_on_push y drawn o e in let q : count_on y drawn ≤ 1 = subst (λ z. count_on z drawn ≤ 1) e room
+          in omega arith)
       | no ne ↦ (let c = count_on_else y drawn o ne in let b = k.two y in omega arith)
     ];
     above = λ y n m i e l at dr has. elim (more_cases drawn o (record { var = y; nth = m; look = l }) has) [

@@ -13,7 +13,8 @@ module _ {V : Type 0} where
   at_within (x ∷ xs) (suc j) v e = let h = at_within xs j v e in omega arith
 
   -- one seat's view changes; the others stay, and the fact about them may change too
-  pub each_set : {P Q : ℕ → V → Type 0} {views : List V} (id : ℕ) (w : V) → Each P views → ((j : ℕ) (v : V) → j ≢ id → P j v → Q j v) → Q id w → Each Q (set views id w)
+  pub each_set : {P Q : ℕ → V → Type 0} {views : List V} (id : ℕ) (w : V) → Each P views → ((j : ℕ) (v : V) → j ≢ id → P j v → Q j v)
+      → Q id w → Each Q (set views id w)
   each_set {P} {Q} {views} id w all others own = record {
     at = λ j u e.
         ⊎_elim
@@ -23,16 +24,19 @@ module _ {V : Type 0} where
   }
 
   -- a new seat comes last
-  pub each_add : {P Q : ℕ → V → Type 0} {views : List V} (w : V) → Each P views → ((j : ℕ) (v : V) → j < length views → P j v → Q j v) → Q (length views) w → Each Q (views ++ w ∷ [])
+  pub each_add : {P Q : ℕ → V → Type 0} {views : List V} (w : V) → Each P views → ((j : ℕ) (v : V) → j < length views → P j v → Q j v)
+      → Q (length views) w → Each Q (views ++ w ∷ [])
   each_add {P} {Q} {views} w all others own = record { at = λ j u e. add views j u e (λ i v h. all.at i v h) others own }
     where
-      snoc_cases : (l : List V) (a b : V) (j : ℕ) → get_elem? (l ++ a ∷ []) j ≡ some b → (get_elem? l j ≡ some b) ⊎ ((j ≡ length l) × (a ≡ b))
+      snoc_cases : (l : List V) (a b : V) (j : ℕ) → get_elem? (l ++ a ∷ []) j ≡ some b → (get_elem? l j ≡ some b)
+          ⊎ ((j ≡ length l) × (a ≡ b))
       snoc_cases [] a b zero e = inr (refl, some-injective a b e)
       snoc_cases [] a b (suc j) e = absurd (some-ne-none b (sym e))
       snoc_cases (x ∷ xs) a b zero e = inl e
       snoc_cases (x ∷ xs) a b (suc j) e = ⊎_elim (λ t. inl t) (λ t. inr (ap suc t.0, t.1)) (snoc_cases xs a b j e)
 
-      add : (l : List V) (j : ℕ) (u : V) → get_elem? (l ++ w ∷ []) j ≡ some u → ((i : ℕ) (v : V) → get_elem? l i ≡ some v → P i v) → ((i : ℕ) (v : V) → i < length l → P i v → Q i v) → Q (length l) w → Q j u
+      add : (l : List V) (j : ℕ) (u : V) → get_elem? (l ++ w ∷ []) j ≡ some u → ((i : ℕ) (v : V) → get_elem? l i ≡ some v → P i v)
+          → ((i : ℕ) (v : V) → i < length l → P i v → Q i v) → Q (length l) w → Q j u
       add l j u e old keep new =
           ⊎_elim
           (λ (was : get_elem? l j ≡ some u). keep j u (at_within l j u was) (old j u was))

@@ -108,8 +108,18 @@ last_end t es f ends = by ends.0 ends.1.0 ends.1.1 ends.1.2
     by zero e at over = absurd (over_begin e over (f.begins zero e at (over_trim e over) (λ j g a lt. absurd (omega arith))))
     by (suc i) e at over = here (slice_get_cases es i).1
       where
-        here : ((g : Entry) × (i < length es) × (slice_get es i ≡ Some g) × (get_or es i g ≡ g)) ⊎ ((length es ≤ i) × (slice_get es i ≡ None)) → LastEnd es
-        here (inl g) = record { index = i; entry = g.0; there = g.2; is = (f.over_after_end i g.0 e g.2 (subst (λ n. At es n e) (sym (add-one i)) at)).1 over; over = e; behind = at; is_over = over; long = (let z = f.nothing_after (suc i) e at over in omega arith) }
+        here : ((g : Entry) × (i < length es) × (slice_get es i ≡ Some g) × (get_or es i g ≡ g))
+            ⊎ ((length es ≤ i) × (slice_get es i ≡ None)) → LastEnd es
+        here (inl g) = record {
+          index = i;
+          entry = g.0;
+          there = g.2;
+          is = (f.over_after_end i g.0 e g.2 (subst (λ n. At es n e) (sym (add-one i)) at)).1 over;
+          over = e;
+          behind = at;
+          is_over = over;
+          long = (let z = f.nothing_after (suc i) e at over in omega arith);
+        }
         here (inr q) = absurd (let z = slice_get_within es (suc i) e at in let y = q.0 in omega arith)
 
 none_of : {A : Type 0} → (l : List A) → ((o : A) → Contains l o → ⊥) → l ≡ []
@@ -129,7 +139,9 @@ done_right es true r (inr e) = inr (e.0, refl)
 done_right es false r (inr e) = inr e
 
 -- a pass whose lists are done has drawn, owes and has stored nothing
-module _ (key : Key) (w : World) (st : table.State Slot View) (id : ℕ) (v : View) (H : Holds key w st) (here : get_elem? st.views id ≡ some v) (idle : v.held ≡ []) (all_done : (s : Shelf) → Contains v.shelves s → IsDone s.marked v.quiet) (s : Shelf) (has : Contains v.shelves s) where
+module _ (key : Key) (w : World) (st : table.State Slot View) (id : ℕ) (v : View) (H : Holds key w st) (here : get_elem? st.views id
+    ≡ some v) (idle : v.held ≡ []) (all_done : (s : Shelf) → Contains v.shelves s → IsDone s.marked v.quiet) (s : Shelf)
+    (has : Contains v.shelves s) where
   mine : Fits key (board (capacity key) st.words) w id v
   mine = H.views.at id v here
 
@@ -146,7 +158,8 @@ module _ (key : Key) (w : World) (st : table.State Slot View) (id : ℕ) (v : Vi
   no_block p e at = let z : None ≡ Some p = sym (ap last_position e) ∙ at in cc
 
   -- after the End the thread's block is that
-  block_end : (p : ℕ) → EndsOver s.marked → last_position s.marked ≡ Some p → EventAt w.log p (record { thread = s.thread; event = Does End })
+  block_end : (p : ℕ) → EndsOver s.marked → last_position s.marked ≡ Some p
+      → EventAt w.log p (record { thread = s.thread; event = Does End })
   block_end p ends last =
       let l = last_end s.thread s.marked fits.form ends in
       let e = end_event l.entry l.is in
@@ -156,8 +169,12 @@ module _ (key : Key) (w : World) (st : table.State Slot View) (id : ℕ) (v : Vi
       let long = l.long in
       let near = slice_get_within s.marked o.index o.entry o.there in
       let same : o.index ≡ l.index = elim (cases_lt o.index l.index) [
-        | inl lt ↦ absurd (let z : p < e.0 = fits.events.rise o.index l.index p e.0 o.entry l.entry o.there l.there lt o.position e.1 in omega arith)
-        | inr ge ↦ elim (eq-or-lt_of_le ge) [ inl q ↦ sym q | inr lt ↦ absurd (over_not o.index o.entry o.there o.position l (let z : o.index ≡ suc l.index = omega arith in z)) ]
+        | inl lt ↦ absurd (let z : p < e.0 = fits.events.rise o.index l.index p e.0 o.entry l.entry o.there l.there lt o.position e.1
+            in omega arith)
+        | inr ge ↦ elim (eq-or-lt_of_le ge) [
+          | inl q ↦ sym q
+          | inr lt ↦ absurd (over_not o.index o.entry o.there o.position l (let z : o.index ≡ suc l.index = omega arith in z))
+        ]
       ] in
       let entry : o.entry ≡ l.entry = some_is o.entry l.entry (sym (subst (λ n. At s.marked n o.entry) same o.there) ∙ l.there) in
       let place : p ≡ e.0 = some_n p e.0 (sym o.position ∙ ap position_of entry ∙ e.1) in
@@ -170,7 +187,8 @@ module _ (key : Key) (w : World) (st : table.State Slot View) (id : ℕ) (v : Vi
       some_n a b z = cc
 
       over_not : (i : ℕ) (e : Entry) → At s.marked i e → position_of e ≡ Some p → (l : LastEnd s.marked) → i ≡ suc l.index → ⊥
-      over_not i e at q l same = let is : e ≡ l.over = some_is e l.over (sym (subst (λ n. At s.marked n e) same at) ∙ l.behind) in let z : None ≡ Some p = sym (over_place l.over l.is_over) ∙ sym (ap position_of is) ∙ q in cc
+      over_not i e at q l same = let is : e ≡ l.over = some_is e l.over (sym (subst (λ n. At s.marked n e) same at) ∙ l.behind)
+          in let z : None ≡ Some p = sym (over_place l.over l.is_over) ∙ sym (ap position_of is) ∙ q in cc
 
   -- where a list is done no number waits
   pub drew_all : v.drawn ≡ []
@@ -188,42 +206,65 @@ module _ (key : Key) (w : World) (st : table.State Slot View) (id : ℕ) (v : Vi
             (let at = block_end q.draw.block ends last in
             let among = (last_write-among w.log x (w.draws x) q.draw q.last).0 in
             let placed = (each_at (DrawHolds w.log x) (w.draws x) q.draw (H.whole.verdicts x) among).1.placed in
-            placed.goes_on (ap (λ (z : Stamp). z.event) (same_event w.log q.draw.block placed.event (record { thread = s.thread; event = Does End }) placed.here at)))
+            placed.goes_on (ap (λ (z : Stamp). z.event)
+            (same_event w.log q.draw.block placed.event (record { thread = s.thread; event = Does End }) placed.here at)))
         | inr e ↦ no_block q.draw.block e.0 last
       ]
 
   -- nor is a word stored in the tail's cell
   pub stored_none : v.stored ≡ []
-  stored_none = elim mine.ring.by_holder [ inl z ↦ z | inr o ↦ absurd (let c = o.1.1 in let z : length v.held ≡ 0 = ap length idle in omega arith) ]
+  stored_none = elim mine.ring.by_holder [
+    | inl z ↦ z
+    | inr o ↦ absurd (let c = o.1.1 in let z : length v.held ≡ 0 = ap length idle in omega arith)
+  ]
 
-module _ (key : Key) (w : World) (st : table.State Slot View) (id : ℕ) (v : View) (H : Holds key w st) (here : get_elem? st.views id ≡ some v) (idle : v.held ≡ []) (all_done : (s : Shelf) → Contains v.shelves s → IsDone s.marked v.quiet) where
+module _ (key : Key) (w : World) (st : table.State Slot View) (id : ℕ) (v : View) (H : Holds key w st) (here : get_elem? st.views id
+    ≡ some v) (idle : v.held ≡ []) (all_done : (s : Shelf) → Contains v.shelves s → IsDone s.marked v.quiet) where
   -- nor is a word owed
   pub paid_all : v.owed ≡ []
   paid_all = none_of v.owed (λ o c.
       let q : OwedOne w.draws v.shelves o.0 = (H.views.at id v here).owed.owes o.0 o.1 c in
-      paid_here key w st id v H here idle all_done q.shelf (subst (λ l. Contains l q.shelf) (sym q.one) (zero, omega arith, refl)) o.0 q refl)
+      paid_here key w st id v H here idle all_done q.shelf (subst (λ l. Contains l q.shelf) (sym q.one) (zero, omega arith, refl)) o.0 q
+      refl)
 
 -- a seat takes in another's lists, where all lists of both are done and neither holds anything
-pub joins_done : (key : Key) (id other : ℕ) (v u : View) (r s : Shelf) → Contains v.shelves r → Contains u.shelves s → v.held ≡ [] → u.held ≡ [] → ((a : Shelf) → Contains v.shelves a → IsDone a.marked v.quiet) → ((a : Shelf) → Contains u.shelves a → IsDone a.marked u.quiet) → table.Joins (Rule key) id v other u (both v u) (blank [])
+pub joins_done : (key : Key) (id other : ℕ) (v u : View) (r s : Shelf) → Contains v.shelves r → Contains u.shelves s → v.held ≡ [] → u.held
+    ≡ [] → ((a : Shelf) → Contains v.shelves a → IsDone a.marked v.quiet) → ((a : Shelf) → Contains u.shelves a → IsDone a.marked u.quiet)
+    → table.Joins (Rule key) id v other u (both v u) (blank [])
 joins_done key id other v u r s has also idle free done done' st rule at apart there =
     let w = rule.0 in
     let H = rule.1 in
-    let there' : get_elem? st.views other ≡ some u = ⊎_elim (λ (t : (other ≡ id) × (both v u ≡ u)). absurd (apart t.0)) (λ (t : (other ≢ id) × (get_elem? st.views other ≡ some u)). t.1) (at_set st.views id other (both v u) u there) in
-    joins key id other v u s (λ e. absurd (let n : length v.shelves ≡ 0 = ap length e in let l = has.1 in omega arith)) also free idle (drew_all key w st other u H there' free done' s also) (drew_all key w st id v H at idle done r has) (stored_none key w st id v H at idle done r has) (paid_all key w st other u H there' free done') (paid_all key w st id v H at idle done) st rule at apart there
+    let there' : get_elem? st.views other ≡ some u =
+    ⊎_elim (λ (t : (other ≡ id) × (both v u ≡ u)). absurd (apart t.0)) (λ (t : (other ≢ id) × (get_elem? st.views other ≡ some u)). t.1)
+    (at_set st.views id other (both v u) u there) in
+    joins key id other v u s (λ e. absurd (let n : length v.shelves ≡ 0 = ap length e in let l = has.1 in omega arith)) also free idle
+    (drew_all key w st other u H there' free done' s also) (drew_all key w st id v H at idle done r has)
+    (stored_none key w st id v H at idle done r has) (paid_all key w st other u H there' free done')
+    (paid_all key w st id v H at idle done) st rule at apart there
 
 -- and its lists are done then
-pub both_done : (v u : View) → ((a : Shelf) → Contains v.shelves a → IsDone a.marked v.quiet) → ((a : Shelf) → Contains u.shelves a → IsDone a.marked u.quiet) → (a : Shelf) → Contains (both v u).shelves a → IsDone a.marked (both v u).quiet
-both_done v u done done' a c = elim (either_in v.shelves u.shelves a c) [ inl i ↦ done_left a.marked v.quiet u.quiet (done a i) | inr i ↦ done_right a.marked v.quiet u.quiet (done' a i) ]
+pub both_done : (v u : View) → ((a : Shelf) → Contains v.shelves a → IsDone a.marked v.quiet)
+    → ((a : Shelf) → Contains u.shelves a → IsDone a.marked u.quiet) → (a : Shelf) → Contains (both v u).shelves a
+    → IsDone a.marked (both v u).quiet
+both_done v u done done' a c = elim (either_in v.shelves u.shelves a c) [
+  | inl i ↦ done_left a.marked v.quiet u.quiet (done a i)
+  | inr i ↦ done_right a.marked v.quiet u.quiet (done' a i)
+]
 
 -- no thread beyond the last is ever forked
-never_step : (setting : Setting) (old new : State) (w t : ℕ) (value : ℤ) (e : Event) → Step setting old (record { thread = w; event = e }) value new → w ≢ t → THREADS ≤ t → old.threads t ≡ NeverForked → new.threads t ≡ NeverForked
-never_step setting old new w t value (Does (Begin f)) s ne far is = ap (λ (z : State). z.threads t) s.effect ∙ with_else old.threads w t Running (λ z. ne (sym z)) ∙ is
-never_step setting old new w t value (Does End) s ne far is = ap (λ (z : State). z.threads t) s.effect ∙ with_else old.threads w t Ended (λ z. ne (sym z)) ∙ is
+never_step : (setting : Setting) (old new : State) (w t : ℕ) (value : ℤ) (e : Event)
+    → Step setting old (record { thread = w; event = e }) value new → w ≢ t → THREADS ≤ t → old.threads t ≡ NeverForked → new.threads t
+    ≡ NeverForked
+never_step setting old new w t value (Does (Begin f)) s ne far is = ap (λ (z : State). z.threads t) s.effect
+    ∙ with_else old.threads w t Running (λ z. ne (sym z)) ∙ is
+never_step setting old new w t value (Does End) s ne far is = ap (λ (z : State). z.threads t) s.effect
+    ∙ with_else old.threads w t Ended (λ z. ne (sym z)) ∙ is
 never_step setting old new w t value (Does (Acq o)) s ne far is = ap (λ (z : State). z.threads t) s.effect.2 ∙ is
 never_step setting old new w t value (Does (Rel o)) s ne far is = ap (λ (z : State). z.threads t) s.effect.2 ∙ is
 never_step setting old new w t value (Does (VRead v)) s ne far is = ap (λ (z : State). z.threads t) s.effect.1 ∙ is
 never_step setting old new w t value (Does (VWrite v)) s ne far is = ap (λ (z : State). z.threads t) s.effect ∙ is
-never_step setting old new w t value (Does (Fork u f)) s ne far is = ap (λ (z : State). z.threads t) s.effect.1 ∙ with_else old.threads u t (Forked f value) (λ z. let n = s.effect.0.1 in omega arith) ∙ is
+never_step setting old new w t value (Does (Fork u f)) s ne far is = ap (λ (z : State). z.threads t) s.effect.1
+    ∙ with_else old.threads u t (Forked f value) (λ z. let n = s.effect.0.1 in omega arith) ∙ is
 never_step setting old new w t value (Does (Join u)) s ne far is = ap (λ (z : State). z.threads t) s.effect.1 ∙ is
 never_step setting old new w t value (Does (Alloc c)) s ne far is = ap (λ (z : State). z.threads t) s.effect.4 ∙ is
 never_step setting old new w t value (Does Print) s ne far is = ap (λ (z : State). z.threads t) s.effect ∙ is
@@ -243,7 +284,8 @@ unfolding stage
 ended_three = refl
 
 -- the seat that has the lists of all threads, each done
-module _ (key : Key) (w : World) (st : table.State Slot View) (id : ℕ) (v : View) (H : Holds key w st) (here : get_elem? st.views id ≡ some v) (idle : v.held ≡ []) (all : (t : ℕ) → t < THREADS → (s : Shelf) × Contains v.shelves s × (s.thread ≡ t))
+module _ (key : Key) (w : World) (st : table.State Slot View) (id : ℕ) (v : View) (H : Holds key w st) (here : get_elem? st.views id
+    ≡ some v) (idle : v.held ≡ []) (all : (t : ℕ) → t < THREADS → (s : Shelf) × Contains v.shelves s × (s.thread ≡ t))
     (done : (s : Shelf) → Contains v.shelves s → IsDone s.marked v.quiet) where
   its : Fits key (board (capacity key) st.words) w id v
   its = H.views.at id v here
@@ -260,15 +302,22 @@ module _ (key : Key) (w : World) (st : table.State Slot View) (id : ℕ) (v : Vi
   fits_of s c = All-contains (ShelfFits w.log w.seat id) v.shelves s its.positions.shelves c
 
   abbrev trail : Trail key.setting (start key.setting) w.log w.now
-  trail = record { at = w.states; first = H.whole.machine.first; last = H.whole.machine.last; steps = λ p x at. (w.values p, H.whole.machine.steps p x at) }
+  trail = record {
+    at = w.states;
+    first = H.whole.machine.first;
+    last = H.whole.machine.last;
+    steps = λ p x at. (w.values p, H.whole.machine.steps p x at);
+  }
 
   never : (t p : ℕ) → THREADS ≤ t → p ≤ length w.log → (w.states p).threads t ≡ NeverForked
-  never t zero far le = ap (λ (z : State). z.threads t) H.whole.machine.first ∙ with_else (λ _. NeverForked) 0 t (Forked key.setting.main (pos 0)) (λ z. omega arith)
+  never t zero far le = ap (λ (z : State). z.threads t) H.whole.machine.first
+      ∙ with_else (λ _. NeverForked) 0 t (Forked key.setting.main (pos 0)) (λ z. omega arith)
   never t (suc p) far le =
       let s = Rattle.gl_laws.proofs.Trails.event_at w.log p (omega arith) in
       let step = H.whole.machine.steps p s.0 s.1 in
       let near = (all_at w.log p s.0 H.whole.positions.kept s.1).0 in
-      never_step key.setting (w.states p) (w.states (suc p)) s.0.thread t (w.values p) s.0.event step (λ z. omega arith) far (never t p far (omega arith))
+      never_step key.setting (w.states p) (w.states (suc p)) s.0.thread t (w.values p) s.0.event step (λ z. omega arith) far
+      (never t p far (omega arith))
 
   ended : (s : Shelf) → Contains v.shelves s → EndsOver s.marked → w.now.threads s.thread ≡ Ended
   unfolding come
@@ -279,10 +328,12 @@ module _ (key : Key) (w : World) (st : table.State Slot View) (id : ℕ) (v : Vi
       let at = f.events.listed l.index e.0 l.entry (Does End) l.there e.1 e.2 in
       let near = slice_get_within w.log e.0 (record { thread = s.thread; event = Does End }) at in
       let step = H.whole.machine.steps e.0 (record { thread = s.thread; event = Does End }) at in
-      let is : (w.states (suc e.0)).threads s.thread ≡ Ended = ap (λ (z : State). z.threads s.thread) step.effect ∙ with_here (w.states e.0).threads s.thread Ended in
+      let is : (w.states (suc e.0)).threads s.thread ≡ Ended = ap (λ (z : State). z.threads s.thread) step.effect
+      ∙ with_here (w.states e.0).threads s.thread Ended in
       let three : come key.setting (start key.setting) w.log w.now trail s.thread (suc e.0) ≡ 3 = ap stage is ∙ ended_three in
       let up = come_rises key.setting (start key.setting) w.log w.now trail s.thread (suc e.0) (length w.log) (omega arith) (omega arith) in
-      let end : come key.setting (start key.setting) w.log w.now trail s.thread (length w.log) ≡ stage (w.now.threads s.thread) = ap (λ (z : State). stage (z.threads s.thread)) H.whole.machine.last in
+      let end : come key.setting (start key.setting) w.log w.now trail s.thread (length w.log)
+      ≡ stage (w.now.threads s.thread) = ap (λ (z : State). stage (z.threads s.thread)) H.whole.machine.last in
       stage_high (w.now.threads s.thread) (omega arith)
 
   -- no thread is live
@@ -310,12 +361,14 @@ module _ (key : Key) (w : World) (st : table.State Slot View) (id : ℕ) (v : Vi
       let first : (w.states 0).threads 0 ≡ Forked key.setting.main (pos 0) = ap (λ (z : State). z.threads 0) H.whole.machine.first in
       let one : come key.setting (start key.setting) w.log w.now trail 0 0 ≡ 1 = ap stage first in
       let up = come_rises key.setting (start key.setting) w.log w.now trail 0 0 (length w.log) (omega arith) (omega arith) in
-      let end : come key.setting (start key.setting) w.log w.now trail 0 (length w.log) ≡ stage (w.now.threads 0) = ap (λ (z : State). stage (z.threads 0)) H.whole.machine.last in
+      let end : come key.setting (start key.setting) w.log w.now trail 0 (length w.log)
+      ≡ stage (w.now.threads 0) = ap (λ (z : State). stage (z.threads 0)) H.whole.machine.last in
       let high : 2 ≤ come key.setting (start key.setting) w.log w.now trail 0 (length w.log) = elim (all_quiet 0) [
         | inl q ↦ absurd (let z : stage (w.now.threads 0) ≡ 0 = ap stage q in omega arith)
         | inr q ↦ (let z : stage (w.now.threads 0) ≡ 3 = ap stage q in omega arith)
       ] in
-      let begin = begin_between key.setting (start key.setting) w.log w.now trail 0 0 (length w.log) (omega arith) (omega arith) (first_stage key.setting w.log w.now trail 0) high in
+      let begin = begin_between key.setting (start key.setting) w.log w.now trail 0 0 (length w.log) (omega arith) (omega arith)
+      (first_stage key.setting w.log w.now trail 0) high in
       elim (shelf_at v.shelves 0) [
         | inl r ↦
             (let g = fits_of r.0 r.1 in
@@ -332,5 +385,7 @@ module _ (key : Key) (w : World) (st : table.State Slot View) (id : ℕ) (v : Vi
   ]
 
   -- so the record of all lists is lawful
-  pub table_lawful : ((d : Place) (e : Entry) → EntryAt (lists_in v.shelves) d e → IsEntryRising e) → IsLawful key.setting (lists_in v.shelves)
-  table_lawful rising = closed_lawful key.setting ((board (capacity key) st.words).hold 0) (lists_in v.shelves) (closes key w st id v H here idle none all all_quiet paid) rising main_there ends_over
+  pub table_lawful : ((d : Place) (e : Entry) → EntryAt (lists_in v.shelves) d e → IsEntryRising e)
+      → IsLawful key.setting (lists_in v.shelves)
+  table_lawful rising = closed_lawful key.setting ((board (capacity key) st.words).hold 0) (lists_in v.shelves)
+      (closes key w st id v H here idle none all all_quiet paid) rising main_there ends_over

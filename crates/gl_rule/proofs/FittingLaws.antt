@@ -23,7 +23,8 @@ use Rattle.gl_rule.specs.Fitting.{IsFitting, InfosStand, Follows, MayLeaveAt}
 use Rattle.gl_rule.proofs.HeldLists.{only_shelf}
 
 -- a beginning of what the machine allows is allowed
-pub run_front : (setting : Setting) (old now : State) (xs ys : List Stamp) → Run setting old (xs ++ ys) now → (mid : State) × Run setting old xs mid
+pub run_front : (setting : Setting) (old now : State) (xs ys : List Stamp) → Run setting old (xs ++ ys) now → (mid : State)
+    × Run setting old xs mid
 run_front setting old now [] ys r = (old, refl)
 run_front setting old now (x ∷ xs) ys r = let f = run_front setting r.1 now xs ys r.3 in (f.0, (r.0, r.1, r.2, f.1))
 
@@ -36,33 +37,46 @@ pub record Facts (setting : Setting) (seat : ℕ → ℕ) (j : ℕ) (s : Shelf) 
   pub knowledge : KnowledgeFits hold log v
 
 -- the table's list up to n fits the pass, where its own events are below n
-pub front_fits_at : (setting : Setting) (s : Shelf) (n : ℕ) (known : List (ℕ × Stamp)) (now : State) (l more : List Stamp) → length l ≡ n → Allows setting (l ++ more) now → Rattle.gl_draws.specs.Events.AreEvents (l ++ more) s.thread s.marked → AreBelow n s
+pub front_fits_at : (setting : Setting) (s : Shelf) (n : ℕ) (known : List (ℕ × Stamp)) (now : State) (l more : List Stamp) → length l ≡ n
+    → Allows setting (l ++ more) now → Rattle.gl_draws.specs.Events.AreEvents (l ++ more) s.thread s.marked → AreBelow n s
     → Rattle.std.specs.List.All (λ (k : ℕ × Stamp). slice_get (l ++ more) k.0 ≡ Some k.1) known → IsFitting setting s n known l
 front_fits_at setting s n known now l more long allowed events low k =
     let r = run_front setting (start setting) now l more allowed in record {
       long = long;
       now = r.0;
       allowed = r.1;
-      knows = All-weaker (λ (e : ℕ × Stamp). slice_get (l ++ more) e.0 ≡ Some e.1) (λ (e : ℕ × Stamp). e.0 < length l → slice_get l e.0 ≡ Some e.1) (λ e was near. sym (get_front l more e.0 near) ∙ was) known k;
+      knows = All-weaker (λ (e : ℕ × Stamp). slice_get (l ++ more) e.0 ≡ Some e.1) (λ (e : ℕ × Stamp). e.0 < length l → slice_get l e.0
+          ≡ Some e.1) (λ e was near. sym (get_front l more e.0 near) ∙ was) known k;
       own = events_front (l ++ more) s.thread s.marked events l more refl (λ i p e a b. let b' = low i p e a b in omega arith);
     }
 
 -- so does that up to what was seen
-pub front_fits : (setting : Setting) (seat : ℕ → ℕ) (j : ℕ) (s : Shelf) (v : View) (hold : ℕ → ℕ) (l more : List Stamp) → length l ≡ v.seen → Facts setting seat j s v hold (l ++ more) → IsFitting setting s v.seen v.known l
-front_fits setting seat j s v hold l more long f = front_fits_at setting s v.seen v.known f.now l more long f.allowed f.shelf.events (only_shelf (AreBelow v.seen) v s f.one f.knowledge.own) f.knowledge.known
+pub front_fits : (setting : Setting) (seat : ℕ → ℕ) (j : ℕ) (s : Shelf) (v : View) (hold : ℕ → ℕ) (l more : List Stamp) → length l ≡ v.seen
+    → Facts setting seat j s v hold (l ++ more) → IsFitting setting s v.seen v.known l
+front_fits setting seat j s v hold l more long f =
+    front_fits_at setting s v.seen v.known f.now l more long f.allowed f.shelf.events
+    (only_shelf (AreBelow v.seen) v s f.one f.knowledge.own) f.knowledge.known
 
 -- the Infos of a row that stands, and lies within the front, stand for accesses over the front
-pub infos_front : (setting : Setting) (l more : List Stamp) (x : ℕ) (ds : List Draw) (row : Row) → RowStands setting (l ++ more) x ds row → IsWithin row (length l) → InfosStand setting l row
+pub infos_front : (setting : Setting) (l more : List Stamp) (x : ℕ) (ds : List Draw) (row : Row) → RowStands setting (l ++ more) x ds row
+    → IsWithin row (length l) → InfosStand setting l row
 infos_front setting l more x ds row s w = record {
-  last_write = λ i e. let d = of_write setting (l ++ more) true row.last_write (last_write x ds) i s.last_write e in (access_of d.0, info_front setting l more i (access_of d.0) true (w.last_write i e) d.2);
-  reads = λ t i e. let d = of_write setting (l ++ more) false (read_of row.reads t) (last_read x t ds) i (s.reads t) e in (access_of d.0, info_front setting l more i (access_of d.0) false (w.reads t i e) d.2);
+  last_write = λ i e. let d = of_write setting (l ++ more) true row.last_write (last_write x ds) i s.last_write e
+      in (access_of d.0, info_front setting l more i (access_of d.0) true (w.last_write i e) d.2);
+  reads = λ t i e. let d = of_write setting (l ++ more) false (read_of row.reads t) (last_read x t ds) i (s.reads t) e
+      in (access_of d.0, info_front setting l more i (access_of d.0) false (w.reads t i e) d.2);
 }
 
 -- what a tail that was seen since the row was taken says of its Infos
 pub within_seen : (row : Row) (n m : ℕ) → n ≤ m → IsWithin row n → IsWithin row m
-within_seen row n m le w = record { last_write = λ i e. let a = w.last_write i e in omega arith; reads = λ t i e. let a = w.reads t i e in omega arith }
+within_seen row n m le w = record {
+  last_write = λ i e. let a = w.last_write i e in omega arith;
+  reads = λ t i e. let a = w.reads t i e
+      in omega arith;
+}
 
-module _ (setting : Setting) (seat : ℕ → ℕ) (j : ℕ) (s : Shelf) (v : View) (hold : ℕ → ℕ) (h : Held) (x : ℕ) (taken row : Row) (right : Follows setting s v h x taken row) (ds : List Draw) where
+module _ (setting : Setting) (seat : ℕ → ℕ) (j : ℕ) (s : Shelf) (v : View) (hold : ℕ → ℕ) (h : Held) (x : ℕ) (taken row : Row)
+    (right : Follows setting s v h x taken row) (ds : List Draw) where
   record Put (log : List Stamp) : Type 0 where
     facts : Facts setting seat j s v hold log
     stands : RowStands setting log x ds taken
@@ -77,16 +91,20 @@ module _ (setting : Setting) (seat : ℕ → ℕ) (j : ℕ) (s : Shelf) (v : Vie
       row_grows setting l more x (with_draw h.drew ds) row (right.follows l fits ds (row_front setting l more x ds taken within p.stands))
 
   -- a row that follows the taken one stands over the table's list
-  pub put_stands : (log : List Stamp) → Facts setting seat j s v hold log → RowStands setting log x ds taken → ((n : ℕ) → Contains h.tails n → (n ≤ v.seen) × IsWithin taken n) → RowStands setting log x (with_draw h.drew ds) row
+  pub put_stands : (log : List Stamp) → Facts setting seat j s v hold log → RowStands setting log x ds taken
+      → ((n : ℕ) → Contains h.tails n → (n ≤ v.seen) × IsWithin taken n) → RowStands setting log x (with_draw h.drew ds) row
   put_stands log f stands tails =
       let is : log ≡ take v.seen log ++ drop v.seen log = sym (take-append-drop v.seen log) in
       let n = f.knowledge.seen in
       let long : length (take v.seen log) ≡ v.seen = length-take-le v.seen log n in
-      subst (λ k. Put k → RowStands setting k x (with_draw h.drew ds) row) (sym is) (put_at (take v.seen log) (drop v.seen log) long) (record { facts = f; stands = stands; tails = tails })
+      subst (λ k. Put k → RowStands setting k x (with_draw h.drew ds) row) (sym is) (put_at (take v.seen log) (drop v.seen log) long)
+      (record { facts = f; stands = stands; tails = tails })
 
 -- an object that is put back is as it has to be at home
-pub leave_stands : (setting : Setting) (w : World) (seat : ℕ → ℕ) (j : ℕ) (s : Shelf) (v : View) (hold : ℕ → ℕ) (h : Held) (k : ℕ) (taken y : Slot) → Facts setting seat j s v hold w.log → MayLeaveAt setting s v h k taken y
-    → StandsHeld setting w hold h.drew k taken → ((n : ℕ) → Contains h.tails n → TailFits (length w.log) hold v.seen k taken n) → Stands setting w hold k y
+pub leave_stands : (setting : Setting) (w : World) (seat : ℕ → ℕ) (j : ℕ) (s : Shelf) (v : View) (hold : ℕ → ℕ) (h : Held) (k : ℕ)
+    (taken y : Slot) → Facts setting seat j s v hold w.log → MayLeaveAt setting s v h k taken y
+    → StandsHeld setting w hold h.drew k taken → ((n : ℕ) → Contains h.tails n → TailFits (length w.log) hold v.seen k taken n)
+    → Stands setting w hold k y
 leave_stands setting w seat j s v hold h zero (slot.List l) y f may st tails = subst (Stands setting w hold zero) (sym may) st
 leave_stands setting w seat j s v hold h zero slot.Empty y f may st tails = absurd st
 leave_stands setting w seat j s v hold h zero (slot.Row r) y f may st tails = absurd st

@@ -31,18 +31,21 @@ module _ {X : Type 0} where
   in_mapped f (x ∷ xs) y (suc k, l, e) = in_cons (f x) (map f xs) (f y) (in_mapped f xs y (k, omega arith, e))
 
 -- what holds of each of the others, where it is known that they are others
-pub all_without : (P Q : Held → Type 0) (x : ℕ) (held : List Held) → ((h : Held) → h.object ≢ x → P h → Q h) → All P held → All Q (without x held)
+pub all_without : (P Q : Held → Type 0) (x : ℕ) (held : List Held) → ((h : Held) → h.object ≢ x → P h → Q h) → All P held
+    → All Q (without x held)
 all_without P Q x [] f all = All-nil Q
 all_without P Q x (h ∷ hs) f all = here (ℕ_discrete h.object x) (all_without P Q x hs f (All-tail P h hs all))
   where
     here : Dec (h.object ≡ x) → All Q (without x hs) → All Q (without x (h ∷ hs))
     here (yes e) r = let b : (h.object == x) ≡ true = eq-eqb h.object x e in rw b r
-    here (no other) r = let b : (h.object == x) ≡ false = ne_eqb h.object x other in rw b (All-cons Q h (without x hs) (f h other (All-head P h hs all)) r)
+    here (no other) r = let b : (h.object == x) ≡ false = ne_eqb h.object x other
+        in rw b (All-cons Q h (without x hs) (f h other (All-head P h hs all)) r)
 
 -- the others are still held
 pub in_without : (x : ℕ) (held : List Held) (h : Held) → h.object ≢ x → Contains held h → Contains (without x held) h
 in_without x [] h other c = absurd (let l = c.1 in omega arith)
-in_without x (g ∷ gs) h other (zero, l, e) = let same : g ≡ h = e in let b : (g.object == x) ≡ false = ne_eqb g.object x (λ z. other (sym (ap (λ (u : Held). u.object) same) ∙ z)) in rw b (zero, omega arith, same)
+in_without x (g ∷ gs) h other (zero, l, e) = let same : g ≡ h = e in let b : (g.object == x)
+    ≡ false = ne_eqb g.object x (λ z. other (sym (ap (λ (u : Held). u.object) same) ∙ z)) in rw b (zero, omega arith, same)
 in_without x (g ∷ gs) h other (suc k, l, e) = here (ℕ_discrete g.object x) (in_without x gs h other (k, omega arith, e))
   where
     here : Dec (g.object ≡ x) → Contains (without x gs) h → Contains (without x (g ∷ gs)) h
@@ -50,7 +53,8 @@ in_without x (g ∷ gs) h other (suc k, l, e) = here (ℕ_discrete g.object x) (
     here (no ne) r = let b : (g.object == x) ≡ false = ne_eqb g.object x ne in rw b (in_cons g (without x gs) h r)
 
 -- what is held after the held object h was changed to g
-pub has_after : (k : ℕ) (v : View) (h g : Held) → g.object ≡ h.object → HasObject v k → (f : Held) × Contains (g ∷ without h.object v.held) f × (f.object ≡ k)
+pub has_after : (k : ℕ) (v : View) (h g : Held) → g.object ≡ h.object → HasObject v k → (f : Held)
+    × Contains (g ∷ without h.object v.held) f × (f.object ≡ k)
 has_after k v h g same has = elim (ℕ_discrete has.0.object h.object) [
   | yes e ↦ (g, (zero, omega arith, refl), same ∙ sym e ∙ has.2)
   | no ne ↦ (has.0, in_cons g (without h.object v.held) has.0 (in_without h.object v.held has.0 ne has.1), has.2)

@@ -64,7 +64,8 @@ some_same : (a c : Entry) → Some a ≡ Some c → a ≡ c
 some_same a c e = cc
 
 -- the entries have none of these, where a life that goes on shows it of each
-none_of : (P : Entry → Type 0) → ((life : Life) (x : Entry) (es : List Entry) → life_from (life_after life x) es ≡ Running → P x → ⊥) → (life : Life) (es : List Entry) → life_from life es ≡ Running → (i : ℕ) (e : Entry) → At es i e → P e → ⊥
+none_of : (P : Entry → Type 0) → ((life : Life) (x : Entry) (es : List Entry) → life_from (life_after life x) es ≡ Running → P x → ⊥)
+    → (life : Life) (es : List Entry) → life_from life es ≡ Running → (i : ℕ) (e : Entry) → At es i e → P e → ⊥
 none_of P here life [] run i e at h = absurd (cc)
 none_of P here life (x ∷ es) run zero e at h = here life x es run (subst P (sym (some_same x e at)) h)
 none_of P here life (x ∷ es) run (suc i) e at h = none_of P here (life_after life x) es run i e at h
@@ -129,7 +130,8 @@ is_end Running x e = ends_entry Running x (λ z. cc) e
 is_end Ended x e = absurd (cc)
 is_end Closed x e = absurd (cc)
 
-last_end : (life : Life) (x : Entry) (es : List Entry) → life_from life (x ∷ es) ≡ Ended → (i : ℕ) × (length (x ∷ es) ≡ i + 1) × ((e : Entry) × At (x ∷ es) i e × IsEnd e)
+last_end : (life : Life) (x : Entry) (es : List Entry) → life_from life (x ∷ es) ≡ Ended → (i : ℕ) × (length (x ∷ es) ≡ i + 1)
+    × ((e : Entry) × At (x ∷ es) i e × IsEnd e)
 last_end life x [] e = (0, refl, (x, refl, is_end life x e))
 last_end life x (y ∷ es) e = let r = last_end (life_after life x) y es e in (suc r.0, (let n = r.1 in omega arith), r.2)
 

@@ -77,7 +77,8 @@ level_append o n (x ∷ xs) ys = level_append o (level_entry o n x) xs ys
 -- an entry that is an event counts as that
 entry_event : (o n : ℕ) (e : Entry) (ev : Event) → event_of e ≡ Some ev → level_entry o n e ≡ level_event o n ev
 entry_event o n (Sync at act value) ev is = let same : Does act ≡ ev = cc in ap (level_event o n) same
-entry_event o n (Commit at tx) ev is = let same : Commits (Rattle.gl_model.specs.Records.variables_of tx) ≡ ev = cc in ap (level_event o n) same
+entry_event o n (Commit at tx) ev is = let same : Commits (Rattle.gl_model.specs.Records.variables_of tx) ≡ ev = cc
+    in ap (level_event o n) same
 entry_event o n (Plain a b c d f g) ev is = absurd (cc)
 entry_event o n (Abort a b) ev is = absurd (cc)
 entry_event o n (Trim a) ev is = absurd (cc)
@@ -106,7 +107,11 @@ owned_parts : (t u d e : ℕ) → Owned t d ≡ Owned u e → (t ≡ u) × (d �
 owned_parts t u d e p = (cc, cc)
 
 level_owned : (t k n : ℕ) → n ≡ k → 0 < k → IsLevel t (Owned t k) n
-level_owned t k n same some d = (λ e. let q = owned_parts t t k d e in let b = q.1 in (same ∙ b, (omega arith)), λ w. ap (Owned t) (sym same ∙ w.0))
+level_owned t k n same some d = (
+  λ e. let q = owned_parts t t k d e in let b = q.1
+      in (same ∙ b, (omega arith)),
+  λ w. ap (Owned t) (sym same ∙ w.0),
+)
 
 level_free : (t n : ℕ) → n ≡ 0 → IsLevel t Free n
 level_free t n none d = (λ e. absurd (let k : Free ≡ Owned t d = e in cc), λ w. absurd (let a = w.0 in let b = w.1 in omega arith))
@@ -119,11 +124,13 @@ is_free t zero l = refl
 is_free t (suc n) l = absurd (let k : Free ≡ Owned t (suc n) = (l (suc n)).1 (refl, omega arith) in cc)
 
 -- where t owns it neither before nor after
-level_apart : (t : ℕ) (m k : MonitorState) (n : ℕ) → ((d : ℕ) → m ≡ Owned t d → ⊥) → ((d : ℕ) → k ≡ Owned t d → ⊥) → IsLevel t m n → IsLevel t k n
+level_apart : (t : ℕ) (m k : MonitorState) (n : ℕ) → ((d : ℕ) → m ≡ Owned t d → ⊥) → ((d : ℕ) → k ≡ Owned t d → ⊥) → IsLevel t m n
+    → IsLevel t k n
 level_apart t m k n before after l d = (λ e. absurd (after d e), λ w. absurd (before d ((l d).1 w)))
 
 entered_level : (t n : ℕ) (m k : MonitorState) → Entered t m k → IsLevel t m n → IsLevel t k (n + 1)
-entered_level t n Free k e l = let z = is_free t n l in subst (λ x. IsLevel t x (n + 1)) (sym e) (level_owned t 1 (n + 1) (omega arith) (omega arith))
+entered_level t n Free k e l = let z = is_free t n l
+    in subst (λ x. IsLevel t x (n + 1)) (sym e) (level_owned t 1 (n + 1) (omega arith) (omega arith))
 entered_level t n (Owned u j) k e l =
     let w = is_owned t j n (subst (λ x. IsLevel t (Owned x j) n) e.0 l) in
     let a = w.0 in subst (λ x. IsLevel t x (n + 1)) (sym e.1) (level_owned t (j + 1) (n + 1) (omega arith) (omega arith))
@@ -131,12 +138,14 @@ entered_level t n (Owned u j) k e l =
 left_level : (t n j : ℕ) → n ≡ j + 1 → IsLevel t (left_once t j) (n - 1)
 left_level t n zero is = level_free t (n - 1) (omega arith)
 left_level t n (suc j) is =
-    let z : left_once t (suc j) ≡ Owned t (suc j) = ap (λ b. if b then Free else Owned t (suc j)) (ne_eqb (suc j) 0 (λ e. absurd (omega arith))) in
+    let z : left_once t (suc j) ≡ Owned t (suc j) =
+    ap (λ b. if b then Free else Owned t (suc j)) (ne_eqb (suc j) 0 (λ e. absurd (omega arith))) in
     subst (λ x. IsLevel t x (n - 1)) (sym z) (level_owned t (suc j) (n - 1) (omega arith) (omega arith))
 
 entered_apart : (t u : ℕ) → u ≢ t → (m k : MonitorState) → Entered u m k → ((d : ℕ) → m ≡ Owned t d → ⊥) × ((d : ℕ) → k ≡ Owned t d → ⊥)
 entered_apart t u other Free k e = (λ d z. absurd (let w : Free ≡ Owned t d = z in cc), λ d z. other (owned_parts u t 1 d (sym e ∙ z)).0)
-entered_apart t u other (Owned v j) k e = (λ d z. other (sym e.0 ∙ (owned_parts v t j d z).0), λ d z. other (owned_parts u t (j + 1) d (sym e.1 ∙ z)).0)
+entered_apart t u other (Owned v j) k e =
+    (λ d z. other (sym e.0 ∙ (owned_parts v t j d z).0), λ d z. other (owned_parts u t (j + 1) d (sym e.1 ∙ z)).0)
 
 left_apart : (t u : ℕ) → u ≢ t → (j d : ℕ) → left_once u j ≡ Owned t d → ⊥
 left_apart t u other j d z = by (j == 0) z
@@ -153,7 +162,8 @@ data MonitorStep (u : ℕ) (e : Event) (f g : ℕ → MonitorState) : Type 0 whe
   leaves : (p j : ℕ) → e ≡ Does (Rel p) → f p ≡ Owned u (j + 1) → g ≡ with_at f p (left_once u j) → MonitorStep u e f g
   keeps : ((o n : ℕ) → level_event o n e ≡ n) → g ≡ f → MonitorStep u e f g
 
-monitor_step : (setting : Setting) (old new : State) (u : ℕ) (e : Event) (value : ℤ) → Effect setting old u e value new → MonitorStep u e old.monitors new.monitors
+monitor_step : (setting : Setting) (old new : State) (u : ℕ) (e : Event) (value : ℤ) → Effect setting old u e value new
+    → MonitorStep u e old.monitors new.monitors
 monitor_step setting old new u (Does (Begin f)) value k = keeps (λ o n. refl) (ap (λ (s : State). s.monitors) k)
 monitor_step setting old new u (Does End) value k = keeps (λ o n. refl) (ap (λ (s : State). s.monitors) k)
 monitor_step setting old new u (Does (Acq p)) value k = enters p k.0 refl k.1 (ap (λ (s : State). s.monitors) k.2)
@@ -169,10 +179,12 @@ monitor_step setting old new u (Does (Fail c)) value k = keeps (λ o n. refl) (a
 monitor_step setting old new u (Commits xs) value k = keeps (λ o n. refl) (ap (λ (s : State). s.monitors) k)
 
 -- one monitor changes
-one_changed : (t o n k : ℕ) (f g : ℕ → MonitorState) (p : ℕ) (m : MonitorState) → g ≡ with_at f p m → (o ≡ p → IsLevel t m k) → (o ≢ p → n ≡ k) → IsLevel t (f o) n → IsLevel t (g o) k
+one_changed : (t o n k : ℕ) (f g : ℕ → MonitorState) (p : ℕ) (m : MonitorState) → g ≡ with_at f p m → (o ≡ p → IsLevel t m k)
+    → (o ≢ p → n ≡ k) → IsLevel t (f o) n → IsLevel t (g o) k
 one_changed t o n k f g p m is here others l = elim (ℕ_discrete o p) [
   | yes e ↦ subst (λ x. IsLevel t x k) (sym (ap (λ (h : ℕ → MonitorState). h o) is ∙ ap (with_at f p m) e ∙ with_here f p m)) (here e)
-  | no ne ↦ subst (λ x. IsLevel t x k) (sym (ap (λ (h : ℕ → MonitorState). h o) is ∙ with_else f p o m ne)) (subst (IsLevel t (f o)) (others ne) l)
+  | no ne ↦ subst (λ x. IsLevel t x k) (sym (ap (λ (h : ℕ → MonitorState). h o) is ∙ with_else f p o m ne))
+      (subst (IsLevel t (f o)) (others ne) l)
 ]
 
 -- an event of the thread
@@ -180,14 +192,17 @@ own_step : (t o n : ℕ) (e : Event) (f g : ℕ → MonitorState) → MonitorSte
 own_step t o n e f g (enters p m is entered new) l =
     subst (λ x. IsLevel t (g o) (level_event o n x)) (sym is)
     (one_changed t o n (if p == o then n + 1 else n) f g p m new
-    (λ same. subst (IsLevel t m) (sym (at_same o p (n + 1) n (sym same))) (entered_level t n (f p) m entered (subst (λ x. IsLevel t (f x) n) same l)))
+    (λ same. subst (IsLevel t m) (sym (at_same o p (n + 1) n (sym same)))
+    (entered_level t n (f p) m entered (subst (λ x. IsLevel t (f x) n) same l)))
     (λ other. sym (at_other o p (n + 1) n (λ z. other (sym z)))) l)
 own_step t o n e f g (leaves p j is owned new) l =
     subst (λ x. IsLevel t (g o) (level_event o n x)) (sym is)
     (one_changed t o n (if p == o then n - 1 else n) f g p (left_once t j) new
-    (λ same. subst (IsLevel t (left_once t j)) (sym (at_same o p (n - 1) n (sym same))) (left_level t n j (is_owned t (j + 1) n (subst (λ x. IsLevel t x n) (ap f same ∙ owned) l)).0))
+    (λ same. subst (IsLevel t (left_once t j)) (sym (at_same o p (n - 1) n (sym same)))
+    (left_level t n j (is_owned t (j + 1) n (subst (λ x. IsLevel t x n) (ap f same ∙ owned) l)).0))
     (λ other. sym (at_other o p (n - 1) n (λ z. other (sym z)))) l)
-own_step t o n e f g (keeps none same) l = subst (IsLevel t (g o)) (sym (none o n)) (subst (λ (h : ℕ → MonitorState). IsLevel t (h o) n) (sym same) l)
+own_step t o n e f g (keeps none same) l =
+    subst (IsLevel t (g o)) (sym (none o n)) (subst (λ (h : ℕ → MonitorState). IsLevel t (h o) n) (sym same) l)
 
 -- an event of another thread
 other_step : (t u o n : ℕ) → u ≢ t → (e : Event) (f g : ℕ → MonitorState) → MonitorStep u e f g → IsLevel t (f o) n → IsLevel t (g o) n
@@ -196,7 +211,8 @@ other_step t u o n other e f g (enters p m is entered new) l =
     one_changed t o n n f g p m new (λ same. level_apart t (f p) m n w.0 w.1 (subst (λ x. IsLevel t (f x) n) same l)) (λ _. refl) l
 other_step t u o n other e f g (leaves p j is owned new) l =
     one_changed t o n n f g p (left_once u j) new
-    (λ same. level_apart t (f p) (left_once u j) n (λ d z. other (owned_parts u t (j + 1) d (sym owned ∙ z)).0) (left_apart t u other j) (subst (λ x. IsLevel t (f x) n) same l)) (λ _. refl) l
+    (λ same. level_apart t (f p) (left_once u j) n (λ d z. other (owned_parts u t (j + 1) d (sym owned ∙ z)).0) (left_apart t u other j)
+    (subst (λ x. IsLevel t (f x) n) same l)) (λ _. refl) l
 other_step t u o n other e f g (keeps none same) l = subst (λ (h : ℕ → MonitorState). IsLevel t (h o) n) (sym same) l
 
 -- ---- the whole list of events, from its end
@@ -212,7 +228,8 @@ split_last : (h : List Stamp) (n : ℕ) → length h ≡ suc n → Split h n
 split_last [] n long = absurd (omega arith)
 split_last (x ∷ []) n long = record { front = []; last = x; is = refl; long = (omega arith) }
 split_last (x ∷ (y ∷ h)) zero long = absurd (omega arith)
-split_last (x ∷ (y ∷ h)) (suc n) long = let s = split_last (y ∷ h) n (omega arith) in record { front = x ∷ s.front; last = s.last; is = ap (λ l. x ∷ l) s.is; long = ap suc s.long }
+split_last (x ∷ (y ∷ h)) (suc n) long = let s = split_last (y ∷ h) n (omega arith)
+    in record { front = x ∷ s.front; last = s.last; is = ap (λ l. x ∷ l) s.is; long = ap suc s.long }
 
 record RunSplit (setting : Setting) (old now : State) (l : List Stamp) (x : Stamp) : Type 0 where
   mid : State
@@ -220,9 +237,11 @@ record RunSplit (setting : Setting) (old now : State) (l : List Stamp) (x : Stam
   value : ℤ
   step : Step setting mid x value now
 
-run_split : (setting : Setting) (old now : State) (l : List Stamp) (x : Stamp) → Run setting old (l ++ x ∷ []) now → RunSplit setting old now l x
+run_split : (setting : Setting) (old now : State) (l : List Stamp) (x : Stamp) → Run setting old (l ++ x ∷ []) now
+    → RunSplit setting old now l x
 run_split setting old now [] x r = record { mid = old; run = refl; value = r.0; step = subst (Step setting old x r.0) (sym r.3) r.2 }
-run_split setting old now (y ∷ l) x r = let s = run_split setting r.1 now l x r.3 in record { mid = s.mid; run = (r.0, r.1, r.2, s.run); value = s.value; step = s.step }
+run_split setting old now (y ∷ l) x r = let s = run_split setting r.1 now l x r.3
+    in record { mid = s.mid; run = (r.0, r.1, r.2, s.run); value = s.value; step = s.step }
 
 -- an entry with what stands before it and behind it
 record Around (es : List Entry) (i : ℕ) (e : Entry) : Type 0 where
@@ -234,7 +253,8 @@ record Around (es : List Entry) (i : ℕ) (e : Entry) : Type 0 where
 around : (es : List Entry) (i : ℕ) (e : Entry) → At es i e → Around es i e
 around [] i e a = absurd (cc)
 around (x ∷ es) zero e a = let same : x ≡ e = cc in record { before = []; behind = es; is = ap (λ y. y ∷ es) same; long = refl }
-around (x ∷ es) (suc i) e a = let r = around es i e a in record { before = x ∷ r.before; behind = r.behind; is = ap (λ l. x ∷ l) r.is; long = ap suc r.long }
+around (x ∷ es) (suc i) e a = let r = around es i e a
+    in record { before = x ∷ r.before; behind = r.behind; is = ap (λ l. x ∷ l) r.is; long = ap suc r.long }
 
 at_here : (a : List Entry) (e : Entry) (b : List Entry) → At (a ++ e ∷ b) (length a) e
 at_here [] e b = refl
@@ -242,7 +262,8 @@ at_here (x ∷ a) e b = at_here a e b
 
 at_behind : (a : List Entry) (e : Entry) (b : List Entry) (j : ℕ) (f : Entry) → At b j f → At (a ++ e ∷ b) (length a + suc j) f
 at_behind [] e b j f at = let n : 0 + suc j ≡ suc j = omega arith in subst (λ k. At (e ∷ b) k f) (sym n) at
-at_behind (x ∷ a) e b j f at = let n : suc (length a) + suc j ≡ suc (length a + suc j) = omega arith in subst (λ k. At (x ∷ a ++ e ∷ b) k f) (sym n) (at_behind a e b j f at)
+at_behind (x ∷ a) e b j f at = let n : suc (length a) + suc j ≡ suc (length a + suc j) = omega arith
+    in subst (λ k. At (x ∷ a ++ e ∷ b) k f) (sym n) (at_behind a e b j f at)
 
 at_front : (a b : List Entry) (j : ℕ) (f : Entry) → j < length a → At (a ++ b) j f → At a j f
 at_front [] b j f near at = absurd (omega arith)
@@ -256,7 +277,8 @@ same_place : (e : Entry) (p q : ℕ) → position_of e ≡ Some p → position_o
 same_place e p q a b = cc
 
 -- the last event is the entry e of thread t: what stands before it are its events before, and behind it stands none
-module _ (l : List Stamp) (x : Stamp) (t : ℕ) (a : List Entry) (e : Entry) (b : List Entry) (k : AreEvents (l ++ x ∷ []) t (a ++ e ∷ b)) (place : position_of e ≡ Some (length l)) where
+module _ (l : List Stamp) (x : Stamp) (t : ℕ) (a : List Entry) (e : Entry) (b : List Entry) (k : AreEvents (l ++ x ∷ []) t (a ++ e ∷ b))
+    (place : position_of e ≡ Some (length l)) where
   within : (i p : ℕ) (f : Entry) → At (a ++ e ∷ b) i f → position_of f ≡ Some p → p ≤ length l
   within i p f at pos =
       let v = event_there f p pos in
@@ -272,7 +294,8 @@ module _ (l : List Stamp) (x : Stamp) (t : ℕ) (a : List Entry) (e : Entry) (b 
         let near = slice_get_within a i f at in
         elim (event_cases l x (record { thread = t; event = ev }) p (k.listed i p f ev at' pos is)) [
           | inl was ↦ was
-          | inr new ↦ absurd (let lt = k.rise i (length a) p (length l) f e at' (at_here a e b) near pos place in let n = new.0 in omega arith)
+          | inr new ↦ absurd (let lt = k.rise i (length a) p (length l) f e at' (at_here a e b) near pos place in let n = new.0
+              in omega arith)
         ];
     made = λ p s at own.
         let near = slice_get_within l p s at in
@@ -280,7 +303,8 @@ module _ (l : List Stamp) (x : Stamp) (t : ℕ) (a : List Entry) (e : Entry) (b 
         elim (cases_lt m.0 (length a)) [
           | inl lt ↦ (m.0, m.1, at_front a (e ∷ b) m.0 m.1 lt m.2, m.3, m.4)
           | inr ge ↦ elim (eq-or-lt_of_le ge) [
-            | inl same ↦ absurd (let f = same_entry (a ++ e ∷ b) m.0 m.1 e m.2 (subst (λ i. At (a ++ e ∷ b) i e) same (at_here a e b)) in let n = same_place e p (length l) (subst (λ z. position_of z ≡ Some p) f m.3) place in omega arith)
+            | inl same ↦ absurd (let f = same_entry (a ++ e ∷ b) m.0 m.1 e m.2 (subst (λ i. At (a ++ e ∷ b) i e) same (at_here a e b))
+                in let n = same_place e p (length l) (subst (λ z. position_of z ≡ Some p) f m.3) place in omega arith)
             | inr gt ↦ absurd (let lt = k.rise (length a) m.0 (length l) p e m.1 (at_here a e b) m.2 gt place m.3 in omega arith)
           ]
         ];
@@ -294,10 +318,12 @@ module _ (l : List Stamp) (x : Stamp) (t : ℕ) (a : List Entry) (e : Entry) (b 
       by None is = is
       by (Some p) is =
           let at' = at_behind a e b j f at in
-          absurd (let lt = k.rise (length a) (length a + suc j) (length l) p e f (at_here a e b) at' (omega arith) place is in let n = within (length a + suc j) p f at' is in omega arith)
+          absurd (let lt = k.rise (length a) (length a + suc j) (length l) p e f (at_here a e b) at' (omega arith) place is
+          in let n = within (length a + suc j) p f at' is in omega arith)
 
 -- by the machine a thread is in each monitor as often as its entries say
-level_law : (setting : Setting) (t o n : ℕ) (h : List Stamp) → length h ≡ n → (now : State) → Allows setting h now → (es : List Entry) → AreEvents h t es → IsLevel t (now.monitors o) (level_from o 0 es)
+level_law : (setting : Setting) (t o n : ℕ) (h : List Stamp) → length h ≡ n → (now : State) → Allows setting h now → (es : List Entry)
+    → AreEvents h t es → IsLevel t (now.monitors o) (level_from o 0 es)
 level_law setting t o zero [] long now r es k =
     let none : level_from o 0 es ≡ 0 = level_none o 0 es (λ i e at. nothing i e at (position_of e) refl) in
     subst (λ (s : State). IsLevel t (s.monitors o) (level_from o 0 es)) (sym r) (level_free t (level_from o 0 es) none)
@@ -314,11 +340,15 @@ level_law setting t o (suc n) h long now r es k =
     elim (ℕ_discrete s.last.thread t) [
       | yes own ↦ is_own (λ l long mid run fs k. level_law setting t o n l long mid run fs k) s.front s.last s.long own m k'
       | no other ↦
-          other_step t s.last.thread o (level_from o 0 es) other s.last.event m.mid.monitors now.monitors (monitor_step setting m.mid now s.last.thread s.last.event m.value m.step.effect)
-          (level_law setting t o n s.front s.long m.mid m.run es (events_front (s.front ++ s.last ∷ []) t es k' s.front (s.last ∷ []) refl (λ i p e at pos. is_before s.front s.last other k' i p e at pos)))
+          other_step t s.last.thread o (level_from o 0 es) other s.last.event m.mid.monitors now.monitors
+          (monitor_step setting m.mid now s.last.thread s.last.event m.value m.step.effect)
+          (level_law setting t o n s.front s.long m.mid m.run es
+          (events_front (s.front ++ s.last ∷ []) t es k' s.front (s.last ∷ []) refl
+          (λ i p e at pos. is_before s.front s.last other k' i p e at pos)))
     ]
   where
-    is_before : (l : List Stamp) (x : Stamp) → x.thread ≢ t → AreEvents (l ++ x ∷ []) t es → (i p : ℕ) (e : Entry) → At es i e → position_of e ≡ Some p → p < length l
+    is_before : (l : List Stamp) (x : Stamp) → x.thread ≢ t → AreEvents (l ++ x ∷ []) t es → (i p : ℕ) (e : Entry) → At es i e
+        → position_of e ≡ Some p → p < length l
     is_before l x other k i p e at pos =
         let v = event_there e p pos in
         elim (event_cases l x (record { thread = t; event = v.0 }) p (k.listed i p e v.0 at pos v.1)) [
@@ -326,18 +356,23 @@ level_law setting t o (suc n) h long now r es k =
           | inr new ↦ absurd (other (sym (ap (λ (z : Stamp). z.thread) new.1)))
         ]
 
-    is_own : ((l : List Stamp) → length l ≡ n → (mid : State) → Allows setting l mid → (fs : List Entry) → AreEvents l t fs → IsLevel t (mid.monitors o) (level_from o 0 fs))
-        → (l : List Stamp) (x : Stamp) → length l ≡ n → x.thread ≡ t → RunSplit setting (start setting) now l x → AreEvents (l ++ x ∷ []) t es → IsLevel t (now.monitors o) (level_from o 0 es)
+    is_own : ((l : List Stamp) → length l ≡ n → (mid : State) → Allows setting l mid → (fs : List Entry) → AreEvents l t fs
+        → IsLevel t (mid.monitors o) (level_from o 0 fs))
+        → (l : List Stamp) (x : Stamp) → length l ≡ n → x.thread ≡ t → RunSplit setting (start setting) now l x
+        → AreEvents (l ++ x ∷ []) t es → IsLevel t (now.monitors o) (level_from o 0 es)
     is_own so_far l x long own m k =
         let f = k.made (length l) x (new_event l x) own in
         let c = around es f.0 f.1 f.2 in
         let k' : AreEvents (l ++ x ∷ []) t (c.before ++ f.1 ∷ c.behind) = subst (λ z. AreEvents (l ++ x ∷ []) t z) c.is k in
         let before = so_far l long m.mid m.run c.before (events_before l x t c.before f.1 c.behind k' f.3) in
-        let step = subst (λ u. MonitorStep u x.event m.mid.monitors now.monitors) own (monitor_step setting m.mid now x.thread x.event m.value m.step.effect) in
+        let step = subst (λ u. MonitorStep u x.event m.mid.monitors now.monitors) own
+        (monitor_step setting m.mid now x.thread x.event m.value m.step.effect) in
         let was = level_from o 0 c.before in
         let here = own_step t o was x.event m.mid.monitors now.monitors step before in
         let is : level_from o 0 es ≡ level_event o was x.event =
-        ap (level_from o 0) c.is ∙ level_append o 0 c.before (f.1 ∷ c.behind) ∙ level_none o (level_entry o was f.1) c.behind (none_behind l x t c.before f.1 c.behind k' f.3) ∙ entry_event o was f.1 x.event f.4 in
+        ap (level_from o 0) c.is ∙ level_append o 0 c.before (f.1 ∷ c.behind)
+        ∙ level_none o (level_entry o was f.1) c.behind (none_behind l x t c.before f.1 c.behind k' f.3)
+        ∙ entry_event o was f.1 x.event f.4 in
         subst (IsLevel t (now.monitors o)) (sym is) here
 
 -- ---- the list of levels
@@ -373,20 +408,25 @@ pub length_levels : (es : List Entry) → length (levels_of es) ≡ MONITORS
 unfolding levels_of
 length_levels es = length_from (replicate MONITORS 0) es ∙ length-replicate {A = ℕ} MONITORS 0
 
-set_level : (levels : List ℕ) (p o v : ℕ) → o < length levels → slice_index_or (slice_set levels p v) o 0 ≡ (if p == o then v else slice_index_or levels o 0)
+set_level : (levels : List ℕ) (p o v : ℕ) → o < length levels → slice_index_or (slice_set levels p v) o 0
+    ≡ (if p == o then v else slice_index_or levels o 0)
 set_level levels p o v near = elim (ℕ_discrete o p) [
-  | yes e ↦ ap (λ q. slice_index_or (slice_set levels q v) o 0) (sym e) ∙ get_or-set_same levels o v 0 near ∙ sym (at_same o p v (slice_index_or levels o 0) (sym e))
+  | yes e ↦ ap (λ q. slice_index_or (slice_set levels q v) o 0) (sym e) ∙ get_or-set_same levels o v 0 near
+      ∙ sym (at_same o p v (slice_index_or levels o 0) (sym e))
   | no ne ↦ get_or-set_other levels p o v 0 ne ∙ sym (at_other o p v (slice_index_or levels o 0) (λ z. ne (sym z)))
 ]
 
 -- where a monitor is entered or left, its level goes by it
-by_place : (p o : ℕ) (levels : List ℕ) (f : ℕ → ℕ) → (if p == o then f (slice_index_or levels p 0) else slice_index_or levels o 0) ≡ (if p == o then f (slice_index_or levels o 0) else slice_index_or levels o 0)
+by_place : (p o : ℕ) (levels : List ℕ) (f : ℕ → ℕ) → (if p == o then f (slice_index_or levels p 0) else slice_index_or levels o 0)
+    ≡ (if p == o then f (slice_index_or levels o 0) else slice_index_or levels o 0)
 by_place p o levels f = elim (ℕ_discrete p o) [
   | yes e ↦ ap (λ q. if p == o then f (slice_index_or levels q 0) else slice_index_or levels o 0) e
-  | no ne ↦ at_other o p (f (slice_index_or levels p 0)) (slice_index_or levels o 0) ne ∙ sym (at_other o p (f (slice_index_or levels o 0)) (slice_index_or levels o 0) ne)
+  | no ne ↦ at_other o p (f (slice_index_or levels p 0)) (slice_index_or levels o 0) ne
+      ∙ sym (at_other o p (f (slice_index_or levels o 0)) (slice_index_or levels o 0) ne)
 ]
 
-act_level : (levels : List ℕ) (o : ℕ) (act : Act) → o < length levels → slice_index_or (levels_act levels act) o 0 ≡ level_act o (slice_index_or levels o 0) act
+act_level : (levels : List ℕ) (o : ℕ) (act : Act) → o < length levels → slice_index_or (levels_act levels act) o 0
+    ≡ level_act o (slice_index_or levels o 0) act
 act_level levels o (Acq p) near = set_level levels p o (slice_index levels p + 1) near ∙ by_place p o levels (λ n. n + 1)
 act_level levels o (Rel p) near = set_level levels p o (slice_index levels p - 1) near ∙ by_place p o levels (λ n. n - 1)
 act_level levels o (Begin f) near = refl
@@ -400,7 +440,8 @@ act_level levels o Print near = refl
 act_level levels o Input near = refl
 act_level levels o (Fail k) near = refl
 
-entry_level : (levels : List ℕ) (o : ℕ) (e : Entry) → o < length levels → slice_index_or (levels_entry levels e) o 0 ≡ level_entry o (slice_index_or levels o 0) e
+entry_level : (levels : List ℕ) (o : ℕ) (e : Entry) → o < length levels → slice_index_or (levels_entry levels e) o 0
+    ≡ level_entry o (slice_index_or levels o 0) e
 entry_level levels o (Sync at act value) near = act_level levels o act near
 entry_level levels o (Commit a b) near = refl
 entry_level levels o (Plain a b c d f g) near = refl
@@ -408,7 +449,8 @@ entry_level levels o (Abort a b) near = refl
 entry_level levels o (Trim a) near = refl
 entry_level levels o (Over a) near = refl
 
-from_level : (levels : List ℕ) (o : ℕ) (es : List Entry) → o < length levels → slice_index_or (levels_from levels es) o 0 ≡ level_from o (slice_index_or levels o 0) es
+from_level : (levels : List ℕ) (o : ℕ) (es : List Entry) → o < length levels → slice_index_or (levels_from levels es) o 0
+    ≡ level_from o (slice_index_or levels o 0) es
 from_level levels o [] near = refl
 from_level levels o (e ∷ es) near =
     let n = length_entry levels e in
@@ -423,7 +465,9 @@ of_level o es near =
 -- ---- the laws
 
 pub levels_tell : LevelsTell
-levels_tell setting h now t es allowed k o d near = subst (λ n. (now.monitors o ≡ Owned t d) ↔ ((n ≡ d) × (0 < d))) (sym (of_level o es near)) (level_law setting t o (length h) h refl now allowed es k d)
+levels_tell setting h now t es allowed k o d near =
+    subst (λ n. (now.monitors o ≡ Owned t d) ↔ ((n ≡ d) × (0 < d))) (sym (of_level o es near))
+    (level_law setting t o (length h) h refl now allowed es k d)
 
 -- of a monitor that there is not, entries whose ids are ones that there are say nothing
 act_far : (o n : ℕ) (act : Act) → MONITORS ≤ o → (at : ℕ) (value : ℤ) → IsEntryKept (Sync at act value) → level_act o n act ≡ n
@@ -450,10 +494,12 @@ entry_far o n (Over a) far kept = refl
 
 level_far : (o n : ℕ) (es : List Entry) → MONITORS ≤ o → All IsEntryKept es → level_from o n es ≡ n
 level_far o n [] far kept = refl
-level_far o n (e ∷ es) far kept = ap (λ k. level_from o k es) (entry_far o n e far (All-head IsEntryKept e es kept)) ∙ level_far o n es far (All-tail IsEntryKept e es kept)
+level_far o n (e ∷ es) far kept = ap (λ k. level_from o k es) (entry_far o n e far (All-head IsEntryKept e es kept))
+    ∙ level_far o n es far (All-tail IsEntryKept e es kept)
 
 -- a monitor that the thread owns is one that there is, and its level says how often
-owned_level : (setting : Setting) (h : List Stamp) (now : State) (t : ℕ) (es : List Entry) → Allows setting h now → AreEvents h t es → All IsEntryKept es → (o d : ℕ) → now.monitors o ≡ Owned t d → (o < MONITORS) × (0 < slice_index (levels_of es) o)
+owned_level : (setting : Setting) (h : List Stamp) (now : State) (t : ℕ) (es : List Entry) → Allows setting h now → AreEvents h t es
+    → All IsEntryKept es → (o d : ℕ) → now.monitors o ≡ Owned t d → (o < MONITORS) × (0 < slice_index (levels_of es) o)
 owned_level setting h now t es allowed k kept o d owned =
     let l = (level_law setting t o (length h) h refl now allowed es k d).0 owned in
     let a = l.0 in
@@ -467,13 +513,17 @@ owned_level setting h now t es allowed k kept o d owned =
 level_near : (es : List Entry) (o : ℕ) → 0 < slice_index (levels_of es) o → o < MONITORS
 level_near es o some = elim (cases_lt o MONITORS) [
   | inl near ↦ near
-  | inr far ↦ absurd (let n = length_levels es in let z = Rattle.std.proofs.lemmas.List.get_or_past (levels_of es) o 0 (omega arith) in omega arith)
+  | inr far ↦ absurd (let n = length_levels es in let z = Rattle.std.proofs.lemmas.List.get_or_past (levels_of es) o 0 (omega arith)
+      in omega arith)
 ]
 
 pub monitors_tell : MonitorsTell
 monitors_tell setting h now t es allowed k kept held l = record {
   rising = l.rising;
-  owned = λ o c. let some = l.entered o c in (slice_index (levels_of es) o, (levels_tell setting h now t es allowed k o (slice_index (levels_of es) o) (level_near es o some)).1 (refl, some));
+  owned = λ o c. let some = l.entered o c in (
+    slice_index (levels_of es) o,
+    (levels_tell setting h now t es allowed k o (slice_index (levels_of es) o) (level_near es o some)).1 (refl, some),
+  );
   at_most_four = l.at_most_four;
   least = λ o own. l.least o (owned_level setting h now t es allowed k kept o own.0 own.1).1;
 }
@@ -487,7 +537,8 @@ questions_tell setting h now t es allowed k life q by held =
       commit = refl;
       now = now;
       allowed = allowed;
-      runs = subst (λ u. now.threads u ≡ Rattle.gl_model.specs.Machine.Running) (sym by) (running_law setting h now t b.0 es allowed k b.1 (no_end es life));
+      runs = subst (λ u. now.threads u ≡ Rattle.gl_model.specs.Machine.Running) (sym by)
+          (running_law setting h now t b.0 es allowed k b.1 (no_end es life));
       held = subst (λ u. AreLeastOwned now u q.held) (sym by) held;
     }
 
@@ -508,7 +559,8 @@ levels_none = refl
 act_few : (levels : List ℕ) (o n : ℕ) (act : Act) → slice_index levels o ≤ n → slice_index (levels_act levels act) o ≤ suc n
 act_few levels o n act few = elim (cases_lt o (length levels)) [
   | inl near ↦ (let e = act_level levels o act near in let u = up o (slice_index levels o) act in omega arith)
-  | inr far ↦ (let l = length_act levels act in let z = Rattle.std.proofs.lemmas.List.get_or_past (levels_act levels act) o 0 (omega arith) in omega arith)
+  | inr far ↦ (let l = length_act levels act in let z = Rattle.std.proofs.lemmas.List.get_or_past (levels_act levels act) o 0 (omega arith)
+      in omega arith)
 ]
   where
     if_up : (b : Bool) (n m : ℕ) → m ≤ suc n → (if b then m else n) ≤ suc n
@@ -544,7 +596,9 @@ from_few levels o n (e ∷ es) few = let r = from_few (levels_entry levels e) o 
 none_at : (o : ℕ) → slice_index (replicate MONITORS 0) o ≤ 0
 none_at o = elim (cases_lt o MONITORS) [
   | inl near ↦ (let e : slice_index (replicate MONITORS 0) o ≡ 0 = get_or-replicate {A = ℕ} MONITORS o 0 0 near in omega arith)
-  | inr far ↦ (let n : length {A = ℕ} (replicate MONITORS 0) ≡ MONITORS = length-replicate {A = ℕ} MONITORS 0 in let z : slice_index (replicate MONITORS 0) o ≡ 0 = Rattle.std.proofs.lemmas.List.get_or_past {X = ℕ} (replicate MONITORS 0) o 0 (omega arith) in omega arith)
+  | inr far ↦ (let n : length {A = ℕ} (replicate MONITORS 0) ≡ MONITORS = length-replicate {A = ℕ} MONITORS 0
+      in let z : slice_index (replicate MONITORS 0) o
+      ≡ 0 = Rattle.std.proofs.lemmas.List.get_or_past {X = ℕ} (replicate MONITORS 0) o 0 (omega arith) in omega arith)
 ]
 
 pub levels_few : (es : List Entry) (o : ℕ) → slice_index (levels_of es) o ≤ length es

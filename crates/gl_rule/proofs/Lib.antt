@@ -32,4 +32,3 @@ pub mod Words
 pub mod Safety
 pub mod Agreeing
 pub mod Levels
-pub mod OwnEvents

@@ -30,7 +30,19 @@ use Rattle.gl_rule.proofs.Seats.{blank_fits}
 use Rattle.gl_rule.specs.Tries.{TellsTaken}
 
 abbrev first_world : Setting → World
-first_world setting = record { log = []; now = start setting; draws = λ _. []; holder = λ _. 0; seat = λ _. 0; trims = []; values = λ _. pos 0; states = λ _. start setting; until = λ _ _. 0; takers = λ _. []; stopped = 0 }
+first_world setting = record {
+  log = [];
+  now = start setting;
+  draws = λ _. [];
+  holder = λ _. 0;
+  seat = λ _. 0;
+  trims = [];
+  values = λ _. pos 0;
+  states = λ _. start setting;
+  until = λ _ _. 0;
+  takers = λ _. [];
+  stopped = 0;
+}
 
 abbrev pub zero_list : ℕ → List ℕ
 zero_list n = replicate n 0
@@ -72,13 +84,26 @@ shelf_fits t near = record {
   here = refl;
   named = near;
   events = record { listed = λ i p e ev a b c. absurd (cc); made = λ p s a own. absurd (cc); rise = λ i j p q e f a b lt c d. absurd (cc) };
-  form = record { well_formed = λ i e a. absurd (cc); begins = λ i e a n all. absurd (cc); lows_rise = λ i j l h a b lt. absurd (cc); over_after_end = λ i e f a b. absurd (cc); nothing_after = λ i e a o. absurd (cc); cached = λ i x k w z a. absurd (cc); repeats = λ i x k z a. absurd (cc) };
+  form = record {
+    well_formed = λ i e a. absurd (cc);
+    begins = λ i e a n all. absurd (cc);
+    lows_rise = λ i j l h a b lt. absurd (cc);
+    over_after_end = λ i e f a b. absurd (cc);
+    nothing_after = λ i e a o. absurd (cc);
+    cached = λ i x k w z a. absurd (cc);
+    repeats = λ i x k z a. absurd (cc);
+  };
   made = omega arith;
 }
 
 shelf_draws : (t : ℕ) → ShelfDraws (λ _. []) [] (shelf t [])
 shelf_draws t = record {
-  numbers = record { kept = λ x k d a own. absurd a; made = λ x k i e a b. absurd (cc); in_flight = λ o c. absurd (let l = c.1 in omega arith); rise = λ x k m i j e f a b lt c d. absurd (cc) };
+  numbers = record {
+    kept = λ x k d a own. absurd a;
+    made = λ x k i e a b. absurd (cc);
+    in_flight = λ o c. absurd (let l = c.1 in omega arith);
+    rise = λ x k m i j e f a b lt c d. absurd (cc);
+  };
   few = λ x. omega arith;
   two = λ x. omega arith;
   above = λ x k m i e o a d c. absurd (cc);
@@ -87,24 +112,47 @@ shelf_draws t = record {
 
 all_from : (P : Shelf → Type 0) (t n : ℕ) → ((u : ℕ) → t ≤ u → u < t + n → P (shelf u [])) → All P (shelves_from t n)
 all_from P t zero f = All-nil P
-all_from P t (suc n) f = All-cons P (shelf t []) (shelves_from (suc t) n) (f t (omega arith) (omega arith)) (all_from P (suc t) n (λ u a b. f u (omega arith) (omega arith)))
+all_from P t (suc n) f = All-cons P (shelf t []) (shelves_from (suc t) n) (f t (omega arith) (omega arith))
+    (all_from P (suc t) n (λ u a b. f u (omega arith) (omega arith)))
 
 -- a table begins with the rule
-pub begins : (key : Key) (l : ListView) → IsStateOf l (start key.setting) → Rule key (table.opening (zero_list (word_count (capacity key))) (first_slots l) (blank sixteen))
+pub begins : (key : Key) (l : ListView) → IsStateOf l (start key.setting)
+    → Rule key (table.opening (zero_list (word_count (capacity key))) (first_slots l) (blank sixteen))
 begins key l state =
     let w = first_world key.setting in
     let cap = capacity key in
     let words : List ℕ = zero_list (word_count cap) in
     let b = board cap words in
-    let fits : Fits key b w 0 (blank sixteen) = blank_fits key b w 0 sixteen (all_from (ShelfFits [] (λ _. 0) 0) 0 16 (λ u a c. shelf_fits u (omega arith))) (all_from (ShelfDraws (λ _. []) []) 0 16 (λ u a c. shelf_draws u))
-    (all_from (AreBelow 0) 0 16 (λ u a c i p e at q. absurd (cc))) (all_from (ShelfTrims []) 0 16 (λ u a c. record { made = λ i low at. absurd (cc); kept = λ low has. absurd (let q = has.1 in omega arith) }))
-    (all_from (ShelfRefusals (λ _ _. 0)) 0 16 (λ u a c i tx var at. absurd (cc))) (all_from (ShelfCarries (λ _. pos 0)) 0 16 (λ u a c i p e at q. absurd (cc))) (record { calm = λ x v c. absurd (let l = c.1 in omega arith); late = λ x v c. absurd (let l = c.1 in omega arith); once = λ x v u c. absurd (let l = c.1 in omega arith); owes = λ x v c. absurd (let l = c.1 in omega arith); tied = λ r c x k d at own. absurd at }) (all_from (TellsTaken (λ _. []) []) 0 16 (λ u a c k has. absurd (let q = has.1 in omega arith))) in (
+    let fits : Fits key b w 0 (blank sixteen) =
+    blank_fits key b w 0 sixteen (all_from (ShelfFits [] (λ _. 0) 0) 0 16 (λ u a c. shelf_fits u (omega arith)))
+    (all_from (ShelfDraws (λ _. []) []) 0 16 (λ u a c. shelf_draws u))
+    (all_from (AreBelow 0) 0 16 (λ u a c i p e at q. absurd (cc)))
+    (all_from (ShelfTrims []) 0 16 (λ u a c. record {
+      made = λ i low at. absurd (cc);
+      kept = λ low has. absurd (let q = has.1 in omega arith);
+    }))
+    (all_from (ShelfRefusals (λ _ _. 0)) 0 16 (λ u a c i tx var at. absurd (cc)))
+    (all_from (ShelfCarries (λ _. pos 0)) 0 16 (λ u a c i p e at q. absurd (cc)))
+    (record {
+      calm = λ x v c. absurd (let l = c.1 in omega arith);
+      late = λ x v c. absurd (let l = c.1 in omega arith);
+      once = λ x v u c. absurd (let l = c.1 in omega arith);
+      owes = λ x v c. absurd (let l = c.1 in omega arith);
+      tied = λ r c x k d at own. absurd at;
+    }) (all_from (TellsTaken (λ _. []) []) 0 16 (λ u a c k has. absurd (let q = has.1 in omega arith))) in (
       w,
       record {
         words = zeros_long (word_count cap);
         whole = record {
-          tries = record { named = λ k t near e. absurd (let z : b.turn k ≡ 0 = zeros (word_count cap) (3 * k + 1) in omega arith); word = zeros (word_count cap) 3075; least = omega arith };
-          turns = record { named = λ k near. subst (λ n. n ≤ THREADS) (sym (zeros (word_count cap) (3 * k + 1))) (omega arith); busy = λ k near nz. absurd (nz (zeros (word_count cap) (3 * k + 1))) };
+          tries = record {
+            named = λ k t near e. absurd (let z : b.turn k ≡ 0 = zeros (word_count cap) (3 * k + 1) in omega arith);
+            word = zeros (word_count cap) 3075;
+            least = omega arith;
+          };
+          turns = record {
+            named = λ k near. subst (λ n. n ≤ THREADS) (sym (zeros (word_count cap) (3 * k + 1))) (omega arith);
+            busy = λ k near nz. absurd (nz (zeros (word_count cap) (3 * k + 1)));
+          };
           positions = record { count = zeros (word_count cap) (3 * 0); kept = All-nil IsStampInRange; few = λ t. omega arith };
           machine = record { allowed = refl; first = refl; last = refl; steps = λ p x at. absurd (cc) };
           numbers = record { counts = λ x near. zeros (word_count cap) (3 * suc x); threads = λ x d a. absurd a; few = λ x t. omega arith };
@@ -113,19 +161,34 @@ begins key l state =
           ring = record {
             cells = λ p i x from at few. absurd (cc);
             room = omega arith;
-            holds = λ x near. (let z : b.hold 0 ≡ 0 = zeros (word_count cap) (3 * 0 + 2) in let y : b.hold (suc x) ≡ 0 = zeros (word_count cap) (3 * suc x + 2) in (subst (λ n. n * key.cells ≤ b.hold (suc x)) (sym z) (omega arith), subst (λ n. n ≤ 0) (sym y) (omega arith)));
+            holds = λ x near. (let z : b.hold 0 ≡ 0 = zeros (word_count cap) (3 * 0 + 2) in let y : b.hold (suc x)
+                ≡ 0 = zeros (word_count cap) (3 * suc x + 2)
+                in (subst (λ n. n * key.cells ≤ b.hold (suc x)) (sym z) (omega arith), subst (λ n. n ≤ 0) (sym y) (omega arith)));
           };
-          low = record { below = λ o has. absurd (let q = has.1 in omega arith); last = inl (refl, zeros (word_count cap) (3 * 0 + 2)); once = λ o r has. absurd (let q = has.1 in omega arith); named = λ o has. absurd (let q = has.1 in omega arith) };
+          low = record {
+            below = λ o has. absurd (let q = has.1 in omega arith);
+            last = inl (refl, zeros (word_count cap) (3 * 0 + 2));
+            once = λ o r has. absurd (let q = has.1 in omega arith);
+            named = λ o has. absurd (let q = has.1 in omega arith);
+          };
         };
         values = record { home = λ k near free. home k near };
         views = record { at = λ j v e. only j v e fits };
       },
     )
   where
-    home : (k : ℕ) → k < objects → (y : Slot) × (get_elem? (map some (first_slots l)) k ≡ some (some y)) × Stands key.setting (first_world key.setting) (board (capacity key) (zero_list (word_count (capacity key)))).hold k y
+    home : (k : ℕ) → k < objects → (y : Slot) × (get_elem? (map some (first_slots l)) k ≡ some (some y))
+        × Stands key.setting (first_world key.setting) (board (capacity key) (zero_list (word_count (capacity key)))).hold k y
     home zero near = (slot.List l, refl, state)
-    home (suc x) near = (slot.Row empty_row, rows_home 1024 x (omega arith), (row_stands key.setting x, subst (IsAbove empty_row) (sym (zeros (word_count (capacity key)) (3 * suc x + 2))) row_above))
+    home (suc x) near = (
+      slot.Row empty_row,
+      rows_home 1024 x (omega arith),
+      (row_stands key.setting x, subst (IsAbove empty_row) (sym (zeros (word_count (capacity key)) (3 * suc x + 2))) row_above),
+    )
 
-    only : (j : ℕ) (v : View) → get_elem? (blank sixteen ∷ []) j ≡ some v → Fits key (board (capacity key) (zero_list (word_count (capacity key)))) (first_world key.setting) 0 (blank sixteen) → Fits key (board (capacity key) (zero_list (word_count (capacity key)))) (first_world key.setting) j v
-    only zero v e f = subst (Fits key (board (capacity key) (zero_list (word_count (capacity key)))) (first_world key.setting) 0) (some-injective (blank sixteen) v e) f
+    only : (j : ℕ) (v : View) → get_elem? (blank sixteen ∷ []) j ≡ some v
+        → Fits key (board (capacity key) (zero_list (word_count (capacity key)))) (first_world key.setting) 0 (blank sixteen)
+        → Fits key (board (capacity key) (zero_list (word_count (capacity key)))) (first_world key.setting) j v
+    only zero v e f = subst (Fits key (board (capacity key) (zero_list (word_count (capacity key)))) (first_world key.setting) 0)
+        (some-injective (blank sixteen) v e) f
     only (suc j) v e f = absurd (some-ne-none v (sym e))

@@ -44,7 +44,8 @@ use Rattle.gl_rule.proofs.Raising.{row_in, in_row, row_tail, tail_row}
 use Rattle.gl_rule.proofs.Refusing.{commits_else}
 use Rattle.gl_draws.proofs.Repeats.{draw_back, again_here, again_else, again_count, again_long, again_all, again_among, again_drawn, refusals_repeated}
 
-module _ (key : Key) (w : World) (st : table.State Slot View) (id : ℕ) (v : View) (s : Shelf) (h : Held) (x : ℕ) (taken : Row) (value : ℤ) (one : v.shelves ≡ s ∷ []) (may : MayPay v h x taken value) (H : Holds key w st) (here : get_elem? st.views id ≡ some v) where
+module _ (key : Key) (w : World) (st : table.State Slot View) (id : ℕ) (v : View) (s : Shelf) (h : Held) (x : ℕ) (taken : Row) (value : ℤ)
+    (one : v.shelves ≡ s ∷ []) (may : MayPay v h x taken value) (H : Holds key w st) (here : get_elem? st.views id ≡ some v) where
   abbrev b : Board
   b = board (capacity key) st.words
 
@@ -121,7 +122,8 @@ module _ (key : Key) (w : World) (st : table.State Slot View) (id : ℕ) (v : Vi
         (let r = draw_back x vs (w.draws x) k a (subst (λ l. DrawAt l k a) (ap after e ∙ after_here) at) in
         elim r.1.how [
           | inl z ↦ subst (λ q. DrawAt (w.draws q) k a) (sym e) (subst (λ c. DrawAt (w.draws x) k c) (sym z.0) r.1.at)
-          | inr z ↦ absurd (let is : r.0 ≡ its.draw = some_draw r.0 its.draw (sym z.1 ∙ its.last) in apart (sym of ∙ r.1.same.thread ∙ ap (λ (c : Draw). c.thread) is ∙ own))
+          | inr z ↦ absurd (let is : r.0 ≡ its.draw = some_draw r.0 its.draw (sym z.1 ∙ its.last)
+              in apart (sym of ∙ r.1.same.thread ∙ ap (λ (c : Draw). c.thread) is ∙ own))
         ])
     | no ne ↦ subst (λ l. DrawAt l k a) (after_else y ne) at
   ]
@@ -134,16 +136,31 @@ module _ (key : Key) (w : World) (st : table.State Slot View) (id : ℕ) (v : Vi
   home_at (suc y) slot.Empty ne q = absurd q
   home_at (suc y) (slot.List l) ne q = absurd q
 
-  held_at : (drew : Option Draw) (k : ℕ) (y : Slot) → k ≢ suc x → StandsHeld key.setting w b.hold drew k y → StandsHeld key.setting w' b.hold drew k y
+  held_at : (drew : Option Draw) (k : ℕ) (y : Slot) → k ≢ suc x → StandsHeld key.setting w b.hold drew k y
+      → StandsHeld key.setting w' b.hold drew k y
   held_at drew zero (slot.List l) ne q = q
-  held_at drew (suc y) (slot.Row r) ne q = (record { before = q.0.before; draws_are = after_else y (λ e. ne (ap suc e)) ∙ q.0.draws_are; stands = q.0.stands }, q.1)
+  held_at drew (suc y) (slot.Row r) ne q = (
+    record {
+      before = q.0.before;
+      draws_are = after_else y (λ e. ne (ap suc e))
+          ∙ q.0.draws_are;
+      stands = q.0.stands;
+    },
+    q.1,
+  )
   held_at drew zero slot.Empty ne q = absurd q
   held_at drew zero (slot.Row r) ne q = absurd q
   held_at drew (suc y) slot.Empty ne q = absurd q
   held_at drew (suc y) (slot.List l) ne q = absurd q
 
   owed_own : OwedFits after u.owed v.shelves
-  owed_own = record { calm = calms; late = lates; once = λ y a c p q. mine.owed.once y a c (rest_in x y a v.owed p).0 (rest_in x y c v.owed q).0; owes = owe; tied = ties }
+  owed_own = record {
+    calm = calms;
+    late = lates;
+    once = λ y a c p q. mine.owed.once y a c (rest_in x y a v.owed p).0 (rest_in x y c v.owed q).0;
+    owes = owe;
+    tied = ties;
+  }
     where
       old : OwedFits w.draws v.owed v.shelves
       old = mine.owed
@@ -151,16 +168,30 @@ module _ (key : Key) (w : World) (st : table.State Slot View) (id : ℕ) (v : Vi
       calms : (y : ℕ) (c : ℤ) → Contains u.owed (y, c) → IsCalm y (after y)
       calms y c has = let r = rest_in x y c v.owed has in subst (IsCalm y) (sym (after_else y r.1)) (old.calm y c r.0)
 
-      lates : (y : ℕ) (c : ℤ) → Contains u.owed (y, c) → (r : Shelf) → Contains v.shelves r → (k : ℕ) (d : Draw) → DrawAt (after y) k d → last_write y (after y) ≡ Some d → d.thread ≡ r.thread → (rest : List ℤ) × (repeats_of y k r.marked ≡ (c ∷ rest) ++ d.repeats)
-      lates y c has r in' k d at last of = let q = rest_in x y c v.owed has in let e = after_else y q.1 in old.late y c q.0 r in' k d (subst (λ l. DrawAt l k d) e at) (sym (ap (last_write y) e) ∙ last) of
+      lates : (y : ℕ) (c : ℤ) → Contains u.owed (y, c) → (r : Shelf) → Contains v.shelves r → (k : ℕ) (d : Draw) → DrawAt (after y) k d
+          → last_write y (after y) ≡ Some d → d.thread ≡ r.thread → (rest : List ℤ) × (repeats_of y k r.marked ≡ (c ∷ rest) ++ d.repeats)
+      lates y c has r in' k d at last of = let q = rest_in x y c v.owed has in let e = after_else y q.1
+          in old.late y c q.0 r in' k d (subst (λ l. DrawAt l k d) e at) (sym (ap (last_write y) e) ∙ last) of
 
       owe : (y : ℕ) (c : ℤ) → Contains u.owed (y, c) → OwedOne after v.shelves y
       owe y c has =
           let q = rest_in x y c v.owed has in
           let o = old.owes y c q.0 in
-          record { shelf = o.shelf; one = o.one; draw = o.draw; last = ap (last_write y) (after_else y q.1) ∙ o.last; own = o.own; block = o.block; number = o.number; value = o.value; plain = o.plain }
+          record {
+            shelf = o.shelf;
+            one = o.one;
+            draw = o.draw;
+            last = ap (last_write y) (after_else y q.1)
+                ∙ o.last;
+            own = o.own;
+            block = o.block;
+            number = o.number;
+            value = o.value;
+            plain = o.plain;
+          }
 
-      ties_x : (r : Shelf) → Contains v.shelves r → (k : ℕ) (d : Draw) → DrawAt (repeated x vs (w.draws x)) k d → d.thread ≡ r.thread → (pending : List ℤ) × (repeats_of x k r.marked ≡ pending ++ d.repeats) × (pending ≡ [])
+      ties_x : (r : Shelf) → Contains v.shelves r → (k : ℕ) (d : Draw) → DrawAt (repeated x vs (w.draws x)) k d → d.thread ≡ r.thread
+          → (pending : List ℤ) × (repeats_of x k r.marked ≡ pending ++ d.repeats) × (pending ≡ [])
       ties_x r in' k d at of =
           let q = draw_back x vs (w.draws x) k d at in
           let t = old.tied r in' x k q.0 q.1.at (sym q.1.same.thread ∙ of) in
@@ -177,9 +208,14 @@ module _ (key : Key) (w : World) (st : table.State Slot View) (id : ℕ) (v : Vi
                 ]
             | inr z ↦
                 (let is : q.0 ≡ its.draw = some_draw q.0 its.draw (sym z.1 ∙ its.last) in
-                let n : k ≡ number.0 = number_once k (subst (λ c. DrawAt (w.draws x) k c) is q.1.at) ∙ sym (number_once number.0 number.1) in
-                let same : s ≡ r = only r in' in
-                ([], ap (λ (c : Shelf). repeats_of x k c.marked) (sym same) ∙ ap (λ m. repeats_of x m s.marked) n ∙ late.1 ∙ ap (λ (c : Draw). vs ++ c.repeats) (sym is) ∙ sym (ap (λ (c : Draw). c.repeats) z.0), refl))
+                let n : k ≡ number.0 = number_once k (subst (λ c. DrawAt (w.draws x) k c) is q.1.at)
+                ∙ sym (number_once number.0 number.1) in
+                let same : s ≡ r = only r in' in (
+                  [],
+                  ap (λ (c : Shelf). repeats_of x k c.marked) (sym same) ∙ ap (λ m. repeats_of x m s.marked) n ∙ late.1
+                      ∙ ap (λ (c : Draw). vs ++ c.repeats) (sym is) ∙ sym (ap (λ (c : Draw). c.repeats) z.0),
+                  refl,
+                ))
           ]
         where
           only : (r : Shelf) → Contains v.shelves r → s ≡ r
@@ -189,13 +225,28 @@ module _ (key : Key) (w : World) (st : table.State Slot View) (id : ℕ) (v : Vi
               by (zero, l, e) = e
               by (suc k, l, e) = absurd (omega arith)
 
-      ties : (r : Shelf) → Contains v.shelves r → (y k : ℕ) (d : Draw) → DrawAt (after y) k d → d.thread ≡ r.thread → (pending : List ℤ) × (repeats_of y k r.marked ≡ pending ++ d.repeats) × ((pending ≡ []) ⊎ IsPending after u.owed y d pending)
+      ties : (r : Shelf) → Contains v.shelves r → (y k : ℕ) (d : Draw) → DrawAt (after y) k d → d.thread ≡ r.thread → (pending : List ℤ)
+          × (repeats_of y k r.marked ≡ pending ++ d.repeats) × ((pending ≡ []) ⊎ IsPending after u.owed y d pending)
       ties r in' y k d at of = elim (ℕ_discrete y x) [
-        | yes e ↦ (let t = ties_x r in' k d (subst (λ l. DrawAt l k d) (ap after e ∙ after_here) at) of in (t.0, subst (λ z. repeats_of z k r.marked ≡ t.0 ++ d.repeats) (sym e) t.1, inl t.2))
+        | yes e ↦ (let t = ties_x r in' k d (subst (λ l. DrawAt l k d) (ap after e ∙ after_here) at) of
+            in (t.0, subst (λ z. repeats_of z k r.marked ≡ t.0 ++ d.repeats) (sym e) t.1, inl t.2))
         | no ne ↦
             (let q = after_else y ne in
-            let t = old.tied r in' y k d (subst (λ l. DrawAt l k d) q at) of in
-            (t.0, t.1, elim t.2 [ inl z ↦ inl z | inr p ↦ inr (record { value = p.value; rest = p.rest; is = p.is; owes = in_rest x y p.value v.owed ne p.owes; last = ap (last_write y) q ∙ p.last }) ]))
+            let t = old.tied r in' y k d (subst (λ l. DrawAt l k d) q at) of in (
+              t.0,
+              t.1,
+              elim t.2 [
+                | inl z ↦ inl z
+                | inr p ↦
+                    inr (record {
+                      value = p.value;
+                      rest = p.rest;
+                      is = p.is;
+                      owes = in_rest x y p.value v.owed ne p.owes;
+                      last = ap (last_write y) q ∙ p.last;
+                    })
+              ],
+            ))
       ]
 
   -- the value is written back
@@ -207,11 +258,16 @@ module _ (key : Key) (w : World) (st : table.State Slot View) (id : ℕ) (v : Vi
       let T = TailsFit (length w.log) b.hold v.seen in
       let turn : O h = All-contains O v.held h mine.turns.held may.held in
       let k = h.object in
-      let old = row_in key.setting w b.hold k x h.taken h.drew taken may.object may.is may.first (All-contains S v.held h mine.values.held may.held) in
-      let stands : RowStands key.setting w.log x (after x) row = subst (λ l. RowStands key.setting w.log x l row) (sym after_here) (row_repeated key.setting w.log x value late.0 (w.draws x) taken calm old.0) in
+      let old = row_in key.setting w b.hold k x h.taken h.drew taken may.object may.is may.first
+      (All-contains S v.held h mine.values.held may.held) in
+      let stands : RowStands key.setting w.log x (after x) row =
+      subst (λ l. RowStands key.setting w.log x l row) (sym after_here)
+      (row_repeated key.setting w.log x value late.0 (w.draws x) taken calm old.0) in
       let above : IsAbove row (b.hold (suc x)) = record { at = λ i q. old.1.at i q } in
       let tails : T h = All-contains T v.held h mine.knowledge.tails may.held in
-      let tails' : T g' = λ n q. let t = row_tail (length w.log) b.hold v.seen k x n h.taken taken may.object may.is (tails n q) in tail_row (length w.log) b.hold v.seen k x n row may.object (t.0, record { last_write = t.1.last_write; reads = t.1.reads }, t.2) in
+      let tails' : T g' = λ n q. let t = row_tail (length w.log) b.hold v.seen k x n h.taken taken may.object may.is (tails n q)
+      in tail_row (length w.log) b.hold v.seen k x n row may.object (t.0, record { last_write = t.1.last_write; reads = t.1.reads }, t.2)
+      in
       let below : DrawsBelow w.draws h = All-contains (DrawsBelow w.draws) v.held h mine.refusals.held may.held in
       let below' : DrawsBelow after g' = record {
         at = λ y before a n o is among q. elim (ℕ_discrete y x) [
@@ -222,7 +278,8 @@ module _ (key : Key) (w : World) (st : table.State Slot View) (id : ℕ) (v : Vi
           | no ne ↦ absurd (ne (let a : suc y ≡ suc x = sym o ∙ may.object in omega arith))
         ];
       } in
-      let cons : (P Q : Held → Type 0) → Q g' → ((g : Held) → g.object ≢ k → P g → Q g) → All P v.held → All Q (g' ∷ without k v.held) = λ P Q p step all. All-cons Q g' (without k v.held) p (all_without P Q k v.held step all) in
+      let cons : (P Q : Held → Type 0) → Q g' → ((g : Held) → g.object ≢ k → P g → Q g) → All P v.held
+      → All Q (g' ∷ without k v.held) = λ P Q p step all. All-cons Q g' (without k v.held) p (all_without P Q k v.held step all) in
       let not_x : (g : Held) → g.object ≢ k → g.object ≢ suc x = λ g ne e. ne (e ∙ sym may.object) in record {
         words = H.words;
         whole = record {
@@ -232,72 +289,154 @@ module _ (key : Key) (w : World) (st : table.State Slot View) (id : ℕ) (v : Vi
           machine = machine_same key.setting w _ refl refl refl refl H.whole.machine;
           numbers = record {
             counts = λ y near. H.whole.numbers.counts y near ∙ sym (again_long x vs w.draws y);
-            threads = λ y a among. let r = again_among x vs w.draws y a among in subst (λ t. t < THREADS) (sym r.2.thread) (H.whole.numbers.threads y r.0 r.1);
+            threads = λ y a among. let r = again_among x vs w.draws y a among
+                in subst (λ t. t < THREADS) (sym r.2.thread) (H.whole.numbers.threads y r.0 r.1);
             few = λ y t. subst (λ z. z ≤ 2 ^ 51 + 2) (sym (again_count x vs w.draws t y)) (H.whole.numbers.few y t);
           };
-          verdicts = again_all x vs w.draws (λ y ds. DrawsHold w.log y ds) (draws_repeated x vs w.log (w.draws x) calm (H.whole.verdicts x)) H.whole.verdicts;
-          refused = again_all x vs w.draws (λ y ds. RefusalsHold w.log (w.until y) y ds) (refusals_repeated x vs w.log (w.until x) (w.draws x) calm (H.whole.refused x)) H.whole.refused;
+          verdicts = again_all x vs w.draws (λ y ds. DrawsHold w.log y ds)
+              (draws_repeated x vs w.log (w.draws x) calm (H.whole.verdicts x)) H.whole.verdicts;
+          refused = again_all x vs w.draws (λ y ds. RefusalsHold w.log (w.until y) y ds)
+              (refusals_repeated x vs w.log (w.until x) (w.draws x) calm (H.whole.refused x)) H.whole.refused;
           ring = H.whole.ring;
           low = H.whole.low;
         };
         values = record {
           home = λ g near z.
-              let r = H.values.home g near z in
-              (r.0, r.1, home_at g r.0 (λ e. let busy = turn.busy in let a : b.turn k ≡ 0 = ap b.turn (may.object ∙ sym e) ∙ z in omega arith) r.2);
+              let r = H.values.home g near z in (
+                r.0,
+                r.1,
+                home_at g r.0 (λ e. let busy = turn.busy in let a : b.turn k ≡ 0 = ap b.turn (may.object ∙ sym e) ∙ z
+                    in omega arith) r.2,
+              );
         };
         views = each_set id u H.views
             (λ j o away f.
             let P = HeldOne b.turn w.holder j o.shelves in
             let not_it : (g : Held) → P g → g.object ≢ suc x = λ g q e. away (sym q.here ∙ ap w.holder (e ∙ sym may.object) ∙ turn.here) in
-            let apart : (r : Shelf) → ShelfFits w.log w.seat j r → r.thread ≢ s.thread = λ r q z. away (sym q.here ∙ ap w.seat z ∙ fits.here) in
+            let apart : (r : Shelf) → ShelfFits w.log w.seat j r
+            → r.thread ≢ s.thread = λ r q z. away (sym q.here ∙ ap w.seat z ∙ fits.here) in
             let theirs : (y : ℕ) → OwedOne w.draws o.shelves y → y ≢ x = λ y q e.
-            let r : ShelfFits w.log w.seat j q.shelf = All-contains (ShelfFits w.log w.seat j) o.shelves q.shelf f.positions.shelves (subst (λ l. Contains l q.shelf) (sym q.one) (zero, omega arith, refl)) in
+            let r : ShelfFits w.log w.seat j q.shelf =
+            All-contains (ShelfFits w.log w.seat j) o.shelves q.shelf f.positions.shelves
+            (subst (λ l. Contains l q.shelf) (sym q.one) (zero, omega arith, refl)) in
             let is : q.draw ≡ its.draw = some_draw q.draw its.draw (sym q.last ∙ ap (λ z. last_write z (w.draws z)) e ∙ its.last) in
             apart q.shelf r (sym q.own ∙ ap (λ (c : Draw). c.thread) is ∙ own) in
             record {
               turns = f.turns;
               tries = f.tries;
               positions = f.positions;
-              values = record { held = both_map P (HeldStands key.setting w b.hold) S' o.held (λ g q z. held_at g.drew g.object g.taken (not_it g q) z) f.turns.held f.values.held };
-              numbers = record { shelves = Rattle.gl_rule.proofs.HeldLists.all_map (ShelfDraws w.draws o.drawn) (ShelfDraws after o.drawn) o.shelves (λ r q. record { numbers = again_drawn x vs w.draws r.thread r.marked o.drawn q.numbers; few = λ y. let a = q.few y in let g = again_count x vs w.draws r.thread y in omega arith; two = q.two; above = q.above; runs = q.runs }) f.numbers.shelves };
+              values = record {
+                held = both_map P (HeldStands key.setting w b.hold) S' o.held
+                    (λ g q z. held_at g.drew g.object g.taken (not_it g q) z) f.turns.held f.values.held;
+              };
+              numbers = record {
+                shelves = Rattle.gl_rule.proofs.HeldLists.all_map (ShelfDraws w.draws o.drawn) (ShelfDraws after o.drawn)
+                    o.shelves (λ r q. record {
+                      numbers = again_drawn x vs w.draws r.thread r.marked o.drawn q.numbers;
+                      few = λ y. let a =
+                          q.few y in let g = again_count x vs w.draws r.thread y in omega arith;
+                      two = q.two;
+                      above = q.above;
+                      runs = q.runs;
+                    })
+                    f.numbers.shelves;
+              };
               knowledge = f.knowledge;
               ring = f.ring;
               quiet = f.quiet;
-              refusals = record { held = both_map P (DrawsBelow w.draws) (DrawsBelow after) o.held (λ g q z. commits_else w.draws after g (λ y e. after_else y (λ z'. not_it g q (e ∙ ap suc z'))) z) f.turns.held f.refusals.held; shelves = f.refusals.shelves };
+              refusals = record {
+                held = both_map P (DrawsBelow w.draws) (DrawsBelow after) o.held
+                    (λ g q z. commits_else w.draws after g (λ y e. after_else y (λ z'. not_it g q (e ∙ ap suc z'))) z) f.turns.held
+                    f.refusals.held;
+                shelves = f.refusals.shelves;
+              };
               carries = f.carries;
-              owed = owed_others w.draws after o.owed o.shelves (λ y q. ap (last_write y) (after_else y (theirs y q))) (λ y q c. subst (IsCalm y) (sym (after_else y (theirs y q))) c)
-                  (λ r c y n a at of. foreign r.thread y n a (apart r (All-contains (ShelfFits w.log w.seat j) o.shelves r f.positions.shelves c)) of at)
+              owed = owed_others w.draws after o.owed o.shelves (λ y q. ap (last_write y) (after_else y (theirs y q)))
+                  (λ y q c. subst (IsCalm y) (sym (after_else y (theirs y q))) c)
+                  (λ r c y n a at of. foreign r.thread y n a
+                  (apart r (All-contains (ShelfFits w.log w.seat j) o.shelves r f.positions.shelves c)) of at)
                   f.owed;
             })
             (record {
               tries = mine.tries;
-              turns = record { held = cons O O (record { named = turn.named; here = turn.here; shelf = turn.shelf; one = turn.one; busy = turn.busy }) (λ g ne q. q) mine.turns.held };
+              turns = record {
+                held = cons O O (record {
+                  named = turn.named;
+                  here = turn.here;
+                  shelf = turn.shelf;
+                  one = turn.one;
+                  busy = turn.busy;
+                }) (λ g ne q. q) mine.turns.held;
+              };
               positions = record { shelves = mine.positions.shelves };
-              values = record { held = cons S S' (in_row key.setting w' b.hold k x h.drew row may.object may.first (stands, above)) (λ g ne q. held_at g.drew g.object g.taken (not_x g ne) q) mine.values.held };
-              numbers = record { shelves = Rattle.gl_rule.proofs.HeldLists.all_map (ShelfDraws w.draws v.drawn) (ShelfDraws after v.drawn) v.shelves (λ r q. record { numbers = again_drawn x vs w.draws r.thread r.marked v.drawn q.numbers; few = λ y. let a = q.few y in let g = again_count x vs w.draws r.thread y in omega arith; two = q.two; above = q.above; runs = q.runs }) mine.numbers.shelves };
-              knowledge = record { seen = mine.knowledge.seen; own = mine.knowledge.own; known = mine.knowledge.known; tails = cons T T tails' (λ g ne q. q) mine.knowledge.tails; reads = mine.knowledge.reads; loaded = mine.knowledge.loaded };
-              ring = record { floors = cons (FloorFits b.hold) (FloorFits b.hold) (All-contains (FloorFits b.hold) v.held h mine.ring.floors may.held) (λ g ne q. q) mine.ring.floors; stored = mine.ring.stored; few = mine.ring.few; by_holder = elim mine.ring.by_holder [ inl z ↦ inl z | inr o ↦ inr (has_after 0 v h g' refl o) ]; lows = mine.ring.lows };
+              values = record {
+                held = cons S S' (in_row key.setting w' b.hold k x h.drew row may.object may.first (stands, above))
+                    (λ g ne q. held_at g.drew g.object g.taken (not_x g ne) q) mine.values.held;
+              };
+              numbers = record {
+                shelves = Rattle.gl_rule.proofs.HeldLists.all_map (ShelfDraws w.draws v.drawn) (ShelfDraws after v.drawn)
+                    v.shelves (λ r q. record {
+                      numbers = again_drawn x vs w.draws r.thread r.marked v.drawn q.numbers;
+                      few = λ y. let a =
+                          q.few y in let g = again_count x vs w.draws r.thread y in omega arith;
+                      two = q.two;
+                      above = q.above;
+                      runs = q.runs;
+                    })
+                    mine.numbers.shelves;
+              };
+              knowledge = record {
+                seen = mine.knowledge.seen;
+                own = mine.knowledge.own;
+                known = mine.knowledge.known;
+                tails = cons T T tails' (λ g ne q. q) mine.knowledge.tails;
+                reads = mine.knowledge.reads;
+                loaded = mine.knowledge.loaded;
+              };
+              ring = record {
+                floors = cons (FloorFits b.hold) (FloorFits b.hold)
+                    (All-contains (FloorFits b.hold) v.held h mine.ring.floors may.held) (λ g ne q. q) mine.ring.floors;
+                stored = mine.ring.stored;
+                few = mine.ring.few;
+                by_holder = elim mine.ring.by_holder [ inl z ↦ inl z | inr o ↦ inr (has_after 0 v h g' refl o) ];
+                lows = mine.ring.lows;
+              };
               quiet = record { none_live = mine.quiet.none_live };
-              refusals = record { held = cons (DrawsBelow w.draws) (DrawsBelow after) below' (λ g ne q. commits_else w.draws after g (λ y e. after_else y (λ z. not_x g ne (e ∙ ap suc z))) q) mine.refusals.held; shelves = mine.refusals.shelves };
+              refusals = record {
+                held = cons (DrawsBelow w.draws) (DrawsBelow after) below'
+                    (λ g ne q. commits_else w.draws after g (λ y e. after_else y (λ z. not_x g ne (e ∙ ap suc z))) q) mine.refusals.held;
+                shelves = mine.refusals.shelves;
+              };
               carries = record { shelves = mine.carries.shelves };
               owed = owed_own;
             });
       }
 
 -- the write-back is no step of the table: whatever step comes next may do it first
-pub pays : (key : Key) (slots id : ℕ) (v : View) (c : List (ℕ × Slot)) (s : Shelf) (h : Held) (x : ℕ) (taken : Row) (value : ℤ) (i : ℕ) (f : ℕ → ℕ) (tells : ℕ → table.Me Slot View → Type 0) → v.shelves ≡ s ∷ [] → MayPay v h x taken value
-    → table.Allows (Rule key) slots id (paid v h x (slot.Row (record taken { value = value })), c) i f tells → table.Allows (Rule key) slots id (v, c) i f tells
+pub pays : (key : Key) (slots id : ℕ) (v : View) (c : List (ℕ × Slot)) (s : Shelf) (h : Held) (x : ℕ) (taken : Row) (value : ℤ) (i : ℕ)
+    (f : ℕ → ℕ) (tells : ℕ → table.Me Slot View → Type 0) → v.shelves ≡ s ∷ [] → MayPay v h x taken value
+    → table.Allows (Rule key) slots id (paid v h x (slot.Row (record taken { value = value })), c) i f tells
+    → table.Allows (Rule key) slots id (v, c) i f tells
 pays key slots id v c s h x taken value i f tells one may allows st rule long here fits =
     let near = at_within st.views id v here in
     let u = paid v h x (slot.Row (record taken { value = value })) in
     let st' : table.State Slot View = record { words = st.words; homes = st.homes; views = set st.views id u } in
-    let r = allows st' (_, pays_held key rule.0 st id v s h x taken value one may rule.1 here) long (set_here st.views id u near) fits in
-    (r.0, r.1, r.2, subst (λ vs. Rule key (record { words = set st.words i (f (slice_index st.words i)); homes = table.homes_after st.homes c r.1; views = vs })) (set_twice st.views id u r.0) r.3, r.4)
+    let r = allows st' (_, pays_held key rule.0 st id v s h x taken value one may rule.1 here) long (set_here st.views id u near) fits in (
+      r.0,
+      r.1,
+      r.2,
+      subst (λ vs. Rule key (record
+          { words = set st.words i (f (slice_index st.words i)); homes = table.homes_after st.homes c r.1; views = vs }))
+          (set_twice st.views id u r.0) r.3,
+      r.4,
+    )
 
 -- a write-back: the value is put into the row, and the row is put back
-pub writes_back : (key : Key) (slots id : ℕ) (v : View) (c : List (ℕ × Slot)) (s : Shelf) (h : Held) (x : ℕ) (taken : Row) (value : ℤ) → objects ≤ slots → v.shelves ≡ s ∷ [] → MayPay v h x taken value
+pub writes_back : (key : Key) (slots id : ℕ) (v : View) (c : List (ℕ × Slot)) (s : Shelf) (h : Held) (x : ℕ) (taken : Row) (value : ℤ)
+    → objects ≤ slots → v.shelves ≡ s ∷ [] → MayPay v h x taken value
     → table.Allows (Rule key) slots id (v, (h.object, slot.Row (record taken { value = value })) ∷ c) (3 * h.object + 1) (λ _. 0)
-    (λ _. Left h.object false (paid v h x (slot.Row (record taken { value = value }))) ((h.object, slot.Row (record taken { value = value })) ∷ c))
+    (λ _. Left h.object false (paid v h x (slot.Row (record taken { value = value })))
+    ((h.object, slot.Row (record taken { value = value })) ∷ c))
 writes_back key slots id v c s h x taken value many one may =
     let row : Row = record taken { value = value } in
     let g : Held = record h { taken = slot.Row row } in
@@ -306,8 +445,12 @@ writes_back key slots id v c s h x taken value many one may =
       right = inr (record { stays = λ l ds st. subst (λ d. RowStands key.setting l x (with_draw d ds) row) (sym may.first) st });
       above = λ i q. inr (i, q, omega arith);
     } in
-    pays key slots id v ((h.object, slot.Row row) ∷ c) s h x taken value (3 * h.object + 1) (λ _. 0) (λ _. Left h.object false u ((h.object, slot.Row row) ∷ c)) one may
-    (leaves_turn key slots id u c s g (slot.Row row) false many one (zero, omega arith, refl) (leave_at key.setting s u g h.object x row may.object put) (λ e. absurd (let z : false ≡ true = e in cc)))
+    pays key slots id v ((h.object, slot.Row row) ∷ c) s h x taken value (3 * h.object + 1) (λ _. 0)
+    (λ _. Left h.object false u ((h.object, slot.Row row) ∷ c)) one may
+    (leaves_turn key slots id u c s g (slot.Row row) false many one (zero, omega arith, refl)
+    (leave_at key.setting s u g h.object x row may.object put) (λ e. absurd (let z : false ≡ true = e in cc)))
   where
-    leave_at : (setting : Setting) (s : Shelf) (u : View) (g : Held) (k x : ℕ) (row : Row) → k ≡ suc x → MayPut setting s u g x row row → MayLeaveAt setting s u g k (slot.Row row) (slot.Row row)
-    leave_at setting s u g k x row e put = subst (λ n. MayLeaveAt setting s u g n (slot.Row row) (slot.Row row)) (sym e) (let z : MayLeaveAt setting s u g (suc x) (slot.Row row) (slot.Row row) = put in z)
+    leave_at : (setting : Setting) (s : Shelf) (u : View) (g : Held) (k x : ℕ) (row : Row) → k ≡ suc x → MayPut setting s u g x row row
+        → MayLeaveAt setting s u g k (slot.Row row) (slot.Row row)
+    leave_at setting s u g k x row e put = subst (λ n. MayLeaveAt setting s u g n (slot.Row row) (slot.Row row)) (sym e)
+        (let z : MayLeaveAt setting s u g (suc x) (slot.Row row) (slot.Row row) = put in z)

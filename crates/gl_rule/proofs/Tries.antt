@@ -34,37 +34,48 @@ module _ {X : Type 0} where
   -- what holds of each that is in the list gives another fact of each
   pub all_in : (P Q : X → Type 0) (xs : List X) → ((x : X) → Contains xs x → P x → Q x) → All P xs → All Q xs
   all_in P Q [] f all = All-nil Q
-  all_in P Q (x ∷ xs) f all = All-cons Q x xs (f x (zero, omega arith, refl) (All-head P x xs all)) (all_in P Q xs (λ y c. f y (in_cons x xs y c)) (All-tail P x xs all))
+  all_in P Q (x ∷ xs) f all = All-cons Q x xs (f x (zero, omega arith, refl) (All-head P x xs all))
+      (all_in P Q xs (λ y c. f y (in_cons x xs y c)) (All-tail P x xs all))
 
 -- the turns and the stop word stay
-pub tries_same : (b b' : Board) (stopped : ℕ) (takers : ℕ → List ℕ) → SameTurns b b' → b'.stop ≡ b.stop → TriesHold b.turn b.stop stopped takers → TriesHold b'.turn b'.stop stopped takers
-tries_same b b' stopped takers turns stop h = record { named = λ k t near e. h.named k t near (sym (turns k near) ∙ e); word = stop ∙ h.word; least = h.least }
+pub tries_same : (b b' : Board) (stopped : ℕ) (takers : ℕ → List ℕ) → SameTurns b b' → b'.stop ≡ b.stop
+    → TriesHold b.turn b.stop stopped takers → TriesHold b'.turn b'.stop stopped takers
+tries_same b b' stopped takers turns stop h =
+    record { named = λ k t near e. h.named k t near (sym (turns k near) ∙ e); word = stop ∙ h.word; least = h.least }
 
 -- a pass that read nothing
-pub tries_none : (stopped : ℕ) (takers : ℕ → List ℕ) (shelves : List Shelf) → All (TellsTaken takers []) shelves → TriesFit stopped takers shelves []
-tries_none stopped takers shelves taken = record { each = All-nil (TryFits stopped takers); taken = taken; others = λ s k by one c. absurd (let l = c.1 in omega arith) }
+pub tries_none : (stopped : ℕ) (takers : ℕ → List ℕ) (shelves : List Shelf) → All (TellsTaken takers []) shelves
+    → TriesFit stopped takers shelves []
+tries_none stopped takers shelves taken =
+    record { each = All-nil (TryFits stopped takers); taken = taken; others = λ s k by one c. absurd (let l = c.1 in omega arith) }
 
 -- the one list changes, and its thread is the same
-pub tries_moved : (stopped : ℕ) (takers : ℕ → List ℕ) (v : View) (s s' : Shelf) → v.shelves ≡ s ∷ [] → s'.thread ≡ s.thread → TriesFit stopped takers v.shelves v.reads → TriesFit stopped takers (s' ∷ []) v.reads
+pub tries_moved : (stopped : ℕ) (takers : ℕ → List ℕ) (v : View) (s s' : Shelf) → v.shelves ≡ s ∷ [] → s'.thread ≡ s.thread
+    → TriesFit stopped takers v.shelves v.reads → TriesFit stopped takers (s' ∷ []) v.reads
 tries_moved stopped takers v s s' one same f = record {
   each = f.each;
-  taken = one_shelf (TellsTaken takers v.reads) s' (λ k c. only_shelf (TellsTaken takers v.reads) v s one f.taken k (subst (λ t. Contains (takers k) t) same c));
-  others = λ r k by e c z. (let first : s' ≡ r = first_same s' r e in f.others s k by one c (z ∙ ap (λ (a : Shelf). a.thread) (sym first) ∙ same));
+  taken = one_shelf (TellsTaken takers v.reads) s'
+      (λ k c. only_shelf (TellsTaken takers v.reads) v s one f.taken k (subst (λ t. Contains (takers k) t) same c));
+  others = λ r k by e c z. (let first : s' ≡ r = first_same s' r e
+      in f.others s k by one c (z ∙ ap (λ (a : Shelf). a.thread) (sym first) ∙ same));
 }
   where
     first_same : (a c : Shelf) → a ∷ [] ≡ c ∷ [] → a ≡ c
     first_same a c e = cc
 
 -- something was read that is no try of a turn that was held
-pub tries_saw : (stopped : ℕ) (takers : ℕ → List ℕ) (shelves : List Shelf) (reads : List Read) (r : Read) → TryFits stopped takers r → ((s : Shelf) (k by : ℕ) → shelves ≡ s ∷ [] → r ≡ Busy k by → by ≢ s.thread) → TriesFit stopped takers shelves reads
+pub tries_saw : (stopped : ℕ) (takers : ℕ → List ℕ) (shelves : List Shelf) (reads : List Read) (r : Read) → TryFits stopped takers r
+    → ((s : Shelf) (k by : ℕ) → shelves ≡ s ∷ [] → r ≡ Busy k by → by ≢ s.thread) → TriesFit stopped takers shelves reads
     → TriesFit stopped takers shelves (reads ++ r ∷ [])
 tries_saw stopped takers shelves reads r fit apart f = record {
   each = All-push (TryFits stopped takers) reads r f.each fit;
-  taken = all_map (TellsTaken takers reads) (TellsTaken takers (reads ++ r ∷ [])) shelves (λ s q k c. let a = q k c in (a.0, in_front reads (r ∷ []) (Taken k a.0) a.1)) f.taken;
+  taken = all_map (TellsTaken takers reads) (TellsTaken takers (reads ++ r ∷ [])) shelves (λ s q k c. let a = q k c
+      in (a.0, in_front reads (r ∷ []) (Taken k a.0) a.1)) f.taken;
   others = λ s k by one c. elim (in_pushed reads r (Busy k by) c) [ inl old ↦ f.others s k by one old | inr new ↦ apart s k by one new ];
 }
 
-try_grows : (stopped stopped' : ℕ) (takers takers' : ℕ → List ℕ) → stopped ≤ stopped' → stopped' ≤ 1 → ((k t : ℕ) → Contains (takers k) t → Contains (takers' k) t) → (r : Read) → TryFits stopped takers r → TryFits stopped' takers' r
+try_grows : (stopped stopped' : ℕ) (takers takers' : ℕ → List ℕ) → stopped ≤ stopped' → stopped' ≤ 1
+    → ((k t : ℕ) → Contains (takers k) t → Contains (takers' k) t) → (r : Read) → TryFits stopped takers r → TryFits stopped' takers' r
 try_grows stopped stopped' takers takers' up few more (Busy k by) q = more k by q
 try_grows stopped stopped' takers takers' up few more (Taken k y) q = tt
 try_grows stopped stopped' takers takers' up few more (Hold k n) q = tt
@@ -72,8 +83,10 @@ try_grows stopped stopped' takers takers' up few more (Stop n) q = omega arith
 try_grows stopped stopped' takers takers' up few more SetStop q = omega arith
 
 -- more threads took turns, and the stop word rose: of this view's threads nobody took one
-pub tries_grow : (stopped stopped' : ℕ) (takers takers' : ℕ → List ℕ) (shelves : List Shelf) (reads : List Read) → stopped ≤ stopped' → stopped' ≤ 1 → ((k t : ℕ) → Contains (takers k) t → Contains (takers' k) t)
-    → ((s : Shelf) → Contains shelves s → (k : ℕ) → Contains (takers' k) s.thread → Contains (takers k) s.thread) → TriesFit stopped takers shelves reads → TriesFit stopped' takers' shelves reads
+pub tries_grow : (stopped stopped' : ℕ) (takers takers' : ℕ → List ℕ) (shelves : List Shelf) (reads : List Read) → stopped ≤ stopped'
+    → stopped' ≤ 1 → ((k t : ℕ) → Contains (takers k) t → Contains (takers' k) t)
+    → ((s : Shelf) → Contains shelves s → (k : ℕ) → Contains (takers' k) s.thread → Contains (takers k) s.thread)
+    → TriesFit stopped takers shelves reads → TriesFit stopped' takers' shelves reads
 tries_grow stopped stopped' takers takers' shelves reads up few more none f = record {
   each = all_map (TryFits stopped takers) (TryFits stopped' takers') reads (try_grows stopped stopped' takers takers' up few more) f.each;
   taken = all_in (TellsTaken takers reads) (TellsTaken takers' reads) shelves (λ s has q k c. q k (none s has k c)) f.taken;
@@ -81,18 +94,23 @@ tries_grow stopped stopped' takers takers' shelves reads up few more none f = re
 }
 
 -- two seats' lists are put together, and what they read: where the first has no list, it read nothing
-others_both : (xs ys : List Shelf) (before reads : List Read) (s : Shelf) → Contains ys s → (xs ≡ [] → before ≡ []) → ((a : Shelf) (k by : ℕ) → ys ≡ a ∷ [] → Contains reads (Busy k by) → by ≢ a.thread)
+others_both : (xs ys : List Shelf) (before reads : List Read) (s : Shelf) → Contains ys s → (xs ≡ [] → before ≡ [])
+    → ((a : Shelf) (k by : ℕ) → ys ≡ a ∷ [] → Contains reads (Busy k by) → by ≢ a.thread)
     → (a : Shelf) (k by : ℕ) → xs ++ ys ≡ a ∷ [] → Contains (before ++ reads) (Busy k by) → by ≢ a.thread
 others_both [] ys before reads s has none g a k by one c = g a k by one (subst (λ l. Contains (l ++ reads) (Busy k by)) (none refl) c)
-others_both (x ∷ xs) ys before reads s has none g a k by one c = absurd (let l = length-append xs ys in let n : suc (length (xs ++ ys)) ≡ 1 = ap length one in let q = has.1 in omega arith)
+others_both (x ∷ xs) ys before reads s has none g a k by one c =
+    absurd (let l = length-append xs ys in let n : suc (length (xs ++ ys)) ≡ 1 = ap length one in let q = has.1 in omega arith)
 
-pub tries_both : (stopped : ℕ) (takers : ℕ → List ℕ) (v u : View) (s : Shelf) → (v.shelves ≡ [] → v.reads ≡ []) → Contains u.shelves s → TriesFit stopped takers v.shelves v.reads → TriesFit stopped takers u.shelves u.reads
+pub tries_both : (stopped : ℕ) (takers : ℕ → List ℕ) (v u : View) (s : Shelf) → (v.shelves ≡ [] → v.reads ≡ []) → Contains u.shelves s
+    → TriesFit stopped takers v.shelves v.reads → TriesFit stopped takers u.shelves u.reads
     → TriesFit stopped takers (v.shelves ++ u.shelves) (v.reads ++ u.reads)
 tries_both stopped takers v u s none has f g = record {
   each = All-append (TryFits stopped takers) v.reads u.reads f.each g.each;
   taken = All-append (TellsTaken takers (v.reads ++ u.reads)) v.shelves u.shelves
-      (all_map (TellsTaken takers v.reads) (TellsTaken takers (v.reads ++ u.reads)) v.shelves (λ a q k c. let y = q k c in (y.0, in_front v.reads u.reads (Taken k y.0) y.1)) f.taken)
-      (all_map (TellsTaken takers u.reads) (TellsTaken takers (v.reads ++ u.reads)) u.shelves (λ a q k c. let y = q k c in (y.0, in_back v.reads u.reads (Taken k y.0) y.1)) g.taken);
+      (all_map (TellsTaken takers v.reads) (TellsTaken takers (v.reads ++ u.reads)) v.shelves (λ a q k c. let y = q k c
+      in (y.0, in_front v.reads u.reads (Taken k y.0) y.1)) f.taken)
+      (all_map (TellsTaken takers u.reads) (TellsTaken takers (v.reads ++ u.reads)) u.shelves (λ a q k c. let y = q k c
+      in (y.0, in_back v.reads u.reads (Taken k y.0) y.1)) g.taken);
   others = others_both v.shelves u.shelves v.reads u.reads s has none g.others;
 }
 
@@ -103,7 +121,8 @@ module _ (takers : ℕ → List ℕ) (k t : ℕ) where
 
   pub taker_more : (g u : ℕ) → Contains (takers g) u → Contains (taker g) u
   taker_more g u c = elim (ℕ_discrete g k) [
-    | yes e ↦ subst (λ l. Contains l u) (sym (ap taker e ∙ with_here takers k (t ∷ takers k))) (in_cons t (takers k) u (subst (λ z. Contains (takers z) u) e c))
+    | yes e ↦ subst (λ l. Contains l u) (sym (ap taker e ∙ with_here takers k (t ∷ takers k)))
+        (in_cons t (takers k) u (subst (λ z. Contains (takers z) u) e c))
     | no ne ↦ subst (λ l. Contains l u) (sym (with_else takers k g (t ∷ takers k) ne)) c
   ]
 
@@ -121,15 +140,26 @@ module _ (takers : ℕ → List ℕ) (k t : ℕ) where
       here e (suc i, l, s) = inl (subst (λ z. Contains (takers z) u) (sym e) (i, omega arith, s))
 
 -- then its own pass says so
-pub tries_took : (stopped : ℕ) (takers : ℕ → List ℕ) (v : View) (s : Shelf) (k : ℕ) (y : Slot) → v.shelves ≡ s ∷ [] → stopped ≤ 1 → TriesFit stopped takers v.shelves v.reads → TriesFit stopped (taker takers k s.thread) v.shelves (v.reads ++ Taken k y ∷ [])
+pub tries_took : (stopped : ℕ) (takers : ℕ → List ℕ) (v : View) (s : Shelf) (k : ℕ) (y : Slot) → v.shelves ≡ s ∷ [] → stopped ≤ 1
+    → TriesFit stopped takers v.shelves v.reads → TriesFit stopped (taker takers k s.thread) v.shelves (v.reads ++ Taken k y ∷ [])
 tries_took stopped takers v s k y one few f =
     let new : ℕ → List ℕ = taker takers k s.thread in
     let reads = v.reads ++ Taken k y ∷ [] in record {
-      each = All-push (TryFits stopped new) v.reads (Taken k y) (all_map (TryFits stopped takers) (TryFits stopped new) v.reads (try_grows stopped stopped takers new (omega arith) few (taker_more takers k s.thread)) f.each) tt;
+      each = All-push (TryFits stopped new) v.reads (Taken k y)
+          (all_map (TryFits stopped takers) (TryFits stopped new) v.reads
+          (try_grows stopped stopped takers new (omega arith) few (taker_more takers k s.thread)) f.each) tt;
       taken = subst (λ l. All (TellsTaken new reads) l) (sym one)
           (one_shelf (TellsTaken new reads) s (λ g c. elim (taker_cases takers k s.thread g s.thread c) [
-            | inl old ↦ (let a = only_shelf (TellsTaken takers v.reads) v s one f.taken g old in (a.0, in_front v.reads (Taken k y ∷ []) (Taken g a.0) a.1))
-            | inr hit ↦ (y, subst (λ z. Contains reads (Taken z y)) (sym hit.0) (in_back v.reads (Taken k y ∷ []) (Taken k y) (zero, omega arith, refl)))
+            | inl old ↦ (let a = only_shelf (TellsTaken takers v.reads) v s one f.taken g old
+                in (a.0, in_front v.reads (Taken k y ∷ []) (Taken g a.0) a.1))
+            | inr hit ↦ (
+              y,
+              subst (λ z. Contains reads (Taken z y)) (sym hit.0)
+                  (in_back v.reads (Taken k y ∷ []) (Taken k y) (zero, omega arith, refl)),
+            )
           ]));
-      others = λ r g by is c. elim (in_pushed v.reads (Taken k y) (Busy g by) c) [ inl old ↦ f.others r g by is old | inr hit ↦ absurd (cc) ];
+      others = λ r g by is c. elim (in_pushed v.reads (Taken k y) (Busy g by) c) [
+        | inl old ↦ f.others r g by is old
+        | inr hit ↦ absurd (cc)
+      ];
     }

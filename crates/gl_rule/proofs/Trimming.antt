@@ -36,7 +36,10 @@ module _ (setting : Setting) (low : ℕ) (R : Lists) (c : IsClosed setting low R
       let b' : At (R p.thread) q.index (Trim l) = subst (λ u. At (R u) q.index (Trim l)) (sym t) b in
       same_place p q t (elim (cases_lt p.index q.index) [
         | inl lt ↦ absurd (let z : l < l = (c.formed p.thread).lows_rise p.index q.index l l a b' lt in omega arith)
-        | inr ge ↦ elim (eq-or-lt_of_le ge) [ inl same ↦ sym same | inr lt ↦ absurd (let z : l < l = (c.formed p.thread).lows_rise q.index p.index l l b' a lt in omega arith) ]
+        | inr ge ↦ elim (eq-or-lt_of_le ge) [
+          | inl same ↦ sym same
+          | inr lt ↦ absurd (let z : l < l = (c.formed p.thread).lows_rise q.index p.index l l b' a lt in omega arith)
+        ]
       ])
 
   -- the Trims of a closed table
@@ -56,10 +59,12 @@ module _ (setting : Setting) (low : ℕ) (R : Lists) (c : IsClosed setting low R
     room = room;
   }
 
-module _ (key : Key) (st : table.State Slot View) (id : ℕ) (v : View) (rule : Rule key st) (here : get_elem? st.views id ≡ some v) (h : HasAll v) where
+module _ (key : Key) (st : table.State Slot View) (id : ℕ) (v : View) (rule : Rule key st) (here : get_elem? st.views id ≡ some v)
+    (h : HasAll v) where
   -- the table is closed
   pub closed : IsClosed key.setting ((board (capacity key) st.words).hold 0) (lists_in v.shelves)
-  closed = closes key rule.0 st id v rule.1 here h.held (none key rule.0 st id v rule.1 here h.held h.all h.done) h.all (all_quiet key rule.0 st id v rule.1 here h.held h.all h.done) (paid key rule.0 st id v rule.1 here h.held h.all h.done)
+  closed = closes key rule.0 st id v rule.1 here h.held (none key rule.0 st id v rule.1 here h.held h.all h.done) h.all
+      (all_quiet key rule.0 st id v rule.1 here h.held h.all h.done) (paid key rule.0 st id v rule.1 here h.held h.all h.done)
 
   -- so its Trims are those of the ring
   pub trimmed : (l : List Stamp) × IsEventList l (lists_in v.shelves) × AreTrims key.cells key.segments (lists_in v.shelves) (length l)
@@ -69,11 +74,19 @@ module _ (key : Key) (st : table.State Slot View) (id : ℕ) (v : View) (rule : 
       let q = r.holds 0 (omega arith) in
       let low : ℕ = b.hold 0 in
       let from : ℕ = b.hold 0 * key.cells in
-      let below : b.hold 0 * key.cells ≤ length rule.0.log = (let x : from ≤ b.hold 1 = q.0 in let y : b.hold 1 ≤ length rule.0.log = q.1 in let z : from ≤ length rule.0.log = omega arith in z) in
-      (rule.0.log, is_list (lists_in v.shelves) rule.0.log (events key rule.0 st id v rule.1 here h.held (none key rule.0 st id v rule.1 here h.held h.all h.done) h.all), are_trims key.setting (b.hold 0) (lists_in v.shelves) closed key.cells key.segments (length rule.0.log) below r.room)
+      let below : b.hold 0 * key.cells ≤ length rule.0.log =
+      (let x : from ≤ b.hold 1 = q.0 in let y : b.hold 1 ≤ length rule.0.log = q.1 in let z : from ≤ length rule.0.log = omega arith
+      in z) in (
+        rule.0.log,
+        is_list (lists_in v.shelves) rule.0.log
+            (events key rule.0 st id v rule.1 here h.held (none key rule.0 st id v rule.1 here h.held h.all h.done) h.all),
+        are_trims
+            key.setting (b.hold 0) (lists_in v.shelves) closed key.cells key.segments (length rule.0.log) below r.room,
+      )
 
 -- the same by segments: the greatest Trim is at most the segment of the tail, and with the ring's segments it is above that of the last event
-pub by_segments : (cells segments : ℕ) (R : Lists) (n : ℕ) → 0 < cells → (t : AreTrims cells segments R n) → (t.greatest ≤ n / cells) × (0 < n → (n - 1) / cells < t.greatest + segments)
+pub by_segments : (cells segments : ℕ) (R : Lists) (n : ℕ) → 0 < cells → (t : AreTrims cells segments R n) → (t.greatest ≤ n / cells)
+    × (0 < n → (n - 1) / cells < t.greatest + segments)
 by_segments cells segments R n pos t = (
   (le-div_iff_mul-le pos).1 t.below,
   λ one. (div-lt_iff_lt-mul pos).1 (

@@ -122,7 +122,9 @@ module _ (cap : ℕ) (words : List ℕ) (long : length words ≡ word_count cap)
     cell_stop = get_or-set_other words (cell_at cap q i) 3075 n 0 (λ e. omega arith)
 
     pub cell_here : 0 < cap → i < 5 → (board cap (set words (cell_at cap q i) n)).cell q i ≡ n
-    cell_here some few = let r : q % cap < cap = Rattle.std.proofs.Common.mod-lt q some in get_or-set_same words (cell_at cap q i) n 0 (omega arith)
+    cell_here some few = let r : q % cap < cap = Rattle.std.proofs.Common.mod-lt q some
+        in get_or-set_same words (cell_at cap q i) n 0 (omega arith)
 
-    pub cell_else : (p j : ℕ) → i < 5 → j < 5 → (p % cap ≡ q % cap → j ≡ i → ⊥) → (board cap (set words (cell_at cap q i) n)).cell p j ≡ (board cap words).cell p j
+    pub cell_else : (p j : ℕ) → i < 5 → j < 5 → (p % cap ≡ q % cap → j ≡ i → ⊥) → (board cap (set words (cell_at cap q i) n)).cell p j
+        ≡ (board cap words).cell p j
     cell_else p j few few' other = get_or-set_other words (cell_at cap q i) (cell_at cap p j) n 0 (λ e. other (omega arith) (omega arith))

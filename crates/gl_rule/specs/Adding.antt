@@ -37,7 +37,8 @@ MayAdd v (Sync at act value) u = ⊥
 MayAdd v (Commit at tx) u = ⊥
 MayAdd v (Plain x k false write value raised) u = ⊥
 MayAdd v (Plain x k true write value true) u = ⊥
-MayAdd v (Plain x k true write value false) u = (s : Shelf) × (v.shelves ≡ s ∷ []) × MayCache s v x k write value × (u ≡ cached_in v s.thread s.marked x k write value)
+MayAdd v (Plain x k true write value false) u = (s : Shelf) × (v.shelves ≡ s ∷ []) × MayCache s v x k write value
+    × (u ≡ cached_in v s.thread s.marked x k write value)
 MayAdd v (Abort tx (Changed var read found)) u =
     (s : Shelf) × (v.shelves ≡ s ∷ [])
     × ((p : ℕ) × MayChange s v tx var read found p

@@ -28,20 +28,25 @@ pub record IsWindow (seen : ℕ) (known : List (ℕ × Stamp)) (from : ℕ) (win
 -- each fitting list has the known events in their places
 abbrev pub KnownEventsAgree : Type 0
 KnownEventsAgree =
-    (setting : Setting) (s : Shelf) (seen : ℕ) (known : List (ℕ × Stamp)) (from : ℕ) (window : List Stamp) → IsWindow seen known from window →
+    (setting : Setting) (s : Shelf) (seen : ℕ) (known : List (ℕ × Stamp)) (from : ℕ) (window : List Stamp)
+    → IsWindow seen known from window →
     (l : List Stamp) → IsFitting setting s seen known l → drop from l ≡ window
 
 -- so the set of an Info from there on is that over the known events
 abbrev pub KnownSetsAgree : Type 0
 KnownSetsAgree =
-    (setting : Setting) (s : Shelf) (seen : ℕ) (known : List (ℕ × Stamp)) (from : ℕ) (window : List Stamp) → IsWindow seen known from window →
-    (l : List Stamp) → IsFitting setting s seen known l → (i : Info) → from ≤ i.pos → (y : Element) → set_after l i y ↔ AfterAll (Has i.set) (drop (i.pos - from) window) y
+    (setting : Setting) (s : Shelf) (seen : ℕ) (known : List (ℕ × Stamp)) (from : ℕ) (window : List Stamp)
+    → IsWindow seen known from window →
+    (l : List Stamp) → IsFitting setting s seen known l → (i : Info) → from ≤ i.pos → (y : Element)
+    → set_after l i y ↔ AfterAll (Has i.set) (drop (i.pos - from) window) y
 
 -- and a question fails on a row with such Infos over one fitting list where it does over another
 abbrev pub KnownTestsAgree : Type 0
 KnownTestsAgree =
-    (setting : Setting) (s : Shelf) (seen : ℕ) (known : List (ℕ × Stamp)) (from : ℕ) (window : List Stamp) → IsWindow seen known from window →
-    (row : Row) → ((i : Info) → InRow row i → from ≤ i.pos) → (l m : List Stamp) → IsFitting setting s seen known l → IsFitting setting s seen known m → (question : Question) →
+    (setting : Setting) (s : Shelf) (seen : ℕ) (known : List (ℕ × Stamp)) (from : ℕ) (window : List Stamp)
+    → IsWindow seen known from window →
+    (row : Row) → ((i : Info) → InRow row i → from ≤ i.pos) → (l m : List Stamp) → IsFitting setting s seen known l
+    → IsFitting setting s seen known m → (question : Question) →
     SomeFails l row question ↔ SomeFails m row question
 
 -- what is asked of an Info that a pass gives for a plain access of its own, in the block at p
@@ -55,16 +60,20 @@ pub record IsOwnPlain (setting : Setting) (s : Shelf) (seen : ℕ) (known : List
   pub within : i.pos ≤ seen
   -- its set is the one that a plain access starts with
   pub starts : (y : Element) → Has i.set y ↔ InitialLockset s.thread None y
-  pub held : (l : List Stamp) (owner : State) → IsFitting setting s seen known l → Allows setting (take (p + 1) l) owner → AreLeastOwned owner s.thread i.held
+  pub held : (l : List Stamp) (owner : State) → IsFitting setting s seen known l → Allows setting (take (p + 1) l) owner
+      → AreLeastOwned owner s.thread i.held
 
 -- it stands for the access over each fitting list
 abbrev pub OwnPlainStands : Type 0
 OwnPlainStands =
-    (setting : Setting) (s : Shelf) (seen : ℕ) (known : List (ℕ × Stamp)) (p : ℕ) (write : Bool) (i : Info) → IsOwnPlain setting s seen known p write i →
-    (l : List Stamp) → IsFitting setting s seen known l → InfoFor setting l i (record { thread = s.thread; block = p; variables = None }) write
+    (setting : Setting) (s : Shelf) (seen : ℕ) (known : List (ℕ × Stamp)) (p : ℕ) (write : Bool) (i : Info)
+    → IsOwnPlain setting s seen known p write i →
+    (l : List Stamp) → IsFitting setting s seen known l
+    → InfoFor setting l i (record { thread = s.thread; block = p; variables = None }) write
 
 -- what is asked of an Info that a pass gives for a commit of its own at position p
-pub record IsOwnCommit (setting : Setting) (s : Shelf) (seen : ℕ) (known : List (ℕ × Stamp)) (p : ℕ) (tx : Tx) (write : Bool) (i : Info) : Type 0 where
+pub record IsOwnCommit (setting : Setting) (s : Shelf) (seen : ℕ) (known : List (ℕ × Stamp)) (p : ℕ) (tx : Tx) (write : Bool)
+    (i : Info) : Type 0 where
   pub index : ℕ
   pub there : At s.marked index (Commit p tx)
   pub thread : i.thread ≡ s.thread
@@ -73,10 +82,13 @@ pub record IsOwnCommit (setting : Setting) (s : Shelf) (seen : ℕ) (known : Lis
   -- it stands directly behind the commit, with the set that this starts with
   pub at : i.pos ≡ p + 1
   pub starts : (y : Element) → Has i.set y ↔ InitialLockset s.thread (Some (variables_of tx)) y
-  pub held : (l : List Stamp) (owner : State) → IsFitting setting s seen known l → Allows setting (take (p + 1) l) owner → AreLeastOwned owner s.thread i.held
+  pub held : (l : List Stamp) (owner : State) → IsFitting setting s seen known l → Allows setting (take (p + 1) l) owner
+      → AreLeastOwned owner s.thread i.held
 
 -- it stands for the commit over each fitting list
 abbrev pub OwnCommitStands : Type 0
 OwnCommitStands =
-    (setting : Setting) (s : Shelf) (seen : ℕ) (known : List (ℕ × Stamp)) (p : ℕ) (tx : Tx) (write : Bool) (i : Info) → IsOwnCommit setting s seen known p tx write i →
-    (l : List Stamp) → IsFitting setting s seen known l → InfoFor setting l i (record { thread = s.thread; block = p; variables = Some (variables_of tx) }) write
+    (setting : Setting) (s : Shelf) (seen : ℕ) (known : List (ℕ × Stamp)) (p : ℕ) (tx : Tx) (write : Bool) (i : Info)
+    → IsOwnCommit setting s seen known p tx write i →
+    (l : List Stamp) → IsFitting setting s seen known l
+    → InfoFor setting l i (record { thread = s.thread; block = p; variables = Some (variables_of tx) }) write

@@ -43,17 +43,22 @@ pub record MayCommit (setting : Setting) (s : Shelf) (v : View) (tx : Tx) (p m :
   pub rows : (y : ℕ) → is_in y (variables_of tx) ≡ true → HeldRow s v p y
   -- the tail m was seen since each of them was taken
   pub saw : (y : ℕ) (b : is_in y (variables_of tx) ≡ true) → Contains (rows y b).one.tails m
-  pub each : (g : Held) (y : ℕ) → Contains v.held g → g.object ≡ suc y → is_in y (variables_of tx) ≡ true → g.drew ≡ Some (draw s.thread p Open)
+  pub each : (g : Held) (y : ℕ) → Contains v.held g → g.object ≡ suc y → is_in y (variables_of tx) ≡ true → g.drew
+      ≡ Some (draw s.thread p Open)
   -- the numbers that wait are those of the transaction
-  pub looks : (y k : ℕ) (value : ℤ) → Contains v.drawn (record { var = y; nth = k; look = Some value }) ↔ Contains tx.looks (record { var = y; value = value; nth = k })
+  pub looks : (y k : ℕ) (value : ℤ) → Contains v.drawn (record { var = y; nth = k; look = Some value }) ↔ Contains tx.looks
+      (record { var = y; value = value; nth = k })
   pub owns : (y k : ℕ) → Contains v.drawn (record { var = y; nth = k; look = None }) ↔ Contains tx.numbers (record { var = y; nth = k })
   pub once : (y k i : ℕ) → Contains tx.numbers (record { var = y; nth = k }) → Contains tx.numbers (record { var = y; nth = i }) → k ≡ i
   pub names : NumbersName tx (variables_of tx)
   -- each look has its row's word
   pub words : (y : ℕ) (b : is_in y (variables_of tx) ≡ true) → LooksHave tx y (rows y b).row.value
   -- no conflicting Info of these rows fails its test over a fitting list of m events
-  pub asks : (y : ℕ) → ((question y).thread ≡ s.thread) × ((question y).commit ≡ Some (variables_of tx)) × ((n : ℕ) → Writes (Commit n tx) y → (question y).write ≡ true)
-  pub judged : (l : List Stamp) → IsFitting setting s m v.known l → ((y : ℕ) (b : is_in y (variables_of tx) ≡ true) → InfosStand setting l (rows y b).row) → (y : ℕ) (b : is_in y (variables_of tx) ≡ true) → SomeFails l (rows y b).row (question y) → ⊥
+  pub asks : (y : ℕ) → ((question y).thread ≡ s.thread) × ((question y).commit ≡ Some (variables_of tx))
+      × ((n : ℕ) → Writes (Commit n tx) y → (question y).write ≡ true)
+  pub judged : (l : List Stamp) → IsFitting setting s m v.known l
+      → ((y : ℕ) (b : is_in y (variables_of tx) ≡ true) → InfosStand setting l (rows y b).row)
+      → (y : ℕ) (b : is_in y (variables_of tx) ≡ true) → SomeFails l (rows y b).row (question y) → ⊥
 
 -- what is asked of any attempt that is dropped: zs are the variables that were marked for its end
 pub record MayDrop (s : Shelf) (v : View) (tx : Tx) (why : Why) (zs : List ℕ) (p : ℕ) : Type 0 where
@@ -61,7 +66,8 @@ pub record MayDrop (s : Shelf) (v : View) (tx : Tx) (why : Why) (zs : List ℕ) 
   pub goes_on : IsNotOver s.marked
   pub rows : (y : ℕ) → is_in y zs ≡ true → HeldRow s v p y
   pub each : (g : Held) (y : ℕ) → Contains v.held g → g.object ≡ suc y → is_in y zs ≡ true → g.drew ≡ Some (draw s.thread p Open)
-  pub looks : (y k : ℕ) (value : ℤ) → Contains v.drawn (record { var = y; nth = k; look = Some value }) ↔ Contains tx.looks (record { var = y; value = value; nth = k })
+  pub looks : (y k : ℕ) (value : ℤ) → Contains v.drawn (record { var = y; nth = k; look = Some value }) ↔ Contains tx.looks
+      (record { var = y; value = value; nth = k })
   pub owns : (y k : ℕ) → Contains v.drawn (record { var = y; nth = k; look = None }) ↔ Contains tx.numbers (record { var = y; nth = k })
   pub once : (y k i : ℕ) → Contains tx.numbers (record { var = y; nth = k }) → Contains tx.numbers (record { var = y; nth = i }) → k ≡ i
   pub names : NumbersName tx zs
@@ -88,13 +94,18 @@ pub record MayRefuse (setting : Setting) (s : Shelf) (v : View) (tx : Tx) (var p
   pub drop : MayDrop s v tx (Raised var) (variables_of tx) p
   pub below : AreBelow m s
   pub saw : (y : ℕ) (b : is_in y (variables_of tx) ≡ true) → Contains (drop.rows y b).one.tails m
-  pub asks : (y : ℕ) → ((question y).thread ≡ s.thread) × ((question y).commit ≡ Some (variables_of tx)) × (((question y).write ≡ true) ↔ Writes (Abort tx (Raised var)) y)
+  pub asks : (y : ℕ) → ((question y).thread ≡ s.thread) × ((question y).commit ≡ Some (variables_of tx))
+      × (((question y).write ≡ true) ↔ Writes (Abort tx (Raised var)) y)
   pub touches : is_in var (variables_of tx) ≡ true
   -- each look has its row's word
   pub words : (y : ℕ) (b : is_in y (variables_of tx) ≡ true) → LooksHave tx y (drop.rows y b).row.value
   -- over each fitting list of m events some conflicting Info of var fails its test, and none of a lower variable
-  pub judged : (l : List Stamp) → IsFitting setting s m v.known l → ((y : ℕ) (b : is_in y (variables_of tx) ≡ true) → InfosStand setting l (drop.rows y b).row) → (b : is_in var (variables_of tx) ≡ true) → SomeFails l (drop.rows var b).row (question var)
-  pub least : (l : List Stamp) → IsFitting setting s m v.known l → ((y : ℕ) (b : is_in y (variables_of tx) ≡ true) → InfosStand setting l (drop.rows y b).row) → (y : ℕ) (b : is_in y (variables_of tx) ≡ true) → y < var → SomeFails l (drop.rows y b).row (question y) → ⊥
+  pub judged : (l : List Stamp) → IsFitting setting s m v.known l
+      → ((y : ℕ) (b : is_in y (variables_of tx) ≡ true) → InfosStand setting l (drop.rows y b).row)
+      → (b : is_in var (variables_of tx) ≡ true) → SomeFails l (drop.rows var b).row (question var)
+  pub least : (l : List Stamp) → IsFitting setting s m v.known l
+      → ((y : ℕ) (b : is_in y (variables_of tx) ≡ true) → InfosStand setting l (drop.rows y b).row)
+      → (y : ℕ) (b : is_in y (variables_of tx) ≡ true) → y < var → SomeFails l (drop.rows y b).row (question y) → ⊥
 
 -- what was drawn on a held object, after the commit d on ys
 abbrev pub is_object : ℕ → List ℕ → Bool
@@ -119,7 +130,11 @@ owed_after false x value owed = owed
 
 -- thread t, which has stored l, stores a cached access: the word is owed where it writes
 abbrev pub cached_in : View → ℕ → List Entry → ℕ → ℕ → Bool → ℤ → View
-cached_in v t l x k write value = record v { shelves = shelf t (l ++ Plain x k true write value false ∷ []) ∷ []; owed = owed_after write x value v.owed }
+cached_in v t l x k write value = record v {
+  shelves = shelf t (l ++ Plain x k true write value false ∷ [])
+      ∷ [];
+  owed = owed_after write x value v.owed;
+}
 
 -- thread t, which has stored l, stores an entry that is no event and draws no number
 abbrev pub stored : View → ℕ → List Entry → Entry → View

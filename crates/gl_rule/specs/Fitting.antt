@@ -53,7 +53,8 @@ IsNotOver es = (i : ℕ) (e : Entry) → At es i e → IsEnd e → ⊥
 -- what is asked of a row that is put back, where an Info may be another one: over each fitting list it is that of the draws of the row as it was taken, and of the one made since
 pub record Follows (setting : Setting) (s : Shelf) (v : View) (h : Held) (x : ℕ) (taken row : Row) : Type 0 where
   pub fresh : IsFresh h
-  pub follows : (l : List Stamp) → IsFitting setting s v.seen v.known l → (ds : List Draw) → RowStands setting l x ds taken → RowStands setting l x (with_draw h.drew ds) row
+  pub follows : (l : List Stamp) → IsFitting setting s v.seen v.known l → (ds : List Draw) → RowStands setting l x ds taken
+      → RowStands setting l x (with_draw h.drew ds) row
 
 -- where no Info changed it is so over every list
 pub record Stays (setting : Setting) (h : Held) (x : ℕ) (taken row : Row) : Type 0 where
@@ -88,30 +89,32 @@ SaysQuiet (suc x) y = ⊥
 -- the pass may walk from p: it holds a row that it raised to p or below, or of which an Info stands at p or below
 abbrev pub MayWalk : View → ℕ → Type 0
 MayWalk v p =
-    (h : Held) × Contains v.held h × ((x : ℕ) × (h.object ≡ suc x)) × (((n : ℕ) × (h.floor ≡ Some n) × (n ≤ p)) ⊎ ((row : Row) × (i : Info) × (h.taken ≡ slot.Row row) × InRow row i × (i.pos ≤ p)))
+    (h : Held) × Contains v.held h × ((x : ℕ) × (h.object ≡ suc x))
+    × (((n : ℕ) × (h.floor ≡ Some n) × (n ≤ p)) ⊎ ((row : Row) × (i : Info) × (h.taken ≡ slot.Row row) × InRow row i × (i.pos ≤ p)))
 
 -- what is asked of an event that is published, whatever it is: the state l becomes l', the entry at position n is entry n, and its stamp is x
-pub record MayPublish (key : Key) (s : Shelf) (v : View) (h : Held) (l l' : ListView) (entry : ℕ → Entry) (x : Stamp) (value : ℤ) : Type 0 where
-  pub held : Contains v.held h
-  pub list : h.object ≡ 0
-  pub state : h.taken ≡ slot.List l
-  -- the tail, as it was seen since the list was taken, and room behind it by a load of the first segment
-  pub tail : ℕ
-  pub saw : Contains h.tails tail
-  pub low : ℕ
-  pub read : Contains v.reads (Hold 0 low)
-  pub room : tail < low * key.cells + capacity key
-  pub stored : v.stored ≡ packed x
-  pub by : x.thread ≡ s.thread
-  pub kept : IsEventInRange x.event
-  pub position : (n : ℕ) → position_of (entry n) ≡ Some n
-  pub event : (n : ℕ) → event_of (entry n) ≡ Some x.event
-  pub carries : (n : ℕ) → value_of (entry n) ≡ value
-  -- the event is a step of the state, which moves by it
-  pub step : (now : State) → IsStateOf l now → (new : State) × Step key.setting now x value new × IsStateOf l' new
-  pub form : MayStore s.thread s.marked (entry tail)
-  pub paid : v.owed ≡ []
-  pub few : counted s.marked < 2 ^ 50
+pub record MayPublish (key : Key) (s : Shelf) (v : View) (h : Held) (l l' : ListView) (entry : ℕ → Entry) (x : Stamp) (value : ℤ) : Type 0
+  where
+    pub held : Contains v.held h
+    pub list : h.object ≡ 0
+    pub state : h.taken ≡ slot.List l
+    -- the tail, as it was seen since the list was taken, and room behind it by a load of the first segment
+    pub tail : ℕ
+    pub saw : Contains h.tails tail
+    pub low : ℕ
+    pub read : Contains v.reads (Hold 0 low)
+    pub room : tail < low * key.cells + capacity key
+    pub stored : v.stored ≡ packed x
+    pub by : x.thread ≡ s.thread
+    pub kept : IsEventInRange x.event
+    pub position : (n : ℕ) → position_of (entry n) ≡ Some n
+    pub event : (n : ℕ) → event_of (entry n) ≡ Some x.event
+    pub carries : (n : ℕ) → value_of (entry n) ≡ value
+    -- the event is a step of the state, which moves by it
+    pub step : (now : State) → IsStateOf l now → (new : State) × Step key.setting now x value new × IsStateOf l' new
+    pub form : MayStore s.thread s.marked (entry tail)
+    pub paid : v.owed ≡ []
+    pub few : counted s.marked < 2 ^ 50
 
 -- what is asked of a word that is stored in the cell of the tail
 pub record MayStoreWord (key : Key) (v : View) (h : Held) (tail : ℕ) : Type 0 where
@@ -155,7 +158,8 @@ pub record MayDraw (s : Shelf) (v : View) (h : Held) (x : ℕ) (taken : Row) (p 
   pub paid : (o : ℕ × ℤ) → Contains v.owed o → o.0 ≡ x → ⊥
 
 -- what is asked of a plain access, beside that
-pub record MayMark (setting : Setting) (s : Shelf) (v : View) (h : Held) (x : ℕ) (taken : Row) (p : ℕ) (q : Question) (write : Bool) (value : ℤ) (raised : Bool) : Type 0 where
+pub record MayMark (setting : Setting) (s : Shelf) (v : View) (h : Held) (x : ℕ) (taken : Row) (p : ℕ) (q : Question) (write : Bool)
+    (value : ℤ) (raised : Bool) : Type 0 where
   pub draws : MayDraw s v h x taken p
   pub idle : v.drawn ≡ []
   pub fresh : IsFresh h

@@ -56,17 +56,20 @@ pub record AreLeastEntered (levels held : List ℕ) : Type 0 where
 -- behind each list of events that has the entries of thread t, it owns a monitor exactly as often as they say
 abbrev pub LevelsTell : Type 0
 LevelsTell =
-    (setting : Setting) (h : List Stamp) (now : State) (t : ℕ) (es : List Entry) → Allows setting h now → AreEvents h t es → (o d : ℕ) → o < MONITORS →
+    (setting : Setting) (h : List Stamp) (now : State) (t : ℕ) (es : List Entry) → Allows setting h now → AreEvents h t es → (o d : ℕ)
+    → o < MONITORS →
     (now.monitors o ≡ Owned t d) ↔ ((slice_index_or (levels_of es) o 0 ≡ d) × (0 < d))
 
 -- and the least that it owns are those by its entries, whose ids are ones that there are
 abbrev pub MonitorsTell : Type 0
 MonitorsTell =
-    (setting : Setting) (h : List Stamp) (now : State) (t : ℕ) (es : List Entry) → Allows setting h now → AreEvents h t es → All IsEntryKept es → (held : List ℕ) →
+    (setting : Setting) (h : List Stamp) (now : State) (t : ℕ) (es : List Entry) → Allows setting h now → AreEvents h t es
+    → All IsEntryKept es → (held : List ℕ) →
     AreLeastEntered (levels_of es) held → AreLeastOwned now t held
 
 -- a question of a thread that runs by its own entries, with the least monitors that it owns, is of a next access behind each list that has its entries
 abbrev pub QuestionsTell : Type 0
 QuestionsTell =
-    (setting : Setting) (h : List Stamp) (now : State) (t : ℕ) (es : List Entry) → Allows setting h now → AreEvents h t es → life_of es ≡ Running → (q : Question) → q.thread ≡ t →
+    (setting : Setting) (h : List Stamp) (now : State) (t : ℕ) (es : List Entry) → Allows setting h now → AreEvents h t es → life_of es
+    ≡ Running → (q : Question) → q.thread ≡ t →
     AreLeastOwned now t q.held → QuestionOf setting h q q.thread q.write q.commit

@@ -26,9 +26,11 @@ pub record ShelfDraws (draws : ℕ → List Draw) (drawn : List Drawn) (s : Shel
   pub few : (x : ℕ) → count_by s.thread (draws x) ≤ 2 * counted s.marked + count_on x drawn
   pub two : (x : ℕ) → count_on x drawn ≤ 2
   -- those that have none yet are above those of the list
-  pub above : (x k m i : ℕ) (e : Entry) (o : Option _) → At s.marked i e → Draws e x k → Contains drawn (record { var = x; nth = m; look = o }) → k < m
+  pub above : (x k m i : ℕ) (e : Entry) (o : Option _) → At s.marked i e → Draws e x k
+      → Contains drawn (record { var = x; nth = m; look = o }) → k < m
   -- and their thread runs
-  pub runs : (o : Drawn) → Contains drawn o → (p : ℕ) × (last_position s.marked ≡ Some p) × ((i : ℕ) (e : Entry) → At s.marked i e → IsEnd e → ⊥)
+  pub runs : (o : Drawn) → Contains drawn o → (p : ℕ) × (last_position s.marked ≡ Some p)
+      × ((i : ℕ) (e : Entry) → At s.marked i e → IsEnd e → ⊥)
 
 pub record NumbersFit (draws : ℕ → List Draw) (v : View) : Type 0 where
   pub shelves : All (ShelfDraws draws v.drawn) v.shelves

@@ -37,7 +37,8 @@ pub record OwedFits (draws : ℕ → List Draw) (owed : List (ℕ × ℤ)) (shel
   -- behind the write that is owed no access was performed
   pub calm : (x : ℕ) (v : ℤ) → Contains owed (x, v) → IsCalm x (draws x)
   -- what is owed is the value of the last repeat
-  pub late : (x : ℕ) (v : ℤ) → Contains owed (x, v) → (s : Shelf) → Contains shelves s → (k : ℕ) (d : Draw) → DrawAt (draws x) k d → last_write x (draws x) ≡ Some d → d.thread ≡ s.thread → (rest : List ℤ) × (repeats_of x k s.marked ≡ (v ∷ rest) ++ d.repeats)
+  pub late : (x : ℕ) (v : ℤ) → Contains owed (x, v) → (s : Shelf) → Contains shelves s → (k : ℕ) (d : Draw) → DrawAt (draws x) k d
+      → last_write x (draws x) ≡ Some d → d.thread ≡ s.thread → (rest : List ℤ) × (repeats_of x k s.marked ≡ (v ∷ rest) ++ d.repeats)
   pub once : (x : ℕ) (v u : ℤ) → Contains owed (x, v) → Contains owed (x, u) → v ≡ u
   pub owes : (x : ℕ) (value : ℤ) → Contains owed (x, value) → OwedOne draws shelves x
   pub tied : (s : Shelf) → Contains shelves s → (x k : ℕ) (d : Draw) → DrawAt (draws x) k d → d.thread ≡ s.thread

@@ -8,7 +8,8 @@ use Rattle.gl_rule.specs.View.{View, Held, Shelf}
 
 -- of a row that is held: its draws stand below each tail that was seen since it was taken
 pub record DrawsBelow (draws : ℕ → List Draw) (h : Held) : Type 0 where
-  pub at : (x : ℕ) (before : List Draw) (a : Draw) (n : ℕ) → h.object ≡ suc x → draws x ≡ with_draw h.drew before → Among before a → Contains h.tails n → a.block < n
+  pub at : (x : ℕ) (before : List Draw) (a : Draw) (n : ℕ) → h.object ≡ suc x → draws x ≡ with_draw h.drew before → Among before a
+      → Contains h.tails n → a.block < n
 
 -- the refused attempts of the list were judged each over the same events on all its variables
 abbrev pub ShelfRefusals : (ℕ → ℕ → ℕ) → Shelf → Type 0

@@ -25,8 +25,10 @@ HasInfoAt slot.Empty p = ⊥
 -- that the pass raised or loaded since
 pub data IsNamed (b : Board) (s : table.State Slot View) (k p : ℕ) : Type 0 where
   at_home : (y : Slot) → b.turn k ≡ 0 → get_elem? s.homes k ≡ some (some y) → HasInfoAt y p → IsNamed b s k p
-  as_held : (id : ℕ) → (v : View) → (h : Held) → get_elem? s.views id ≡ some v → Contains v.held h → h.object ≡ k → HasInfoAt h.taken p → IsNamed b s k p
-  as_taken : (id : ℕ) → (v : View) → (h : Held) → get_elem? s.views id ≡ some v → Contains v.held h → h.object ≡ k → HasInfoAt h.first p → ((n : ℕ) → h.floor ≡ Some n → n ≤ p)
+  as_held : (id : ℕ) → (v : View) → (h : Held) → get_elem? s.views id ≡ some v → Contains v.held h → h.object ≡ k → HasInfoAt h.taken p
+      → IsNamed b s k p
+  as_taken : (id : ℕ) → (v : View) → (h : Held) → get_elem? s.views id ≡ some v → Contains v.held h → h.object ≡ k → HasInfoAt h.first p
+      → ((n : ℕ) → h.floor ≡ Some n → n ≤ p)
       → IsNamed b s k p
 
 -- the words, read as b, keep the events of log safely
@@ -38,7 +40,8 @@ pub record IsSafe (key : Key) (b : Board) (s : table.State Slot View) (log : Lis
   -- what is named is at or above the hold
   pub named : (x p : ℕ) → x < VARIABLES → IsNamed b s (suc x) p → b.hold (suc x) ≤ p
   -- each event from there on stands in its cell, and there are cells for all of them
-  pub cells : (p i : ℕ) (e : Stamp) → b.hold 0 * key.cells ≤ p → slice_get log p ≡ Some e → i < cell_words → b.cell p i ≡ slice_index (packed e) i
+  pub cells : (p i : ℕ) (e : Stamp) → b.hold 0 * key.cells ≤ p → slice_get log p ≡ Some e → i < cell_words → b.cell p i
+      ≡ slice_index (packed e) i
   pub room : length log ≤ b.hold 0 * key.cells + capacity key
 
 -- each table is safe
@@ -48,6 +51,7 @@ TablesAreSafe = (key : Key) (s : table.State Slot View) → Rule key s → (log 
 -- the event that the next one takes the cell of stands in a segment below that of each position that is named
 abbrev pub OverwritesUnnamed : Type 0
 OverwritesUnnamed =
-    (key : Key) (s : table.State Slot View) (id : ℕ) (v : View) (h : Held) (tail : ℕ) → 0 < key.cells → Rule key s → get_elem? s.views id ≡ some v →
+    (key : Key) (s : table.State Slot View) (id : ℕ) (v : View) (h : Held) (tail : ℕ) → 0 < key.cells → Rule key s → get_elem? s.views id
+    ≡ some v →
     MayStoreWord key v h tail → capacity key ≤ tail → (x p : ℕ) → x < VARIABLES → IsNamed (board (capacity key) s.words) s (suc x) p →
     ((board (capacity key) s.words).count 0 ≡ tail) × ((tail - capacity key) / key.cells < p / key.cells)

@@ -39,17 +39,20 @@ TakesTurn =
 -- an object that is held is put back
 abbrev pub LeavesTurn : Type 0
 LeavesTurn =
-    (key : Key) (slots id : ℕ) (v : View) (c : List (ℕ × Slot)) (s : Shelf) (h : Held) (y : Slot) (q : Bool) → objects ≤ slots → v.shelves ≡ s ∷ [] →
+    (key : Key) (slots id : ℕ) (v : View) (c : List (ℕ × Slot)) (s : Shelf) (h : Held) (y : Slot) (q : Bool) → objects ≤ slots → v.shelves
+    ≡ s ∷ [] →
     Contains v.held h → MayLeave key.setting s v h y → (q ≡ true → SaysQuiet h.object h.taken) →
     table.Allows (Rule key) slots id (v, (h.object, y) ∷ c) (3 * h.object + 1) (λ _. 0) (λ _. Left h.object q v ((h.object, y) ∷ c))
 
 -- a value that is owed is put into the row, and the row is put back
 abbrev pub WritesBack : Type 0
 WritesBack =
-    (key : Key) (slots id : ℕ) (v : View) (c : List (ℕ × Slot)) (s : Shelf) (h : Held) (x : ℕ) (taken : Row) (value : ℤ) → objects ≤ slots → v.shelves ≡ s ∷ [] →
+    (key : Key) (slots id : ℕ) (v : View) (c : List (ℕ × Slot)) (s : Shelf) (h : Held) (x : ℕ) (taken : Row) (value : ℤ) → objects ≤ slots
+    → v.shelves ≡ s ∷ [] →
     MayPay v h x taken value →
     table.Allows (Rule key) slots id (v, (h.object, slot.Row (record taken { value = value })) ∷ c) (3 * h.object + 1) (λ _. 0)
-    (λ _. Left h.object false (paid v h x (slot.Row (record taken { value = value }))) ((h.object, slot.Row (record taken { value = value })) ∷ c))
+    (λ _. Left h.object false (paid v h x (slot.Row (record taken { value = value })))
+    ((h.object, slot.Row (record taken { value = value })) ∷ c))
 
 -- the tail is loaded
 abbrev pub LoadsTail : Type 0
@@ -57,7 +60,8 @@ LoadsTail = (key : Key) (slots id : ℕ) (v : View) (c : List (ℕ × Slot)) →
 
 -- a hold is loaded; that of object 0 is the first segment that is kept
 abbrev pub LoadsHold : Type 0
-LoadsHold = (key : Key) (slots id k : ℕ) (v : View) (c : List (ℕ × Slot)) → k < objects → table.Allows (Rule key) slots id (v, c) (3 * k + 2) (λ n. n) (SawHold k v c)
+LoadsHold = (key : Key) (slots id k : ℕ) (v : View) (c : List (ℕ × Slot)) → k < objects
+    → table.Allows (Rule key) slots id (v, c) (3 * k + 2) (λ n. n) (SawHold k v c)
 
 -- the hold of a row that is held is loaded
 abbrev pub LoadsFloor : Type 0
@@ -67,7 +71,8 @@ LoadsFloor =
 
 -- the stop word is loaded
 abbrev pub LoadsStop : Type 0
-LoadsStop = (key : Key) (slots id : ℕ) (v : View) (c : List (ℕ × Slot)) → table.Allows (Rule key) slots id (v, c) stop_word (λ n. n) (SawStop v c)
+LoadsStop = (key : Key) (slots id : ℕ) (v : View) (c : List (ℕ × Slot))
+    → table.Allows (Rule key) slots id (v, c) stop_word (λ n. n) (SawStop v c)
 
 -- one word of the event at position p is loaded
 abbrev pub LoadsCell : Type 0
@@ -89,12 +94,14 @@ StoresWord =
 
 -- the stop word is set
 abbrev pub SetsStop : Type 0
-SetsStop = (key : Key) (slots id : ℕ) (v : View) (c : List (ℕ × Slot)) → table.Allows (Rule key) slots id (v, c) stop_word (λ _. 1) (λ _. Saw SetStop v c)
+SetsStop = (key : Key) (slots id : ℕ) (v : View) (c : List (ℕ × Slot))
+    → table.Allows (Rule key) slots id (v, c) stop_word (λ _. 1) (λ _. Saw SetStop v c)
 
 -- the hold of a row is raised, with Infos moved up to it
 abbrev pub RaisesHold : Type 0
 RaisesHold =
-    (key : Key) (slots id : ℕ) (v : View) (c : List (ℕ × Slot)) (s : Shelf) (h : Held) (x : ℕ) (taken row : Row) (to : ℕ) → v.shelves ≡ s ∷ [] →
+    (key : Key) (slots id : ℕ) (v : View) (c : List (ℕ × Slot)) (s : Shelf) (h : Held) (x : ℕ) (taken row : Row) (to : ℕ) → v.shelves ≡ s
+    ∷ [] →
     MayRaise key.setting s v h x taken row to →
     table.Allows (Rule key) slots id (v, c) (3 * h.object + 2) (λ _. to) (λ _. Raised h (slot.Row row) to v c)
 
@@ -107,37 +114,43 @@ RaisesLow =
 -- an act is published
 abbrev pub PublishesAct : Type 0
 PublishesAct =
-    (key : Key) (slots id : ℕ) (v : View) (c : List (ℕ × Slot)) (s : Shelf) (h : Held) (l l' : ListView) (act : Act) (value : ℤ) → v.shelves ≡ s ∷ [] → v.drawn ≡ [] →
+    (key : Key) (slots id : ℕ) (v : View) (c : List (ℕ × Slot)) (s : Shelf) (h : Held) (l l' : ListView) (act : Act) (value : ℤ)
+    → v.shelves ≡ s ∷ [] → v.drawn ≡ [] →
     MayPublish key s v h l l' (λ n. Sync n act value) (record { thread = s.thread; event = Does act }) value →
     table.Allows (Rule key) slots id (v, c) 0 (λ n. (n + 1) % 2 ^ 64) (PublishedAct s act value (slot.List l') v c)
 
 -- a commit is published
 abbrev pub PublishesCommit : Type 0
 PublishesCommit =
-    (key : Key) (slots id : ℕ) (v : View) (c : List (ℕ × Slot)) (s : Shelf) (h : Held) (l l' : ListView) (tx : Tx) (p m : ℕ) (question : ℕ → Question) → v.shelves ≡ s ∷ [] →
+    (key : Key) (slots id : ℕ) (v : View) (c : List (ℕ × Slot)) (s : Shelf) (h : Held) (l l' : ListView) (tx : Tx) (p m : ℕ) (question : ℕ
+    → Question) → v.shelves ≡ s ∷ [] →
     MayCommit key.setting s v tx p m question →
     MayPublish key s v h l l' (λ n. Commit n tx) (record { thread = s.thread; event = Commits (variables_of tx) }) (pos 0) →
     table.Allows (Rule key) slots id (v, c) 0 (λ n. (n + 1) % 2 ^ 64)
-    (Published s (λ n. Commit n tx) (record { thread = s.thread; event = Commits (variables_of tx) }) (slot.List l') (λ n g. drew_commit (variables_of tx) (draw s.thread n (Entered (Commit n tx))) g) v c)
+    (Published s (λ n. Commit n tx) (record { thread = s.thread; event = Commits (variables_of tx) }) (slot.List l')
+    (λ n g. drew_commit (variables_of tx) (draw s.thread n (Entered (Commit n tx))) g) v c)
 
 -- a plain access draws its number
 abbrev pub MarksPlain : Type 0
 MarksPlain =
-    (key : Key) (slots id : ℕ) (v : View) (c : List (ℕ × Slot)) (s : Shelf) (h : Held) (x : ℕ) (taken : Row) (p : ℕ) (q : Question) (write : Bool) (value : ℤ) (raised : Bool) → v.shelves ≡ s ∷ [] →
+    (key : Key) (slots id : ℕ) (v : View) (c : List (ℕ × Slot)) (s : Shelf) (h : Held) (x : ℕ) (taken : Row) (p : ℕ) (q : Question)
+    (write : Bool) (value : ℤ) (raised : Bool) → v.shelves ≡ s ∷ [] →
     MayMark key.setting s v h x taken p q write value raised →
     table.Allows (Rule key) slots id (v, c) (3 * h.object) (λ n. (n + 1) % 2 ^ 64) (Marked s h x p write value raised v c)
 
 -- a look, or the end of an attempt, draws a number that waits for its entry
 abbrev pub MarksOpen : Type 0
 MarksOpen =
-    (key : Key) (slots id : ℕ) (v : View) (c : List (ℕ × Slot)) (s : Shelf) (h : Held) (x : ℕ) (taken : Row) (p : ℕ) (look : Option ℤ) → v.shelves ≡ s ∷ [] →
+    (key : Key) (slots id : ℕ) (v : View) (c : List (ℕ × Slot)) (s : Shelf) (h : Held) (x : ℕ) (taken : Row) (p : ℕ) (look : Option ℤ)
+    → v.shelves ≡ s ∷ [] →
     MayOpen s v h x taken p look →
     table.Allows (Rule key) slots id (v, c) (3 * h.object) (λ n. (n + 1) % 2 ^ 64) (Opened s h x p look v c)
 
 -- what a pass added without a step is recorded: the rule holds with the view that it has then
 abbrev pub RecordsAdded : Type 0
 RecordsAdded =
-    (key : Key) (s : table.State Slot View) (id : ℕ) (v u : View) (more : List Entry) → Adding v more u → Rule key s → get_elem? s.views id ≡ some v →
+    (key : Key) (s : table.State Slot View) (id : ℕ) (v u : View) (more : List Entry) → Adding v more u → Rule key s → get_elem? s.views id
+    ≡ some v →
     Rule key (record { words = s.words; homes = s.homes; views = slice_set s.views id u })
 
 -- a table begins with the rule

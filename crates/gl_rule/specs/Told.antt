@@ -35,7 +35,8 @@ Left k q v c w = w ≡ (left v k q, table.rest c)
 
 -- the tail was seen: it has not fallen, and each held row's Infos are within it
 abbrev pub SawTail : View → List (ℕ × Slot) → ℕ → Seat → Type 0
-SawTail v c n w = (w ≡ (saw_tail v n, c)) × (v.seen ≤ n) × ((h : Held) (row : Row) → Contains v.held h → h.taken ≡ slot.Row row → IsWithin row n)
+SawTail v c n w = (w ≡ (saw_tail v n, c)) × (v.seen ≤ n)
+    × ((h : Held) (row : Row) → Contains v.held h → h.taken ≡ slot.Row row → IsWithin row n)
 
 -- the stop word was set
 abbrev pub Saw : Read → View → List (ℕ × Slot) → Seat → Type 0
@@ -52,7 +53,9 @@ SawCell cap p i v c n w = (v.seen ≤ p + cap) × (w ≡ (saw_cell v (record { p
 -- the last word of the event at p: the event, with all words of it that were loaded
 abbrev pub SawEvent : ℕ → ℕ → View → List (ℕ × Slot) → ℕ → Seat → Type 0
 SawEvent cap p v c n w =
-    (x : Stamp) × IsStampInRange x × HasSmallCode x × ((q : CellWord) → Contains (saw_cell v (record { position = p; index = 4; word = n })).loaded q → q.position ≡ p → q.word ≡ slice_index (packed x) q.index) × (v.seen ≤ p + cap)
+    (x : Stamp) × IsStampInRange x × HasSmallCode x
+    × ((q : CellWord) → Contains (saw_cell v (record { position = p; index = 4; word = n })).loaded q → q.position ≡ p → q.word
+    ≡ slice_index (packed x) q.index) × (v.seen ≤ p + cap)
     × (w ≡ (knows (saw_cell v (record { position = p; index = 4; word = n })) p x, c))
 
 -- a hold was seen, which is no less than it was seen to be before
@@ -65,7 +68,8 @@ IsTailOf held n = (h : Held) (m : ℕ) → Contains held h → h.object ≡ 0 �
 
 -- an event was published, at the tail that was seen while the list was held: the entry, the stamp and the list's new state
 abbrev pub Published : Shelf → (ℕ → Entry) → Stamp → Slot → (ℕ → Held → Option Draw) → View → List (ℕ × Slot) → ℕ → Seat → Type 0
-Published s entry x y drew v c n w = (n + 1 < 2 ^ 64) × (v.seen ≤ n) × (w ≡ (published v s.thread s.marked (entry n) n x y (drew n), c)) × IsTailOf v.held n
+Published s entry x y drew v c n w = (n + 1 < 2 ^ 64) × (v.seen ≤ n) × (w ≡ (published v s.thread s.marked (entry n) n x y (drew n), c))
+    × IsTailOf v.held n
 
 -- the hold of an object that the pass holds, which is as it was loaded or raised since the object was taken
 abbrev pub SawFloor : Held → View → List (ℕ × Slot) → ℕ → Seat → Type 0
@@ -90,7 +94,11 @@ IsAboveDrawn x n drawn = (k : ℕ) (look : Option ℤ) → Contains drawn (recor
 -- a plain access drew n
 abbrev pub Marked : Shelf → Held → ℕ → ℕ → Bool → ℤ → Bool → View → List (ℕ × Slot) → ℕ → Seat → Type 0
 Marked s h x p write value raised v c n w =
-    (n + 1 < 2 ^ 64) × (w ≡ (marked v (shelf s.thread (s.marked ++ Plain x n false write value raised ∷ [])) v.drawn h (draw s.thread p (Entered (Plain x n false write value raised))), c)) × IsAboveDrawn x n v.drawn
+    (n + 1 < 2 ^ 64) × (w ≡ (
+      marked v (shelf s.thread (s.marked ++ Plain x n false write value raised ∷ [])) v.drawn h
+          (draw s.thread p (Entered (Plain x n false write value raised))),
+      c,
+    )) × IsAboveDrawn x n v.drawn
 
 -- what a number that waits is for
 abbrev pub what_of : Option ℤ → What
@@ -99,8 +107,11 @@ what_of None = Open
 
 -- a look, with the value that it saw, or the end of an attempt drew n, which waits for its entry
 abbrev pub Opened : Shelf → Held → ℕ → ℕ → Option ℤ → View → List (ℕ × Slot) → ℕ → Seat → Type 0
-Opened s h x p look v c n w = (n + 1 < 2 ^ 64) × (w ≡ (marked v s (v.drawn ++ record { var = x; nth = n; look = look } ∷ []) h (draw s.thread p (what_of look)), c)) × IsAboveDrawn x n v.drawn
+Opened s h x p look v c n w = (n + 1 < 2 ^ 64)
+    × (w ≡ (marked v s (v.drawn ++ record { var = x; nth = n; look = look } ∷ []) h (draw s.thread p (what_of look)), c))
+    × IsAboveDrawn x n v.drawn
 
 -- an act was published
 abbrev pub PublishedAct : Shelf → Act → ℤ → Slot → View → List (ℕ × Slot) → ℕ → Seat → Type 0
-PublishedAct s act value y v c n w = Published s (λ k. Sync k act value) (record { thread = s.thread; event = Does act }) y (λ k g. g.drew) v c n w
+PublishedAct s act value y v c n w = Published s (λ k. Sync k act value) (record { thread = s.thread; event = Does act }) y (λ k g. g.drew)
+    v c n w

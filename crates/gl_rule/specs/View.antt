@@ -67,7 +67,18 @@ pub record View : Type 0 where
 
 -- a view of these lists that knows nothing else
 abbrev pub blank : List Shelf → View
-blank l = record { shelves = l; seen = 0; known = []; held = []; drawn = []; reads = []; quiet = false; owed = []; stored = []; loaded = [] }
+blank l = record {
+  shelves = l;
+  seen = 0;
+  known = [];
+  held = [];
+  drawn = [];
+  reads = [];
+  quiet = false;
+  owed = [];
+  stored = [];
+  loaded = [];
+}
 
 -- object k is held
 abbrev pub HasObject : View → ℕ → Type 0
@@ -119,11 +130,20 @@ put_word v n = record v { stored = v.stored ++ n ∷ [] }
 
 -- a held object after an event was published at n: the list's state is y, and n + 1 is its tail; what was drawn on a row is as drew says
 abbrev pub after_publish : ℕ → Slot → (Held → Option Draw) → Held → Held
-after_publish n y drew h = if h.object == 0 then record h { taken = y; tails = suc n ∷ [] } else record h { tails = suc n ∷ h.tails; drew = drew h }
+after_publish n y drew h = if h.object == 0 then record h { taken = y; tails = suc n ∷ [] }
+    else record h { tails = suc n ∷ h.tails; drew = drew h }
 
 -- thread t, which has stored l, stores e, the event x at position n, and the list's state becomes y
 abbrev pub published : View → ℕ → List Entry → Entry → ℕ → Stamp → Slot → (Held → Option Draw) → View
-published v t l e n x y drew = record v { shelves = shelf t (l ++ e ∷ []) ∷ []; seen = suc n; known = v.known ++ (n, x) ∷ []; held = map (after_publish n y drew) v.held; drawn = []; stored = [] }
+published v t l e n x y drew = record v {
+  shelves = shelf t (l ++ e ∷ []) ∷ [];
+  seen = suc n;
+  known = v.known ++ (n, x)
+      ∷ [];
+  held = map (after_publish n y drew) v.held;
+  drawn = [];
+  stored = [];
+}
 
 -- the draw d of the held object h
 abbrev pub with_draw_of : Held → Draw → List Held → List Held
@@ -147,4 +167,8 @@ saw_floor v h n = record v { held = record h { floor = Some n } ∷ without h.ob
 
 -- the first segment was n and became at least to; thread t, which has stored l, stores a Trim where it rose
 abbrev pub lowered : View → ℕ → List Entry → ℕ → ℕ → View
-lowered v t l n to = record v { shelves = (if nat_lt n to then shelf t (l ++ Trim to ∷ []) else shelf t l) ∷ []; reads = v.reads ++ Hold 0 (max n to) ∷ [] }
+lowered v t l n to = record v {
+  shelves = (if nat_lt n to then shelf t (l ++ Trim to ∷ []) else shelf t l) ∷ [];
+  reads = v.reads
+      ++ Hold 0 (max n to) ∷ [];
+}

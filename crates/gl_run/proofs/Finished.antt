@@ -81,13 +81,15 @@ module _ (asked : Option Command) (source_before source_now sink_before sink_now
     usage = λ is. let other : WRITE_FAILED ≡ NO_COMMAND = not_two a.status WRITE_FAILED NO_COMMAND cut.status_is is in absurd (omega arith);
     no_usage = λ none. inr (inl cut.status_is);
     unread = λ none. cause.0;
-    read = λ is. let other : WRITE_FAILED ≡ READ_FAILED = not_two a.status WRITE_FAILED READ_FAILED cut.status_is is in absurd (omega arith);
+    read = λ is. let other : WRITE_FAILED ≡ READ_FAILED = not_two a.status WRITE_FAILED READ_FAILED cut.status_is is
+        in absurd (omega arith);
     no_read = λ other. cause.0;
     write = λ is. cut.faults;
     no_write = λ other. absurd (other cut.status_is);
   }
 
-  pub causes_of : (r : Result Page Stop) (a : Answer) → ReplyCause asked source_before source_now r → Finishes r a sink_before sink_now before now
+  pub causes_of : (r : Result Page Stop) (a : Answer) → ReplyCause asked source_before source_now r
+      → Finishes r a sink_before sink_now before now
       → HasCauses asked source_before source_now sink_before sink_now a.status
   causes_of (Ok p) a cause done = page_causes p a cause done
   causes_of (Err Read) a cause done = record {
@@ -96,7 +98,8 @@ module _ (asked : Option Command) (source_before source_now sink_before sink_now
     unread = λ none. absurd (cause.0 none);
     read = λ is. cause;
     no_read = λ other. absurd (other done.status_is);
-    write = λ is. let other : READ_FAILED ≡ WRITE_FAILED = not_two a.status READ_FAILED WRITE_FAILED done.status_is is in absurd (omega arith);
+    write = λ is. let other : READ_FAILED ≡ WRITE_FAILED = not_two a.status READ_FAILED WRITE_FAILED done.status_is is
+        in absurd (omega arith);
     no_write = λ other. done.faults;
   }
   causes_of (Err Memory) a cause done = record {
@@ -145,9 +148,11 @@ module _ (asked : Option Command) (left left_now : Option (List ℕ)) (sink_befo
 
 -- ## What is written
 
-module _ (keep : Keep) (asked : Option Command) (left : Option (List ℕ)) (source_before source_now sink_before sink_now : ℕ) (before now : Option (List ℕ)) where
+module _ (keep : Keep) (asked : Option Command) (left : Option (List ℕ)) (source_before source_now sink_before sink_now : ℕ)
+    (before now : Option (List ℕ)) where
   -- nothing is written where nothing is to be
-  none_written : (status : ℕ) (a : Answer) → (status ≡ READ_FAILED) ⊎ (status ≡ NO_MEMORY) → IsNothing status a sink_before sink_now before now
+  none_written : (status : ℕ) (a : Answer) → (status ≡ READ_FAILED) ⊎ (status ≡ NO_MEMORY)
+      → IsNothing status a sink_before sink_now before now
       → Serves keep asked left a.status a.kept before now
   none_written status a stop done =
       subst (λ s. Serves keep asked left s a.kept before now) (sym done.status_is)

@@ -21,7 +21,8 @@ use Rattle.gl_lines.proofs.TraceNext.{end_place, last_is, there}
 use Rattle.gl_trace.specs.TraceLine.{TraceLine}
 use Rattle.gl_trace.specs.Judging.{Suits, AreJudged, judged_lines, line_of}
 
-judged_at : (ls : List TraceLine) (js : List Judged) (k : ℕ) (l : TraceLine) (j : Judged) → slice_get ls k ≡ Some l → slice_get js k ≡ Some j
+judged_at : (ls : List TraceLine) (js : List Judged) (k : ℕ) (l : TraceLine) (j : Judged) → slice_get ls k ≡ Some l → slice_get js k
+    ≡ Some j
     → slice_get (judged_lines ls js) k ≡ Some (l, j)
 judged_at [] js k l j here there = cc
 judged_at (x ∷ xs) [] k l j here there = cc
@@ -45,37 +46,46 @@ by_place P (x ∷ xs) v all (suc k, below, here) = by_place P xs v all.1 (k, ome
 in_either : (reads writes : List ℕ) (v : ℕ) → Contains (with_all writes reads) v → Contains reads v ⊎ Contains writes v
 in_either reads writes v c =
     by_place (λ z. Contains reads z ⊎ Contains writes z) (with_all writes reads) v
-    (all_of_both (λ z. Contains reads z ⊎ Contains writes z) writes reads (recursive _ writes (λ z h. inr h)) (recursive _ reads (λ z h. inl h))) c
+    (all_of_both (λ z. Contains reads z ⊎ Contains writes z) writes reads (recursive _ writes (λ z h. inr h))
+    (recursive _ reads (λ z h. inl h))) c
 
 entry_same : (es : List Entry) (i : ℕ) (e f : Entry) → slice_get es i ≡ Some e → slice_get es i ≡ Some f → e ≡ f
 entry_same es i e f a b = let s : Some e ≡ Some f = sym a ∙ b in cc
 
 -- the last entry of a list is racy on its own variables alone
-numbered : (R : Lists) (t : ℕ) (e : Entry) (x : ℕ) → IsRacy (with_entry R t e) (last_place (with_entry R t e) t) x → (k : ℕ) × NumberOn e x k
+numbered : (R : Lists) (t : ℕ) (e : Entry) (x : ℕ) → IsRacy (with_entry R t e) (last_place (with_entry R t e) t) x → (k : ℕ)
+    × NumberOn e x k
 numbered R t e x racy =
     let here : IsRacy (with_entry R t e) (end_place R t) x = subst (λ c. IsRacy (with_entry R t e) c x) (last_is R t e) racy in
-    let same : here.before.second ≡ e = entry_same (with_entry R t e t) (length (R t)) here.before.second e here.before.here (there R t e) in
+    let same : here.before.second ≡ e = entry_same (with_entry R t e t) (length (R t)) here.before.second e here.before.here (there R t e)
+    in
     (here.before.later, subst (λ f. NumberOn f x here.before.later) same here.before.also_numbered)
 
-of_commit : (reads writes : List ℕ) (numbers : ℕ → ℕ) (x k : ℕ) → Contains (line_tx reads writes numbers).numbers (record { var = x; nth = k }) → Contains (with_all writes reads) x
+of_commit : (reads writes : List ℕ) (numbers : ℕ → ℕ) (x k : ℕ)
+    → Contains (line_tx reads writes numbers).numbers (record { var = x; nth = k }) → Contains (with_all writes reads) x
 of_commit reads writes numbers x k c =
-    let m = contains_map (λ y. record { var = y; nth = numbers y + look_count reads y }) (with_all writes reads) (record { var = x; nth = k }) c in
+    let m = contains_map (λ y. record { var = y; nth = numbers y + look_count reads y }) (with_all writes reads)
+    (record { var = x; nth = k }) c in
     let same : m.0 ≡ x = ap (λ (n : Number). n.var) m.2 in
     subst (Contains (with_all writes reads)) same m.1
 
-right_suits : (s : Tracing) (t : ℕ) (item : Item) (j : Judged) → IsJudgedRightly (with_item t item j s).lists (last_place (with_item t item j s).lists t) item j → Suits item j
+right_suits : (s : Tracing) (t : ℕ) (item : Item) (j : Judged)
+    → IsJudgedRightly (with_item t item j s).lists (last_place (with_item t item j s).lists t) item j → Suits item j
 right_suits s t (Acts act) NoAccess r = tt
 right_suits s t (Acts act) Performed r = cc
 right_suits s t (Acts act) (Raised var) r = cc
 right_suits s t (Access x write) NoAccess r = r
 right_suits s t (Access x write) Performed r = tt
-right_suits s t (Access x write) (Raised var) r = let n = numbered s.lists t (Plain x (s.numbers x) false write (pos 0) true) var r.0 in sym n.1.0
+right_suits s t (Access x write) (Raised var) r = let n = numbered s.lists t (Plain x (s.numbers x) false write (pos 0) true) var r.0
+    in sym n.1.0
 right_suits s t (Commits reads writes) NoAccess r = r
 right_suits s t (Commits reads writes) Performed r = tt
 right_suits s t (Commits reads writes) (Raised var) r =
-    let n = numbered s.lists t (Abort (line_tx reads writes s.numbers) (WasRaised var)) var r.0 in in_either reads writes var (of_commit reads writes s.numbers var n.0 n.1)
+    let n = numbered s.lists t (Abort (line_tx reads writes s.numbers) (WasRaised var)) var r.0
+    in in_either reads writes var (of_commit reads writes s.numbers var n.0 n.1)
 
-pub after_push : (lines : List Line) (l : Line) (s : Tracing) → after_lines (lines ++ l ∷ []) s ≡ with_item l.thread l.item l.judged (after_lines lines s)
+pub after_push : (lines : List Line) (l : Line) (s : Tracing) → after_lines (lines ++ l ∷ []) s
+    ≡ with_item l.thread l.item l.judged (after_lines lines s)
 after_push [] l s = refl
 after_push (x ∷ xs) l s = after_push xs l (with_item x.thread x.item x.judged s)
 
@@ -83,12 +93,14 @@ line_suits : (lines : List Line) → AreVerdicts lines → (k : ℕ) (l : Line) 
 line_suits lines right k l at =
     let upto : take (k + 1) lines ≡ take k lines ++ l ∷ [] =
     take_more lines k l (slice_get_within lines k l at) ∙ ap (λ x. take k lines ++ x ∷ []) (get_or_from_slice_get lines k l l at) in
-    let same : after_lines (take (k + 1) lines) before_lines ≡ with_item l.thread l.item l.judged (after_lines (take k lines) before_lines) =
+    let same : after_lines (take (k + 1) lines) before_lines
+    ≡ with_item l.thread l.item l.judged (after_lines (take k lines) before_lines) =
     ap (λ ls. after_lines ls before_lines) upto ∙ after_push (take k lines) l before_lines in
     right_suits (after_lines (take k lines) before_lines) l.thread l.item l.judged
     (subst (λ (z : Tracing). IsJudgedRightly z.lists (last_place z.lists l.thread) l.item l.judged) same (right k l at))
 
-pub verdicts_judged : (ls : List TraceLine) (js : List Judged) → length js ≡ length ls → AreVerdicts (map line_of (judged_lines ls js)) → AreJudged ls js
+pub verdicts_judged : (ls : List TraceLine) (js : List Judged) → length js ≡ length ls → AreVerdicts (map line_of (judged_lines ls js))
+    → AreJudged ls js
 verdicts_judged ls js count right = record {
   count = count;
   suits = λ k l j here there.

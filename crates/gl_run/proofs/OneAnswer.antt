@@ -32,7 +32,8 @@ verdicts_front : (xs ys : List Line) → AreVerdicts (xs ++ ys) → AreVerdicts 
 verdicts_front xs ys right k l at =
     let near = slice_get_within xs k l at in
     let front : take (k + 1) (xs ++ ys) ≡ take (k + 1) xs = take-append-le (k + 1) xs ys (omega arith) in
-    subst (λ ls. let R = (after_lines ls before_lines).lists in IsJudgedRightly R (last_place R l.thread) l.item l.judged) front (right k l (get_front xs ys k l at))
+    subst (λ ls. let R = (after_lines ls before_lines).lists in IsJudgedRightly R (last_place R l.thread) l.item l.judged) front
+    (right k l (get_front xs ys k l at))
 
 -- and the first lines of sound ones are sound
 sound_front : (xs ys : List Line) → AreSound (xs ++ ys) → AreSound xs
@@ -42,8 +43,10 @@ sound_front xs ys sound =
       in_range = λ k l at. sound.in_range k l (get_front xs ys k l at);
       clean = λ k s at.
           let near = slice_get_within (record_steps xs) k s at in
-          let clean = sound.clean k s (subst (λ ss. slice_get ss k ≡ Some s) (sym steps) (get_front (record_steps xs) (record_steps ys) k s at)) in
-          subst (λ ss. step_fault ss s.0 s.1 ≡ None) (ap (take k) steps ∙ take-append-le k (record_steps xs) (record_steps ys) (omega arith)) clean;
+          let clean = sound.clean k s (subst (λ ss. slice_get ss k ≡ Some s) (sym steps)
+          (get_front (record_steps xs) (record_steps ys) k s at)) in
+          subst (λ ss. step_fault ss s.0 s.1 ≡ None) (ap (take k) steps
+          ∙ take-append-le k (record_steps xs) (record_steps ys) (omega arith)) clean;
     }
 
 head_same : (l m : TraceLine) (ls ms : List TraceLine) → l ∷ ls ≡ m ∷ ms → l ≡ m
@@ -64,11 +67,14 @@ module _ (settled : LastIsSettled) where
       λ r rs. map-append line_of front (r ∷ rs) ∙ sym (append_assoc (map line_of front) (line_of r ∷ []) (map line_of rs)) in
       let first = verdicts_front (map line_of front ++ line_of p ∷ []) (map line_of ps) (subst AreVerdicts (split p ps) one) in
       let second = verdicts_front (map line_of front ++ line_of q ∷ []) (map line_of qs) (subst AreVerdicts (split q qs) other) in
-      let second' : AreVerdicts (map line_of front ++ line_of (p.0, q.1) ∷ []) = subst (λ (l : TraceLine). AreVerdicts (map line_of front ++ line_of (l, q.1) ∷ [])) (sym line) second in
-      settled (map line_of front) p.0.1 p.0.2 p.1 q.1 (sound_front (map line_of front ++ line_of p ∷ []) (map line_of ps) (subst AreSound (split p ps) sound)) first second'
+      let second' : AreVerdicts (map line_of front ++ line_of (p.0, q.1) ∷ []) =
+      subst (λ (l : TraceLine). AreVerdicts (map line_of front ++ line_of (l, q.1) ∷ [])) (sym line) second in
+      settled (map line_of front) p.0.1 p.0.2 p.1 q.1
+      (sound_front (map line_of front ++ line_of p ∷ []) (map line_of ps) (subst AreSound (split p ps) sound)) first second'
 
   -- so is one of all lines
-  all_same : (front ps qs : List Said) → lines_said ps ≡ lines_said qs → AreSound (map line_of (front ++ ps)) → AreVerdicts (map line_of (front ++ ps))
+  all_same : (front ps qs : List Said) → lines_said ps ≡ lines_said qs → AreSound (map line_of (front ++ ps))
+      → AreVerdicts (map line_of (front ++ ps))
       → AreVerdicts (map line_of (front ++ qs)) → ps ≡ qs
   all_same front [] [] lines sound one other = refl
   all_same front [] (q ∷ qs) lines sound one other = absurd cc
@@ -77,8 +83,10 @@ module _ (settled : LastIsSettled) where
       let line : p.0 ≡ q.0 = head_same p.0 q.0 (lines_said ps) (lines_said qs) lines in
       let same : p ≡ q = said_same p q line (next_same front p q ps qs line sound one other) in
       let on : (rs : List Said) → front ++ p ∷ rs ≡ (front ++ p ∷ []) ++ rs = λ rs. sym (append_assoc front (p ∷ []) rs) in
-      let other' : AreVerdicts (map line_of (front ++ p ∷ qs)) = subst (λ (r : Said). AreVerdicts (map line_of (front ++ r ∷ qs))) (sym same) other in
-      let rest = all_same (front ++ p ∷ []) ps qs (tail_same p.0 q.0 (lines_said ps) (lines_said qs) lines) (subst (λ rs. AreSound (map line_of rs)) (on ps) sound)
+      let other' : AreVerdicts (map line_of (front ++ p ∷ qs)) =
+      subst (λ (r : Said). AreVerdicts (map line_of (front ++ r ∷ qs))) (sym same) other in
+      let rest = all_same (front ++ p ∷ []) ps qs (tail_same p.0 q.0 (lines_said ps) (lines_said qs) lines)
+      (subst (λ rs. AreSound (map line_of rs)) (on ps) sound)
       (subst (λ rs. AreVerdicts (map line_of rs)) (on ps) one) (subst (λ rs. AreVerdicts (map line_of rs)) (on qs) other') in
       ap (λ r. r ∷ ps) same ∙ ap (λ rs. q ∷ rs) rest
 
@@ -92,25 +100,29 @@ one_kept Record lines (Some (Trace made)) (Some (Run other)) one two = absurd tw
 one_kept Record lines (Some (Trace made)) (Some (Trace other)) one two =
     ap (λ r. Some (Trace r)) (same_record made other one.0 two.0 (λ t. one.1 t ∙ sym (two.1 t)))
 
-module _ (settled : LastIsSettled) (apart : (text : List ℕ) (trace : List TraceLine) (line kind : ℕ) → IsTrace text trace → IsFirstFault text line kind → ⊥)
+module _ (settled : LastIsSettled) (apart : (text : List ℕ) (trace : List TraceLine) (line kind : ℕ) → IsTrace text trace
+    → IsFirstFault text line kind → ⊥)
     (faults : (text : List ℕ) (a b j k : ℕ) → IsFirstFault text a j → IsFirstFault text b k → (a ≡ b) × (j ≡ k))
     (traces : (text : List ℕ) (a b : List TraceLine) → IsTrace text a → IsTrace text b → a ≡ b)
     (range : (text : List ℕ) (trace : List TraceLine) → IsTrace text trace → All IsStep (steps_of trace))
     (clean : (text : List ℕ) (trace : List TraceLine) → IsTrace text trace → AreClean (steps_of trace)) where
-  accepted_same : (keep : Keep) (input : List ℕ) (s t : ℕ) (a b : List ℕ) (j k : Option Kept) → AcceptsTrace keep input s a j → AcceptsTrace keep input t b k
+  accepted_same : (keep : Keep) (input : List ℕ) (s t : ℕ) (a b : List ℕ) (j k : Option Kept) → AcceptsTrace keep input s a j
+      → AcceptsTrace keep input t b k
       → (s ≡ t) × (a ≡ b) × (j ≡ k)
   accepted_same keep input s t a b j k one two =
       let x = one.answer in
       let y = two.answer in
       let lines : lines_said x.said ≡ lines_said y.said = sym x.all ∙ traces input one.trace two.trace one.meaning two.meaning ∙ y.all in
-      let sound = said_sound x.said (subst (λ ls. All IsStep (steps_of ls)) x.all (range input one.trace one.meaning)) (subst (λ ls. AreClean (steps_of ls)) x.all (clean input one.trace one.meaning)) in
+      let sound = said_sound x.said (subst (λ ls. All IsStep (steps_of ls)) x.all (range input one.trace one.meaning))
+      (subst (λ ls. AreClean (steps_of ls)) x.all (clean input one.trace one.meaning)) in
       let same : x.said ≡ y.said = all_same settled [] x.said y.said lines sound x.right y.right in (
         x.status_is ∙ ap (λ said. status_of (verdicts_said said)) same ∙ sym y.status_is,
         x.bytes_are ∙ ap said_text same ∙ sym y.bytes_are,
         one_kept keep (map line_of y.said) j k (subst (λ said. KeepsRecord keep (map line_of said) j) same x.kept_is) y.kept_is,
       )
 
-  refused_same : (input : List ℕ) (s t : ℕ) (a b : List ℕ) (j k : Option Kept) → RefusesTrace input s a j → RefusesTrace input t b k → (s ≡ t) × (a ≡ b) × (j ≡ k)
+  refused_same : (input : List ℕ) (s t : ℕ) (a b : List ℕ) (j k : Option Kept) → RefusesTrace input s a j → RefusesTrace input t b k
+      → (s ≡ t) × (a ≡ b) × (j ≡ k)
   refused_same input s t a b j k one two =
       let same = faults input one.line two.line one.kind two.kind one.fault two.fault in (
         one.status_is ∙ sym two.status_is,

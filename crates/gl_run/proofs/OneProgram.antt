@@ -41,40 +41,55 @@ refused_once IsFault faults s t a b j k one two =
       one.kept_is ∙ sym two.kept_is,
     )
 
-module _ (apart : (text : List ℕ) (program : Bytecode) (inputs : List ℤ) (line kind : ℕ) → IsText text program inputs → IsFirstFault text line kind → ⊥)
+module _ (apart : (text : List ℕ) (program : Bytecode) (inputs : List ℤ) (line kind : ℕ) → IsText text program inputs
+    → IsFirstFault text line kind → ⊥)
     (faults : (text : List ℕ) (a b j k : ℕ) → IsFirstFault text a j → IsFirstFault text b k → (a ≡ b) × (j ≡ k))
-    (texts : (text : List ℕ) (P Q : Bytecode) (xs ys : List ℤ) → IsText text P xs → IsText text Q ys → (draft_of P ≡ draft_of Q) × (xs ≡ ys)) where
+    (texts : (text : List ℕ) (P Q : Bytecode) (xs ys : List ℤ) → IsText text P xs → IsText text Q ys → (draft_of P ≡ draft_of Q)
+    × (xs ≡ ys)) where
   pub listings_apart : ListingsAreApart
   listings_apart input s t a b j k one two = apart input one.program one.inputs two.line two.kind one.meaning two.fault
 
-  listed_same : (input : List ℕ) (s t : ℕ) (a b : List ℕ) (j k : Option Kept) → AcceptsProgram input s a j → AcceptsProgram input t b k → (s ≡ t) × (a ≡ b) × (j ≡ k)
+  listed_same : (input : List ℕ) (s t : ℕ) (a b : List ℕ) (j k : Option Kept) → AcceptsProgram input s a j → AcceptsProgram input t b k
+      → (s ≡ t) × (a ≡ b) × (j ≡ k)
   listed_same input s t a b j k one two =
       let same = texts input one.program two.program one.inputs two.inputs one.meaning two.meaning in
-      let program : one.program ≡ two.program = same_program one.program two.program same.0 in (one.status_is ∙ sym two.status_is, one.bytes_are ∙ ap listing program ∙ sym two.bytes_are, one.kept_is ∙ sym two.kept_is)
+      let program : one.program ≡ two.program = same_program one.program two.program same.0
+      in (one.status_is ∙ sym two.status_is, one.bytes_are ∙ ap listing program ∙ sym two.bytes_are, one.kept_is ∙ sym two.kept_is)
 
   pub listings_one : ListingsAreOne
   listings_one input s t a b j k one two =
       elim one [
         | inl x ↦ elim two [ inl y ↦ listed_same input s t a b j k x y | inr y ↦ absurd (listings_apart input s t a b j k x y) ]
-        | inr x ↦ elim two [ inl y ↦ absurd (listings_apart input t s b a k j y x) | inr y ↦ refused_once (IsFirstFault input) (faults input) s t a b j k x y ]
+        | inr x ↦ elim two [
+          | inl y ↦ absurd (listings_apart input t s b a k j y x)
+          | inr y ↦ refused_once (IsFirstFault input) (faults input) s t a b j k x y
+        ]
       ]
 
-module _ (apart : (text : List ℕ) (program : Bytecode) (inputs : List ℤ) (line kind : ℕ) → IsText text program inputs → IsFirstFault text line kind → ⊥)
+module _ (apart : (text : List ℕ) (program : Bytecode) (inputs : List ℤ) (line kind : ℕ) → IsText text program inputs
+    → IsFirstFault text line kind → ⊥)
     (faults : (text : List ℕ) (a b j k : ℕ) → IsFirstFault text a j → IsFirstFault text b k → (a ≡ b) × (j ≡ k)) where
   pub runs_apart : RunsAreApart
   runs_apart options input s t a b j k one two = apart input one.program one.inputs two.line two.kind one.meaning two.fault
 
-  ran_same : (options : RunOptions) (input : List ℕ) (s t : ℕ) (a b : List ℕ) (kept : Option Kept) → AcceptsRun options input s a kept → AcceptsRun options input t b kept → (s ≡ t) × (a ≡ b)
+  ran_same : (options : RunOptions) (input : List ℕ) (s t : ℕ) (a b : List ℕ) (kept : Option Kept) → AcceptsRun options input s a kept
+      → AcceptsRun options input t b kept → (s ≡ t) × (a ≡ b)
   ran_same options input s t a b kept one two =
       let x = one.answer in
       let y = two.answer in
-      let same : x.made ≡ y.made = same_kept x.made y.made kept x.kept_is y.kept_is in
-      (x.status_is ∙ ap (λ (m : SealedView). run_status m.entries) same ∙ sym y.status_is, x.bytes_are ∙ ap (λ (m : SealedView). run_text options m.entries) same ∙ sym y.bytes_are)
+      let same : x.made ≡ y.made = same_kept x.made y.made kept x.kept_is y.kept_is in (
+        x.status_is ∙ ap (λ (m : SealedView). run_status m.entries) same ∙ sym y.status_is,
+        x.bytes_are
+            ∙ ap (λ (m : SealedView). run_text options m.entries) same ∙ sym y.bytes_are,
+      )
 
   pub runs_told : RunsAreTold
   runs_told options input s t a b kept one two =
       elim one [
-        | inl x ↦ elim two [ inl y ↦ ran_same options input s t a b kept x y | inr y ↦ absurd (runs_apart options input s t a b kept kept x y) ]
+        | inl x ↦ elim two [
+          | inl y ↦ ran_same options input s t a b kept x y
+          | inr y ↦ absurd (runs_apart options input s t a b kept kept x y)
+        ]
         | inr x ↦
             elim two [
               | inl y ↦ absurd (runs_apart options input t s b a kept kept y x)
@@ -110,8 +125,11 @@ runs_lawful options input s a made one =
 
 pub loads_told : LoadsAreTold
 loads_told load s t a b kept one two =
-    let same : one.made ≡ two.made = same_kept one.made two.made kept one.kept_is two.kept_is in
-    (one.status_is ∙ ap (λ (m : SealedView). run_status m.entries) same ∙ sym two.status_is, one.bytes_are ∙ ap (λ (m : SealedView). summary_of m.entries) same ∙ sym two.bytes_are)
+    let same : one.made ≡ two.made = same_kept one.made two.made kept one.kept_is two.kept_is in (
+      one.status_is ∙ ap (λ (m : SealedView). run_status m.entries) same ∙ sym two.status_is,
+      one.bytes_are
+          ∙ ap (λ (m : SealedView). summary_of m.entries) same ∙ sym two.bytes_are,
+    )
 
 pub loads_lawful : LoadsAreLawful
 loads_lawful load s a made one =
@@ -133,7 +151,8 @@ no_load : (load : LoadOptions) (asked : Option Command) → asked ≡ Some (comm
 no_load load asked is none = let runs : run_part asked ≡ Some (commands.Load load) = ap run_part is in cc
 
 module _ (checks : ChecksAreOne) (listings : ListingsAreOne) (audits : AuditsAreOne) (runs : RunsAreTold) (loads : LoadsAreTold) where
-  texts_one : (keep : Keep) (asked : Option Command) (command : Command) (input : List ℕ) → asked ≡ Some command → run_part asked ≡ None → IsOneAnswer (AnswersText keep command input)
+  texts_one : (keep : Keep) (asked : Option Command) (command : Command) (input : List ℕ) → asked ≡ Some command → run_part asked ≡ None
+      → IsOneAnswer (AnswersText keep command input)
   texts_one keep asked commands.Check input is none = checks keep input
   texts_one keep asked commands.List input is none = listings input
   texts_one keep asked (commands.Run options) input is none = absurd (no_run options asked is none)
@@ -167,7 +186,10 @@ module _ (checks : ChecksAreOne) (listings : ListingsAreOne) (audits : AuditsAre
   pub replies_told : RepliesAreTold
   replies_told keep asked input s t a b kept one two =
       elim one [
-        | inl x ↦ elim two [ inl y ↦ (x.status_is ∙ sym y.status_is, x.bytes_are ∙ sym y.bytes_are) | inr y ↦ absurd (not_both y.command asked x.nothing y.is) ]
+        | inl x ↦ elim two [
+          | inl y ↦ (x.status_is ∙ sym y.status_is, x.bytes_are ∙ sym y.bytes_are)
+          | inr y ↦ absurd (not_both y.command asked x.nothing y.is)
+        ]
         | inr x ↦
             elim two [
               | inl y ↦ absurd (not_both x.command asked y.nothing x.is)

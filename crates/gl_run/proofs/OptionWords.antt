@@ -30,7 +30,8 @@ none_within Cells n is = absurd (cc is)
 none_within Size n is = absurd (cc is)
 
 -- a number that is given for one option stands for that one, and those of the others stay
-given_with : (p o : NumberOption) (n : ℕ) (g : Given) → ((p ≡ o) × (given_for o (with_number p n g) ≡ Some n)) ⊎ (given_for o (with_number p n g) ≡ given_for o g)
+given_with : (p o : NumberOption) (n : ℕ) (g : Given) → ((p ≡ o) × (given_for o (with_number p n g) ≡ Some n))
+    ⊎ (given_for o (with_number p n g) ≡ given_for o g)
 given_with Workers Workers n g = inl (refl, refl)
 given_with Workers Steps n g = inr refl
 given_with Workers Segments n g = inr refl
@@ -63,7 +64,8 @@ same_number m n o one two = cc
 pub with_within : (p : NumberOption) (n : ℕ) (g : Given) → IsWithin p n → AreWithin g → AreWithin (with_number p n g)
 with_within p n g within all = λ o m is.
     elim (given_with p o n g) [
-      | inl here ↦ subst (IsWithin o) (same_number n m (given_for o (with_number p n g)) here.1 is) (subst (λ q. IsWithin q n) here.0 within)
+      | inl here ↦ subst (IsWithin o) (same_number n m (given_for o (with_number p n g)) here.1 is)
+          (subst (λ q. IsWithin q n) here.0 within)
       | inr kept ↦ all o m (sym kept ∙ is)
     ]
 
@@ -78,8 +80,10 @@ journal_within g all Size n is = all Size n is
 -- ## Words
 
 -- a word with a name and its number gives the number, and then the words behind it give theirs
-pub joined_read : {A : Type 0} (f : A → Word) (ws : List A) (a : A) (name number : Word) (g more : Given) → 2 ≤ length ws → a ≡ get_or ws 0 a
-    → named (f a) ≡ Some (name, Some number) → give_named g name number ≡ Some more → read_options g (map f ws) ≡ read_options more (map f (take (length ws - 1) (drop 1 ws)))
+pub joined_read : {A : Type 0} (f : A → Word) (ws : List A) (a : A) (name number : Word) (g more : Given) → 2 ≤ length ws → a
+    ≡ get_or ws 0 a
+    → named (f a) ≡ Some (name, Some number) → give_named g name number ≡ Some more → read_options g (map f ws)
+    ≡ read_options more (map f (take (length ws - 1) (drop 1 ws)))
 joined_read f [] a name number g more some first is gives = absurd (omega arith)
 joined_read f (x ∷ []) a name number g more some first is gives = absurd (omega arith)
 joined_read f (x ∷ y ∷ rest) a name number g more some first is gives =
@@ -97,8 +101,10 @@ alone_read f (x ∷ y ∷ rest) a name g more some first is alone gives =
     rw (here, alone, gives, take_all (length (x ∷ y ∷ rest) - 1) (y ∷ rest) (omega arith)) refl
 
 -- a word with another name alone gives the number that the next word says, and then the words behind that give theirs
-pub apart_read : {A : Type 0} (f : A → Word) (ws : List A) (a b : A) (name : Word) (g more : Given) → 2 ≤ length ws → a ≡ get_or ws 0 a → b ≡ get_or ws 1 b
-    → named (f a) ≡ Some (name, None) → is_journal name ≡ false → give_named g name (f b) ≡ Some more → read_options g (map f ws) ≡ read_options more (map f (take (length ws - 2) (drop 2 ws)))
+pub apart_read : {A : Type 0} (f : A → Word) (ws : List A) (a b : A) (name : Word) (g more : Given) → 2 ≤ length ws → a ≡ get_or ws 0 a → b
+    ≡ get_or ws 1 b
+    → named (f a) ≡ Some (name, None) → is_journal name ≡ false → give_named g name (f b) ≡ Some more → read_options g (map f ws)
+    ≡ read_options more (map f (take (length ws - 2) (drop 2 ws)))
 apart_read f [] a b name g more some first second is other gives = absurd (omega arith)
 apart_read f (x ∷ []) a b name g more some first second is other gives = absurd (omega arith)
 apart_read f (x ∷ y ∷ rest) a b name g more some first second is other gives =

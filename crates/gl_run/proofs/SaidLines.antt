@@ -66,7 +66,8 @@ steps_same [] = refl
 steps_same (p ∷ ps) = ap (λ r. step_of p.0 ∷ r) (steps_same ps)
 
 -- lines that a trace can have, none of which has a fault behind those before it, are sound lines of a record, whatever was said of them
-pub said_sound : (done : List Said) → All IsStep (steps_of (lines_said done)) → AreClean (steps_of (lines_said done)) → AreSound (map line_of done)
+pub said_sound : (done : List Said) → All IsStep (steps_of (lines_said done)) → AreClean (steps_of (lines_said done))
+    → AreSound (map line_of done)
 said_sound done range clean = record {
   in_range = λ k l at.
       let s : Step = (l.thread, l.item) in
@@ -77,7 +78,8 @@ said_sound done range clean = record {
 }
 
 -- what is known of one line more, where what is said of all is right
-pub said_next : (done : List Said) (l : TraceLine) (j : Judged) → AreLines (lines_said done ++ l ∷ []) → AreVerdicts (map line_of (done ++ (l, j) ∷ [])) → IsLineAt l j
+pub said_next : (done : List Said) (l : TraceLine) (j : Judged) → AreLines (lines_said done ++ l ∷ [])
+    → AreVerdicts (map line_of (done ++ (l, j) ∷ [])) → IsLineAt l j
 said_next done l j are right =
     let d : List Said = done ++ (l, j) ∷ [] in
     let count : length (verdicts_said d) ≡ length (lines_said d) = said_count d ∙ sym (lines_count d) in
@@ -85,13 +87,16 @@ said_next done l j are right =
     let below : length done < length (lines_said d) = omega (arith, lines_count d, length-append done ((l, j) ∷ [])) in
     let at = line_at (lines_said d) (verdicts_said d) (subst AreLines (sym (lines_push done l j)) are) judged (length done) l j below in
     let here : get_or (lines_said d) (length done) l ≡ l =
-    ap (λ x. get_or x (length done) l) (lines_push done l j) ∙ ap (λ n. get_or (lines_said done ++ l ∷ []) n l) (sym (lines_count done)) ∙ get_or-append_seam (lines_said done) l [] l in
+    ap (λ x. get_or x (length done) l) (lines_push done l j) ∙ ap (λ n. get_or (lines_said done ++ l ∷ []) n l) (sym (lines_count done))
+    ∙ get_or-append_seam (lines_said done) l [] l in
     let there : get_or (verdicts_said d) (length done) j ≡ j =
-    ap (λ x. get_or x (length done) j) (said_push done l j) ∙ ap (λ n. get_or (verdicts_said done ++ j ∷ []) n j) (sym (said_count done)) ∙ get_or-append_seam (verdicts_said done) j [] j in
+    ap (λ x. get_or x (length done) j) (said_push done l j) ∙ ap (λ n. get_or (verdicts_said done ++ j ∷ []) n j) (sym (said_count done))
+    ∙ get_or-append_seam (verdicts_said done) j [] j in
     subst (λ (x : TraceLine). IsLineAt x j) here (subst (λ (y : Judged). IsLineAt (get_or (lines_said d) (length done) l) y) there at)
 
 -- one line more is counted where it is a race
-pub races_push : (done : List Said) (l : TraceLine) (j : Judged) → count_by is_race (verdicts_said (done ++ (l, j) ∷ [])) ≡ count_by is_race (verdicts_said done) + count_by is_race (j ∷ [])
+pub races_push : (done : List Said) (l : TraceLine) (j : Judged) → count_by is_race (verdicts_said (done ++ (l, j) ∷ []))
+    ≡ count_by is_race (verdicts_said done) + count_by is_race (j ∷ [])
 races_push done l j = ap (count_by is_race) (said_push done l j) ∙ sum_by-append (λ x. cond (is_race x) 1 0) (verdicts_said done) (j ∷ [])
 
 first_counted : (j : Judged) (js : List Judged) → count_by is_race (j ∷ js) ≡ count_by is_race (j ∷ []) + count_by is_race js
@@ -105,7 +110,8 @@ status_counted (Performed ∷ js) = status_counted js ∙ ap (λ n. if n == 0 th
 status_counted (Raised var ∷ js) =
     sym (ap (λ b. if b then 0 else 6) (ne_eqb (count_by is_race (Raised var ∷ js)) 0 (λ e. omega (arith, first_counted (Raised var) js))))
 
-pub status_end : (done : List Said) (status races : ℕ) → status ≡ (if races == 0 then 0 else 6) → races ≡ count_by is_race (verdicts_said done) → status ≡ status_of (verdicts_said done)
+pub status_end : (done : List Said) (status races : ℕ) → status ≡ (if races == 0 then 0 else 6) → races
+    ≡ count_by is_race (verdicts_said done) → status ≡ status_of (verdicts_said done)
 status_end done status races is count = is ∙ ap (λ n. if n == 0 then 0 else 6) count ∙ sym (status_counted (verdicts_said done))
 
 pub up_to_more : (a b : ℕ) (tracer : Tracer) → a ≤ b → IsUpTo a tracer → IsUpTo b tracer
@@ -118,7 +124,8 @@ text_end done bytes text races whole front count =
     whole ∙ ap (λ x. x ++ races_line races) front ∙ ap (λ n. flat_map verdict_of done ++ races_line n) count
 
 -- a record of few lines has room for one more
-pub recorded_room : (lines : List Line) (most : ℕ) (tracer : Option Tracer) → 2 * length lines + 1 ≤ most → IsRecorded lines tracer → IfSome tracer (IsUpTo most)
+pub recorded_room : (lines : List Line) (most : ℕ) (tracer : Option Tracer) → 2 * length lines + 1 ≤ most → IsRecorded lines tracer
+    → IfSome tracer (IsUpTo most)
 recorded_room lines most None h recorded = tt
 recorded_room lines most (Some tracer) h recorded = up_to_more (2 * length lines + 1) most tracer h recorded.1
 
@@ -139,7 +146,8 @@ more_on_ok P Q (Ok x) f p = f p
 more_on_ok P Q (Err e) f p = tt
 
 -- what the detector says of one line more
-pub said_on : (done : List Said) (l : TraceLine) (j : Judged) (old new : Detector) → IsStepped l.1 l.2 j old new → AreVerdicts (map line_of done)
+pub said_on : (done : List Said) (l : TraceLine) (j : Judged) (old new : Detector) → IsStepped l.1 l.2 j old new
+    → AreVerdicts (map line_of done)
     → Follows (map line_of done) old → AreLines (lines_said done ++ l ∷ [])
     → AreVerdicts (map line_of (done ++ (l, j) ∷ [])) × Follows (map line_of (done ++ (l, j) ∷ [])) new
 said_on done l j old new stepped right follows are =
@@ -150,8 +158,10 @@ said_on done l j old new stepped right follows are =
     (subst AreVerdicts (sym lines) said.0, subst (λ x. Follows x new) (sym lines) said.1)
 
 -- the text of one verdict more
-pub text_push : (done : List Said) (l : TraceLine) (j : Judged) → flat_map verdict_of done ++ verdict_line l.0 j ≡ flat_map verdict_of (done ++ (l, j) ∷ [])
-text_push done l j = sym (flat_map-append verdict_of done ((l, j) ∷ []) ∙ ap (λ x. flat_map verdict_of done ++ x) (append-nil (verdict_line l.0 j)))
+pub text_push : (done : List Said) (l : TraceLine) (j : Judged) → flat_map verdict_of done ++ verdict_line l.0 j
+    ≡ flat_map verdict_of (done ++ (l, j) ∷ [])
+text_push done l j = sym (flat_map-append verdict_of done ((l, j) ∷ [])
+    ∙ ap (λ x. flat_map verdict_of done ++ x) (append-nil (verdict_line l.0 j)))
 
 pub more_if_ok : {T E : Type 0} (P Q : T → Type 0) (r : Result T E) → ((x : T) → P x → Q x) → IfOk r P → IfOk r Q
 more_if_ok P Q (Ok x) f p = f x p

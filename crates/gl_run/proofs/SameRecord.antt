@@ -25,7 +25,8 @@ some_entry [] some none = omega arith
 some_entry (e ∷ es) some none = cc
 
 -- where each thread has the same list, a list more does not come first
-not_first : (l m : ℕ × List Entry) (ls ms : List (ℕ × List Entry)) → IsRecord (l ∷ ls) → IsRecord (m ∷ ms) → lists_of (l ∷ ls) l.0 ≡ lists_of (m ∷ ms) l.0 → l.0 < m.0 → ⊥
+not_first : (l m : ℕ × List Entry) (ls ms : List (ℕ × List Entry)) → IsRecord (l ∷ ls) → IsRecord (m ∷ ms) → lists_of (l ∷ ls) l.0
+    ≡ lists_of (m ∷ ms) l.0 → l.0 < m.0 → ⊥
 not_first l m ls ms one two same less =
     let higher : AllByRecursion (λ u. l.0 < u) (map (λ x. x.0) ms) = weaker l.0 m.0 less (map (λ x. x.0) ms) two.0.0 in
     some_entry l.1 one.1.0.1 (sym (first_list l ls l.0 refl) ∙ same ∙ other_list m ms l.0 (λ e. omega arith) ∙ no_list ms l.0 higher)
@@ -44,7 +45,10 @@ same_record (l ∷ ls) (m ∷ ms) one two same =
     ap (λ x. x ∷ ls) first ∙ ap (λ xs. m ∷ xs) rest
   where
     both_ways : (a b : ℕ) → (a < b → ⊥) → (b < a → ⊥) → a ≡ b
-    both_ways a b less_never never = elim (cases_lt a b) [ inl less ↦ absurd (less_never less) | inr most ↦ elim (cases_lt b a) [ inl less ↦ absurd (never less) | inr same ↦ omega arith ] ]
+    both_ways a b less_never never = elim (cases_lt a b) [
+      | inl less ↦ absurd (less_never less)
+      | inr most ↦ elim (cases_lt b a) [ inl less ↦ absurd (never less) | inr same ↦ omega arith ]
+    ]
 
     pair_same : (x y : ℕ × List Entry) → x.0 ≡ y.0 → x.1 ≡ y.1 → x ≡ y
     pair_same (t, es) (u, fs) e f = ap (λ n. (n, es)) e ∙ ap (λ l. (u, l)) f

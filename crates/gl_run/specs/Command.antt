@@ -21,7 +21,8 @@ pub record AnswersUsage (asked : Option Command) (status : ℕ) (bytes : List �
   pub kept_is : kept ≡ None
 
 -- words that are a command get what it answers for the input
-pub record AnswersCommand (keep : Keep) (asked : Option Command) (input : List ℕ) (status : ℕ) (bytes : List ℕ) (kept : Option Kept) : Type 0 where
+pub record AnswersCommand (keep : Keep) (asked : Option Command) (input : List ℕ) (status : ℕ) (bytes : List ℕ) (kept : Option Kept) : Type
+    0 where
   pub command : Command
   pub is : asked ≡ Some command
   pub answer : AnswersText keep command input status bytes kept
@@ -56,14 +57,17 @@ IsWhole status =
     ⊎ ((status ≡ REFUSED) ⊎ ((status ≡ RACES) ⊎ ((status ≡ NOT_HALTED) ⊎ (status ≡ NOT_LAWFUL)))))
 
 -- what was written and what is kept, for an input
-pub record HasWritten (keep : Keep) (asked : Option Command) (input : List ℕ) (status : ℕ) (kept : Option Kept) (before now : Option (List ℕ)) : Type 0 where
+pub record HasWritten (keep : Keep) (asked : Option Command) (input : List ℕ) (status : ℕ) (kept : Option Kept)
+    (before now : Option (List ℕ)) : Type 0 where
   pub whole : IsWhole status → (bytes : List ℕ) × Replies keep asked input status bytes kept × Appends before now bytes
-  pub part : status ≡ WRITE_FAILED → (meant : ℕ) × (n : ℕ) × (bytes : List ℕ) × Replies keep asked input meant bytes kept × Appends before now (take n bytes)
+  pub part : status ≡ WRITE_FAILED → (meant : ℕ) × (n : ℕ) × (bytes : List ℕ) × Replies keep asked input meant bytes kept
+      × Appends before now (take n bytes)
   pub nothing : (status ≡ READ_FAILED) ⊎ (status ≡ NO_MEMORY) → Appends before now [] × (kept ≡ None)
   pub other : IsWhole status ⊎ ((status ≡ READ_FAILED) ⊎ ((status ≡ WRITE_FAILED) ⊎ (status ≡ NO_MEMORY)))
 
 -- the same for some input, which is all that the source had left, where it tells that
-pub record Serves (keep : Keep) (asked : Option Command) (left : Option (List ℕ)) (status : ℕ) (kept : Option Kept) (before now : Option (List ℕ)) : Type 0 where
+pub record Serves (keep : Keep) (asked : Option Command) (left : Option (List ℕ)) (status : ℕ) (kept : Option Kept)
+    (before now : Option (List ℕ)) : Type 0 where
   pub input : List ℕ
   pub all : IsTaken left input
   pub written : HasWritten keep asked input status kept before now

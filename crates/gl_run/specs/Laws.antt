@@ -40,13 +40,15 @@ ChecksAreOne = (keep : Keep) (input : List ℕ) → IsOneAnswer (ChecksText keep
 -- no text is both accepted and refused
 abbrev pub ChecksAreApart : Type 0
 ChecksAreApart =
-    (keep : Keep) (input : List ℕ) (s t : ℕ) (a b : List ℕ) (j k : Option Kept) → AcceptsTrace keep input s a j → RefusesTrace input t b k → ⊥
+    (keep : Keep) (input : List ℕ) (s t : ℕ) (a b : List ℕ) (j k : Option Kept) → AcceptsTrace keep input s a j → RefusesTrace input t b k
+    → ⊥
 
 abbrev pub ListingsAreOne : Type 0
 ListingsAreOne = (input : List ℕ) → IsOneAnswer (ListsText input)
 
 abbrev pub ListingsAreApart : Type 0
-ListingsAreApart = (input : List ℕ) (s t : ℕ) (a b : List ℕ) (j k : Option Kept) → AcceptsProgram input s a j → RefusesProgram input t b k → ⊥
+ListingsAreApart = (input : List ℕ) (s t : ℕ) (a b : List ℕ) (j k : Option Kept) → AcceptsProgram input s a j → RefusesProgram input t b k
+    → ⊥
 
 abbrev pub AuditsAreOne : Type 0
 AuditsAreOne = (input : List ℕ) → IsOneAnswer (AuditsText input)
@@ -65,7 +67,8 @@ abbrev pub RunsAreTold : Type 0
 RunsAreTold = (asked : RunOptions) (input : List ℕ) → IsToldByKept (RunsText asked input)
 
 abbrev pub RunsAreApart : Type 0
-RunsAreApart = (asked : RunOptions) (input : List ℕ) (s t : ℕ) (a b : List ℕ) (j k : Option Kept) → AcceptsRun asked input s a j → RefusesRun input t b k → ⊥
+RunsAreApart = (asked : RunOptions) (input : List ℕ) (s t : ℕ) (a b : List ℕ) (j k : Option Kept) → AcceptsRun asked input s a j
+    → RefusesRun input t b k → ⊥
 
 -- what is kept of a run is the closed table of a run of the program and the inputs that the text says, with these options; the status and the bytes are
 -- read off it
@@ -80,7 +83,8 @@ pub record IsKeptRun (asked : RunOptions) (input : List ℕ) (status : ℕ) (byt
 
 abbrev pub RunsAreLawful : Type 0
 RunsAreLawful =
-    (asked : RunOptions) (input : List ℕ) (status : ℕ) (bytes : List ℕ) (made : SealedView) → RunsText asked input status bytes (Some (Run made))
+    (asked : RunOptions) (input : List ℕ) (status : ℕ) (bytes : List ℕ) (made : SealedView)
+    → RunsText asked input status bytes (Some (Run made))
     → IsKeptRun asked input status bytes made
 
 abbrev pub LoadsAreTold : Type 0
@@ -94,7 +98,8 @@ pub record IsKeptLoad (load : LoadOptions) (status : ℕ) (bytes : List ℕ) (ma
 
 abbrev pub LoadsAreLawful : Type 0
 LoadsAreLawful =
-    (load : LoadOptions) (status : ℕ) (bytes : List ℕ) (made : SealedView) → AnswersLoad load status bytes (Some (Run made)) → IsKeptLoad load status bytes made
+    (load : LoadOptions) (status : ℕ) (bytes : List ℕ) (made : SealedView) → AnswersLoad load status bytes (Some (Run made))
+    → IsKeptLoad load status bytes made
 
 -- ## All commands
 

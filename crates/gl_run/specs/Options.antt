@@ -136,7 +136,8 @@ named word = if bytes_eq (take 2 word) (codes "--") then Some (name_and_number (
 -- each option at most once, in any order
 abbrev pub read_options : Given → List Word → Option Given
 read_options g [] = Some g
-read_options g (word ∷ []) = option_and_then (λ p. elim p.1 [ Some number ↦ give_named g p.0 number | None ↦ give_alone g p.0 ]) (named word)
+read_options g (word ∷ []) = option_and_then (λ p. elim p.1 [ Some number ↦ give_named g p.0 number | None ↦ give_alone g p.0 ])
+    (named word)
 read_options g (word ∷ next ∷ rest) = option_and_then (λ p. elim p.1 [
   | Some number ↦ option_and_then (λ more. read_options more (next ∷ rest)) (give_named g p.0 number)
   | None ↦

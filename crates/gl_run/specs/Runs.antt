@@ -70,7 +70,8 @@ abbrev pub run_text : RunOptions → List (ℕ × List Entry) → List ℕ
 run_text asked made = report_of made ++ journal_of asked made
 
 -- the status, the bytes and what is kept of a run of the program: those of one closed table
-pub record AnswersRun (program : Bytecode) (inputs : List ℤ) (asked : RunOptions) (status : ℕ) (bytes : List ℕ) (kept : Option Kept) : Type 0 where
+pub record AnswersRun (program : Bytecode) (inputs : List ℤ) (asked : RunOptions) (status : ℕ) (bytes : List ℕ) (kept : Option Kept) : Type
+    0 where
   pub made : SealedView
   pub run : IsRunOf program inputs asked.threads made
   pub status_is : status ≡ run_status made.entries

@@ -21,4 +21,5 @@ AnswersText keep commands.Audit input status bytes kept = AuditsText input statu
 -- what every text of more bytes than the command reads is answered
 abbrev pub AnswersLonger : Command → ℕ → List ℕ → Option Kept → Type 0
 AnswersLonger command status bytes kept =
-    (keep : Keep) (input : List ℕ) (most : ℕ) → most_of (Some command) ≡ Some most → most < length input → AnswersText keep command input status bytes kept
+    (keep : Keep) (input : List ℕ) (most : ℕ) → most_of (Some command) ≡ Some most → most < length input
+    → AnswersText keep command input status bytes kept

@@ -20,7 +20,8 @@ only_one x t (suc p) s other e own = absurd (cc)
 
 module _ (setting : Setting) (o : ℕ) where
   -- an event of another thread leaves alone what t owns
-  others_keep : (t : ℕ) (old mid : State) (x : Stamp) (value : ℤ) → Step setting old x value mid → (x.thread ≡ t → ⊥) → Owns old t o ↔ Owns mid t o
+  others_keep : (t : ℕ) (old mid : State) (x : Stamp) (value : ℤ) → Step setting old x value mid → (x.thread ≡ t → ⊥)
+      → Owns old t o ↔ Owns mid t o
   others_keep t old mid x value step other =
       let k = state_at setting old mid (x ∷ []) 0 t (value, mid, step, refl) (λ p s e own. only_one x t p s other e own) in
       subst (λ (s : State). Owns s t o ↔ Owns mid t o) k.run (k.owns o)
@@ -39,10 +40,11 @@ module _ (setting : Setting) (o : ℕ) where
   entered : (u : ℕ) (xs : List Stamp) (old now : State) → Run setting old xs now → (Owns old u o → ⊥) → Owns now u o → Entering xs u
   entered u [] old now r none owns = absurd (none (owns.0, ap (λ (s : State). s.monitors o) (sym r) ∙ owns.1))
   entered u (x ∷ xs) old now r none owns = elim (ℕ_discrete x.thread u) [
-    | yes own ↦ elim (take_step o x.thread x.event old.monitors r.1.monitors (monitor_step setting old r.1 x.thread x.event r.0 r.2.effect) (λ w. none (subst (λ t. Owns old t o) own w))) [
-      | inl still ↦ later_entering x xs u (entered u xs r.1 now r.3 (λ w. still (subst (λ t. Owns r.1 t o) (sym own) w)) owns)
-      | inr locks ↦ record { place = 0; event = x; here = refl; own = own; locks = locks }
-    ]
+    | yes own ↦ elim (take_step o x.thread x.event old.monitors r.1.monitors (monitor_step setting old r.1 x.thread x.event r.0 r.2.effect)
+        (λ w. none (subst (λ t. Owns old t o) own w))) [
+          | inl still ↦ later_entering x xs u (entered u xs r.1 now r.3 (λ w. still (subst (λ t. Owns r.1 t o) (sym own) w)) owns)
+          | inr locks ↦ record { place = 0; event = x; here = refl; own = own; locks = locks }
+        ]
     | no other ↦ later_entering x xs u (entered u xs r.1 now r.3 (λ w. none ((others_keep u old r.1 x r.0 r.2 other).1 w)) owns)
   ]
 
@@ -56,18 +58,37 @@ module _ (setting : Setting) (o : ℕ) where
     pub rises : left < entering.place
 
   later_handing : (x : Stamp) (xs : List Stamp) (t u : ℕ) → Handing xs t u → Handing (x ∷ xs) t u
-  later_handing x xs t u k = record { left = suc k.left; leaving = k.leaving; there = k.there; owner = k.owner; unlocks = k.unlocks; entering = later_entering x xs u k.entering; rises = (let l = k.rises in omega arith) }
+  later_handing x xs t u k = record {
+    left = suc k.left;
+    leaving = k.leaving;
+    there = k.there;
+    owner = k.owner;
+    unlocks = k.unlocks;
+    entering = later_entering x xs u k.entering;
+    rises = (let l = k.rises in omega arith);
+  }
 
   -- where t owned it and u owns it later, t has left it and then u has entered it
-  handed : (t u : ℕ) → (t ≡ u → ⊥) → (xs : List Stamp) (old now : State) → Run setting old xs now → Owns old t o → Owns now u o → Handing xs t u
-  handed t u apart [] old now r owned owns = absurd (apart (let e : Owned t owned.0 ≡ Owned u owns.0 = sym owned.1 ∙ ap (λ (s : State). s.monitors o) (sym r) ∙ owns.1 in cc))
+  handed : (t u : ℕ) → (t ≡ u → ⊥) → (xs : List Stamp) (old now : State) → Run setting old xs now → Owns old t o → Owns now u o
+      → Handing xs t u
+  handed t u apart [] old now r owned owns =
+      absurd (apart (let e : Owned t owned.0 ≡ Owned u owns.0 = sym owned.1 ∙ ap (λ (s : State). s.monitors o) (sym r) ∙ owns.1 in cc))
   handed t u apart (x ∷ xs) old now r owned owns = elim (ℕ_discrete x.thread t) [
-    | yes own ↦ elim (own_step o x.thread u x.event old.monitors r.1.monitors (λ e. apart (sym own ∙ e)) (monitor_step setting old r.1 x.thread x.event r.0 r.2.effect) (subst (λ k. Owns old k o) (sym own) owned)) [
-      | inl still ↦ later_handing x xs t u (handed t u apart xs r.1 now r.3 (subst (λ k. Owns r.1 k o) own still) owns)
-      | inr left ↦
-          (let k = entered u xs r.1 now r.3 left.1 owns in
-          record { left = 0; leaving = x; there = refl; owner = own; unlocks = left.0; entering = later_entering x xs u k; rises = omega arith })
-    ]
+    | yes own ↦ elim (own_step o x.thread u x.event old.monitors r.1.monitors (λ e. apart (sym own ∙ e))
+        (monitor_step setting old r.1 x.thread x.event r.0 r.2.effect) (subst (λ k. Owns old k o) (sym own) owned)) [
+          | inl still ↦ later_handing x xs t u (handed t u apart xs r.1 now r.3 (subst (λ k. Owns r.1 k o) own still) owns)
+          | inr left ↦
+              (let k = entered u xs r.1 now r.3 left.1 owns in
+              record {
+                left = 0;
+                leaving = x;
+                there = refl;
+                owner = own;
+                unlocks = left.0;
+                entering = later_entering x xs u k;
+                rises = omega arith;
+              })
+        ]
     | no other ↦ later_handing x xs t u (handed t u apart xs r.1 now r.3 ((others_keep t old r.1 x r.0 r.2 other).0 owned) owns)
   ]
 
@@ -86,17 +107,21 @@ pub own_orders : (h : List Stamp) (a : Access) (q : Question) → a.thread ≡ q
 own_orders h a q own = ∣ inl (by_thread h a q.thread q.commit (inl own)) ∣₁
 
 -- a monitor that both kept orders them
-pub shared_orders : (setting : Setting) (h : List Stamp) (i : Info) (a : Access) (write : Bool) (q : Question) → InfoFor setting h i a write → IsOfNext setting h q → (o : ℕ) → Contains i.held o → Contains q.held o → IsOrderedBefore h a q
+pub shared_orders : (setting : Setting) (h : List Stamp) (i : Info) (a : Access) (write : Bool) (q : Question)
+    → InfoFor setting h i a write → IsOfNext setting h q → (o : ℕ) → Contains i.held o → Contains q.held o → IsOrderedBefore h a q
 shared_orders setting h i a write q stands next o kept keeps = elim (ℕ_discrete a.thread q.thread) [
   | yes own ↦ own_orders h a q own
   | no apart ↦
       (let owned = stands.held.owned o kept in
       let owns = next.held.owned o keeps in
-      let k = between setting (a.block + 1) h (start setting) (start setting) stands.owner next.now (λ p. refl) stands.before next.allowed in
-      let g = handed setting o a.thread q.thread apart (drop (a.block + 1) h) k.mid next.now k.run (owned.0, sym (k.same o) ∙ owned.1) owns in
+      let k = between setting (a.block + 1) h (start setting) (start setting) stands.owner next.now (λ p. refl) stands.before next.allowed
+      in
+      let g = handed setting o a.thread q.thread apart (drop (a.block + 1) h) k.mid next.now k.run (owned.0, sym (k.same o) ∙ owned.1) owns
+      in
       let at = got (a.block + 1) h g.left g.leaving g.there in
       let at' = got (a.block + 1) h g.entering.place g.entering.event g.entering.here in
       let rises = g.rises in
-      let reached = edge_on g.leaving g.entering.event (own_later g.leaving at (omega arith) g.owner) at at' (omega arith) (unlock_lock o g.unlocks g.entering.locks) in
+      let reached = edge_on g.leaving g.entering.event (own_later g.leaving at (omega arith) g.owner) at at' (omega arith)
+      (unlock_lock o g.unlocks g.entering.locks) in
       ∣ inl (by_thread h a q.thread q.commit (inr (a.block + 1 + g.entering.place, (g.entering.event, at', g.entering.own, reached)))) ∣₁)
 ]

@@ -15,7 +15,8 @@ index_here [] o x near = absurd (omega arith)
 index_here (y ∷ l) zero x near = refl
 index_here (y ∷ l) (suc o) x near = index_here l o x (omega arith)
 
-index_else : (l : List (Option (ℕ × ℕ))) (o k : ℕ) (x : Option (ℕ × ℕ)) → k ≢ o → slice_index_or (slice_set l o x) k None ≡ slice_index_or l k None
+index_else : (l : List (Option (ℕ × ℕ))) (o k : ℕ) (x : Option (ℕ × ℕ)) → k ≢ o → slice_index_or (slice_set l o x) k None
+    ≡ slice_index_or l k None
 index_else [] o k x ne = refl
 index_else (y ∷ l) zero zero x ne = absurd (ne refl)
 index_else (y ∷ l) zero (suc k) x ne = refl
@@ -26,7 +27,8 @@ entered_state : (t : ℕ) (old : Option (ℕ × ℕ)) (m : ℕ × ℕ) → Enter
 entered_state t None m e = (ap (λ (n : ℕ × ℕ). Owned n.0 n.1) e, ap (λ (n : ℕ × ℕ). n.0) e)
 entered_state t (Some o) m e = ((e.0, ap (λ (n : ℕ × ℕ). Owned n.0 n.1) e.1), ap (λ (n : ℕ × ℕ). n.0) e.1)
 
-pub enters_step : (setting : Setting) (t o : ℕ) (l l' : ListView) (now : State) → now.threads t ≡ Running → IsStateOf l now → Enters t o l l'
+pub enters_step : (setting : Setting) (t o : ℕ) (l l' : ListView) (now : State) → now.threads t ≡ Running → IsStateOf l now
+    → Enters t o l l'
     → (new : State) × Step setting now (record { thread = t; event = Does (Acq o) }) (pos 0) new × IsStateOf l' new
 enters_step setting t o l l' now runs is e =
     let m : MonitorState = Owned e.next.0 e.next.1 in
@@ -37,7 +39,9 @@ enters_step setting t o l l' now runs is e =
       subst (λ z. IsStateOf z new) (sym e.is) (record {
         threads = is.threads;
         monitors = λ k. elim (ℕ_discrete k o) [
-          | yes same ↦ subst (λ z. with_at now.monitors o m z ≡ monitor_state (slice_index_or (slice_set l.monitors o (Some e.next)) z None)) (sym same) (with_here now.monitors o m ∙ ap monitor_state (sym (index_here l.monitors o (Some e.next) e.near)))
+          | yes same ↦ subst (λ z. with_at now.monitors o m z
+              ≡ monitor_state (slice_index_or (slice_set l.monitors o (Some e.next)) z None)) (sym same) (with_here now.monitors o m
+              ∙ ap monitor_state (sym (index_here l.monitors o (Some e.next) e.near)))
           | no ne ↦ with_else now.monitors o k m ne ∙ is.monitors k ∙ ap monitor_state (sym (index_else l.monitors o k (Some e.next) ne))
         ];
         volatiles = is.volatiles;

@@ -33,4 +33,5 @@ first_is setting main same = record {
 
     threads : (t : ℕ) → (start setting).threads t ≡ thread_state (slice_index_or (first_state main).threads t stage.Never)
     threads zero = ap (λ m. Forked m (pos 0)) same
-    threads (suc t) = with_else (λ _. NeverForked) 0 (suc t) (Forked setting.main (pos 0)) (λ e. absurd (omega arith)) ∙ ap thread_state (sym (same_anywhere 15 t stage.Never))
+    threads (suc t) = with_else (λ _. NeverForked) 0 (suc t) (Forked setting.main (pos 0)) (λ e. absurd (omega arith))
+        ∙ ap thread_state (sym (same_anywhere 15 t stage.Never))

@@ -33,14 +33,25 @@ module _ {A : Type 0} where
   set_else (y ∷ l) (suc o) (suc k) x d ne = set_else l o k x d (λ e. ne (ap suc e))
 
   -- a function that stands for a list, each changed at o
-  changed : {B : Type 0} (f : A → B) (g : ℕ → B) (l : List A) (o : ℕ) (x d : A) → ((k : ℕ) → g k ≡ f (slice_index_or l k d)) → o < length l → (k : ℕ) → with_at g o (f x) k ≡ f (slice_index_or (slice_set l o x) k d)
+  changed : {B : Type 0} (f : A → B) (g : ℕ → B) (l : List A) (o : ℕ) (x d : A) → ((k : ℕ) → g k ≡ f (slice_index_or l k d)) → o < length l
+      → (k : ℕ) → with_at g o (f x) k ≡ f (slice_index_or (slice_set l o x) k d)
   changed f g l o x d same near k = elim (ℕ_discrete k o) [
-    | yes e ↦ subst (λ z. with_at g o (f x) z ≡ f (slice_index_or (slice_set l o x) z d)) (sym e) (with_here g o (f x) ∙ ap f (sym (set_here l o x d near)))
+    | yes e ↦ subst (λ z. with_at g o (f x) z ≡ f (slice_index_or (slice_set l o x) z d)) (sym e) (with_here g o (f x)
+        ∙ ap f (sym (set_here l o x d near)))
     | no ne ↦ with_else g o k (f x) ne ∙ same k ∙ ap f (sym (set_else l o k x d ne))
   ]
 
-stage_set : (l : ListView) (now : State) (t : ℕ) (s : Stage) → IsStateOf l now → t < length l.threads → IsStateOf (with_stage l t s) (record now { threads = with_at now.threads t (thread_state s) })
-stage_set l now t s is near = record { threads = changed thread_state now.threads l.threads t s stage.Never is.threads near; monitors = is.monitors; volatiles = is.volatiles; next_object = is.next_object; next_variable = is.next_variable; next_volatile = is.next_volatile; inputs_taken = is.inputs_taken }
+stage_set : (l : ListView) (now : State) (t : ℕ) (s : Stage) → IsStateOf l now → t < length l.threads
+    → IsStateOf (with_stage l t s) (record now { threads = with_at now.threads t (thread_state s) })
+stage_set l now t s is near = record {
+  threads = changed thread_state now.threads l.threads t s stage.Never is.threads near;
+  monitors = is.monitors;
+  volatiles = is.volatiles;
+  next_object = is.next_object;
+  next_variable = is.next_variable;
+  next_volatile = is.next_volatile;
+  inputs_taken = is.inputs_taken;
+}
 
 never : (s : Stage) → thread_state s ≡ NeverForked → s ≡ stage.Never
 never stage.Never e = refl
@@ -48,16 +59,42 @@ never (stage.Forked f v) e = absurd (cc)
 never stage.Running e = absurd (cc)
 never stage.Ended e = absurd (cc)
 
-pub begins_step : (setting : Setting) (t : ℕ) (l : ListView) (now : State) (f : ℕ) (value : ℤ) → t < length l.threads → IsStateOf l now → stage_of l t ≡ stage.Forked f value → IsStep setting t (with_stage l t stage.Running) (Begin f) value now
-begins_step setting t l now f value near is forked = (record now { threads = with_at now.threads t Running }, record { may = is.threads t ∙ ap thread_state forked; effect = refl }, stage_set l now t stage.Running is near)
+pub begins_step : (setting : Setting) (t : ℕ) (l : ListView) (now : State) (f : ℕ) (value : ℤ) → t < length l.threads → IsStateOf l now
+    → stage_of l t ≡ stage.Forked f value → IsStep setting t (with_stage l t stage.Running) (Begin f) value now
+begins_step setting t l now f value near is forked = (
+  record now { threads = with_at now.threads t Running },
+  record { may = is.threads t ∙ ap thread_state forked; effect = refl },
+  stage_set
+      l now t stage.Running is near,
+)
 
-pub ends_step : (setting : Setting) (t : ℕ) (l : ListView) (now : State) → t < length l.threads → IsStateOf l now → now.threads t ≡ Running → IsStep setting t (with_stage l t stage.Ended) End (pos 0) now
-ends_step setting t l now near is runs = (record now { threads = with_at now.threads t Ended }, record { may = runs; effect = refl }, stage_set l now t stage.Ended is near)
+pub ends_step : (setting : Setting) (t : ℕ) (l : ListView) (now : State) → t < length l.threads → IsStateOf l now → now.threads t ≡ Running
+    → IsStep setting t (with_stage l t stage.Ended) End (pos 0) now
+ends_step setting t l now near is runs = (
+  record now { threads = with_at now.threads t Ended },
+  record { may = runs; effect = refl },
+  stage_set l now t stage.Ended is near,
+)
 
-pub forks_step : (setting : Setting) (t u f : ℕ) (value : ℤ) (l : ListView) (now : State) → u < length l.threads → IsStateOf l now → now.threads t ≡ Running → IsLeastNew l u → Contains setting.forkable f → IsStep setting t (with_stage l u (stage.Forked f value)) (Fork u f) value now
+pub forks_step : (setting : Setting) (t u f : ℕ) (value : ℤ) (l : ListView) (now : State) → u < length l.threads → IsStateOf l now
+    → now.threads t ≡ Running → IsLeastNew l u → Contains setting.forkable f
+    → IsStep setting t (with_stage l u (stage.Forked f value)) (Fork u f) value now
 forks_step setting t u f value l now near is runs new may = (
   record now { threads = with_at now.threads u (Forked f value) },
-  record { may = runs; effect = ((new.some, new.near, is.threads u ∙ ap thread_state new.new, may, λ least w some less e. new.least w some less (never (stage_of l w) (sym (is.threads w) ∙ e))), refl) },
+  record {
+    may = runs;
+    effect = (
+      (
+        new.some,
+        new.near,
+        is.threads u
+            ∙ ap thread_state new.new,
+        may,
+        λ least w some less e. new.least w some less (never (stage_of l w) (sym (is.threads w) ∙ e)),
+      ),
+      refl,
+    );
+  },
   stage_set l now u (stage.Forked f value) is near,
 )
 
@@ -68,27 +105,51 @@ left_state t depth = by (depth == 0)
     by true = refl
     by false = refl
 
-pub leaves_step : (setting : Setting) (t o : ℕ) (l l' : ListView) (now : State) → now.threads t ≡ Running → IsStateOf l now → Leaves t o l l' → IsStep setting t l' (Rel o) (pos 0) now
+pub leaves_step : (setting : Setting) (t o : ℕ) (l l' : ListView) (now : State) → now.threads t ≡ Running → IsStateOf l now
+    → Leaves t o l l' → IsStep setting t l' (Rel o) (pos 0) now
 leaves_step setting t o l l' now runs is leaves =
     let x = left_as t leaves.depth in
     let new : State = record now { monitors = with_at now.monitors o (left_once t leaves.depth) } in
-    let same : (k : ℕ) → with_at now.monitors o (left_once t leaves.depth) k ≡ monitor_state (slice_index_or (slice_set l.monitors o x) k None) = λ k. ap (λ m. with_at now.monitors o m k) (sym (left_state t leaves.depth)) ∙ changed monitor_state now.monitors l.monitors o x None is.monitors leaves.near k in (
+    let same : (k : ℕ) → with_at now.monitors o (left_once t leaves.depth) k
+    ≡ monitor_state (slice_index_or (slice_set l.monitors o x) k None) =
+    λ k. ap (λ m. with_at now.monitors o m k) (sym (left_state t leaves.depth))
+    ∙ changed monitor_state now.monitors l.monitors o x None is.monitors leaves.near k in (
       new,
       record { may = runs; effect = (leaves.depth, (is.monitors o ∙ ap monitor_state leaves.owned), refl) },
-      subst (λ z. IsStateOf z new) (sym leaves.is) (record { threads = is.threads; monitors = same; volatiles = is.volatiles; next_object = is.next_object; next_variable = is.next_variable; next_volatile = is.next_volatile; inputs_taken = is.inputs_taken }),
+      subst (λ z. IsStateOf z new) (sym leaves.is)
+          (record {
+            threads = is.threads;
+            monitors = same;
+            volatiles = is.volatiles;
+            next_object = is.next_object;
+            next_variable = is.next_variable;
+            next_volatile = is.next_volatile;
+            inputs_taken = is.inputs_taken;
+          }),
     )
 
-pub reads_step : (setting : Setting) (t v : ℕ) (l : ListView) (now : State) → now.threads t ≡ Running → IsStateOf l now → IsStep setting t l (VRead v) (word_in l v) now
+pub reads_step : (setting : Setting) (t v : ℕ) (l : ListView) (now : State) → now.threads t ≡ Running → IsStateOf l now
+    → IsStep setting t l (VRead v) (word_in l v) now
 reads_step setting t v l now runs is = (now, record { may = runs; effect = (sym (is.volatiles v), refl) }, is)
 
-pub writes_step : (setting : Setting) (t v : ℕ) (value : ℤ) (l : ListView) (now : State) → v < length l.volatiles → now.threads t ≡ Running → IsStateOf l now → IsStep setting t (with_word l v value) (VWrite v) value now
+pub writes_step : (setting : Setting) (t v : ℕ) (value : ℤ) (l : ListView) (now : State) → v < length l.volatiles → now.threads t ≡ Running
+    → IsStateOf l now → IsStep setting t (with_word l v value) (VWrite v) value now
 writes_step setting t v value l now near runs is = (
   record now { volatiles = with_at now.volatiles v value },
   record { may = runs; effect = refl },
-  record { threads = is.threads; monitors = is.monitors; volatiles = changed (λ z. z) now.volatiles l.volatiles v value (pos 0) is.volatiles near; next_object = is.next_object; next_variable = is.next_variable; next_volatile = is.next_volatile; inputs_taken = is.inputs_taken },
+  record {
+    threads = is.threads;
+    monitors = is.monitors;
+    volatiles = changed (λ z. z) now.volatiles l.volatiles v value (pos 0) is.volatiles near;
+    next_object = is.next_object;
+    next_variable = is.next_variable;
+    next_volatile = is.next_volatile;
+    inputs_taken = is.inputs_taken;
+  },
 )
 
-pub joins_step : (setting : Setting) (t u : ℕ) (l : ListView) (now : State) → now.threads t ≡ Running → IsStateOf l now → stage_of l u ≡ stage.Ended → IsStep setting t l (Join u) (pos 0) now
+pub joins_step : (setting : Setting) (t u : ℕ) (l : ListView) (now : State) → now.threads t ≡ Running → IsStateOf l now → stage_of l u
+    ≡ stage.Ended → IsStep setting t l (Join u) (pos 0) now
 joins_step setting t u l now runs is ended = (now, record { may = runs; effect = (is.threads u ∙ ap thread_state ended, refl) }, is)
 
 fits_of : (l : ListView) (now : State) (fields : ℕ × ℕ) → IsStateOf l now → HasRoom l fields → Fits now fields
@@ -108,28 +169,61 @@ of_fits l now fields is fits = record {
 reference_same : (l : ListView) (now : State) (c : ℕ) → IsStateOf l now → reference_in l c ≡ reference now c
 reference_same l now c is = let a = is.next_object in let b = is.next_variable in let d = is.next_volatile in omega arith
 
-pub makes_step : (setting : Setting) (t c : ℕ) (fields : ℕ × ℕ) (l : ListView) (now : State) → now.threads t ≡ Running → IsStateOf l now → slice_get setting.classes c ≡ Some fields → HasRoom l fields → IsStep setting t (with_object l fields) (Alloc c) (pos (reference_in l c)) now
+pub makes_step : (setting : Setting) (t c : ℕ) (fields : ℕ × ℕ) (l : ListView) (now : State) → now.threads t ≡ Running → IsStateOf l now
+    → slice_get setting.classes c ≡ Some fields → HasRoom l fields
+    → IsStep setting t (with_object l fields) (Alloc c) (pos (reference_in l c)) now
 makes_step setting t c fields l now runs is class room = (
-  record now { next_object = now.next_object + 1; next_variable = now.next_variable + fields.0; next_volatile = now.next_volatile + fields.1 },
+  record now {
+    next_object = now.next_object + 1;
+    next_variable = now.next_variable + fields.0;
+    next_volatile = now.next_volatile + fields.1;
+  },
   record { may = runs; effect = (fields, class, fits_of l now fields is room, ap pos (reference_same l now c is), refl) },
-  record { threads = is.threads; monitors = is.monitors; volatiles = is.volatiles; next_object = ap (λ n. n + 1) is.next_object; next_variable = ap (λ n. n + fields.0) is.next_variable; next_volatile = ap (λ n. n + fields.1) is.next_volatile; inputs_taken = is.inputs_taken },
+  record {
+    threads = is.threads;
+    monitors = is.monitors;
+    volatiles = is.volatiles;
+    next_object = ap (λ n. n + 1) is.next_object;
+    next_variable = ap (λ n. n + fields.0) is.next_variable;
+    next_volatile = ap (λ n. n + fields.1) is.next_volatile;
+    inputs_taken = is.inputs_taken;
+  },
 )
 
-pub prints_step : (setting : Setting) (t : ℕ) (value : ℤ) (l : ListView) (now : State) → now.threads t ≡ Running → IsStateOf l now → IsStep setting t l Print value now
+pub prints_step : (setting : Setting) (t : ℕ) (value : ℤ) (l : ListView) (now : State) → now.threads t ≡ Running → IsStateOf l now
+    → IsStep setting t l Print value now
 prints_step setting t value l now runs is = (
   record now { output = now.output ++ value ∷ [] },
   record { may = runs; effect = refl },
-  record { threads = is.threads; monitors = is.monitors; volatiles = is.volatiles; next_object = is.next_object; next_variable = is.next_variable; next_volatile = is.next_volatile; inputs_taken = is.inputs_taken },
+  record {
+    threads = is.threads;
+    monitors = is.monitors;
+    volatiles = is.volatiles;
+    next_object = is.next_object;
+    next_variable = is.next_variable;
+    next_volatile = is.next_volatile;
+    inputs_taken = is.inputs_taken;
+  },
 )
 
-pub takes_input_step : (setting : Setting) (t : ℕ) (value : ℤ) (l : ListView) (now : State) → now.threads t ≡ Running → IsStateOf l now → slice_get setting.inputs l.inputs_taken ≡ Some value → IsStep setting t (with_input l) Input value now
+pub takes_input_step : (setting : Setting) (t : ℕ) (value : ℤ) (l : ListView) (now : State) → now.threads t ≡ Running → IsStateOf l now
+    → slice_get setting.inputs l.inputs_taken ≡ Some value → IsStep setting t (with_input l) Input value now
 takes_input_step setting t value l now runs is has = (
   record now { inputs_taken = now.inputs_taken + 1 },
   record { may = runs; effect = (ap (slice_get setting.inputs) is.inputs_taken ∙ has, refl) },
-  record { threads = is.threads; monitors = is.monitors; volatiles = is.volatiles; next_object = is.next_object; next_variable = is.next_variable; next_volatile = is.next_volatile; inputs_taken = ap (λ n. n + 1) is.inputs_taken },
+  record {
+    threads = is.threads;
+    monitors = is.monitors;
+    volatiles = is.volatiles;
+    next_object = is.next_object;
+    next_variable = is.next_variable;
+    next_volatile = is.next_volatile;
+    inputs_taken = ap (λ n. n + 1) is.inputs_taken;
+  },
 )
 
-fails : (setting : Setting) (t code : ℕ) (value : ℤ) (l : ListView) (now : State) → now.threads t ≡ Running → IsStateOf l now → Refuses setting now t code value → IsStep setting t l (Fail code) value now
+fails : (setting : Setting) (t code : ℕ) (value : ℤ) (l : ListView) (now : State) → now.threads t ≡ Running → IsStateOf l now
+    → Refuses setting now t code value → IsStep setting t l (Fail code) value now
 fails setting t code value l now runs is refuses = (now, record { may = runs; effect = (refuses, refl) }, is)
 
 owned_as : (m : Option (ℕ × ℕ)) (t depth : ℕ) → monitor_state m ≡ Owned t depth → m ≡ Some (t, depth)
@@ -137,24 +231,36 @@ owned_as None t depth e = absurd (cc)
 owned_as (Some o) t depth e = let a : o.0 ≡ t = cc in let b : o.1 ≡ depth = cc in ap Some (λ i. (a i, b i))
 
 -- of a monitor that the thread does not own
-pub not_owner_step : (setting : Setting) (t o : ℕ) (l : ListView) (now : State) → now.threads t ≡ Running → IsStateOf l now → o < MONITORS → ((depth : ℕ) → monitor_of l o ≡ Some (t, depth) → ⊥) → IsStep setting t l (Fail 5) (pos o) now
-not_owner_step setting t o l now runs is near other = fails setting t 5 (pos o) l now runs is (not_owner refl o refl near (λ owns. other owns.0 (owned_as (monitor_of l o) t owns.0 (sym (is.monitors o) ∙ owns.1))))
+pub not_owner_step : (setting : Setting) (t o : ℕ) (l : ListView) (now : State) → now.threads t ≡ Running → IsStateOf l now → o < MONITORS
+    → ((depth : ℕ) → monitor_of l o ≡ Some (t, depth) → ⊥) → IsStep setting t l (Fail 5) (pos o) now
+not_owner_step setting t o l now runs is near other =
+    fails setting t 5 (pos o) l now runs is (not_owner refl o refl near
+    (λ owns. other owns.0 (owned_as (monitor_of l o) t owns.0 (sym (is.monitors o) ∙ owns.1))))
 
 -- of a class whose object does not fit
-pub heap_full_step : (setting : Setting) (t c : ℕ) (fields : ℕ × ℕ) (l : ListView) (now : State) → now.threads t ≡ Running → IsStateOf l now → slice_get setting.classes c ≡ Some fields → (HasRoom l fields → ⊥) → IsStep setting t l (Fail 6) (pos c) now
-heap_full_step setting t c fields l now runs is class full = fails setting t 6 (pos c) l now runs is (heap_full refl c refl fields class (λ fits. full (of_fits l now fields is fits)))
+pub heap_full_step : (setting : Setting) (t c : ℕ) (fields : ℕ × ℕ) (l : ListView) (now : State) → now.threads t ≡ Running
+    → IsStateOf l now → slice_get setting.classes c ≡ Some fields → (HasRoom l fields → ⊥) → IsStep setting t l (Fail 6) (pos c) now
+heap_full_step setting t c fields l now runs is class full =
+    fails setting t 6 (pos c) l now runs is (heap_full refl c refl fields class (λ fits. full (of_fits l now fields is fits)))
 
 -- where the threads but 0 were all forked
-pub threads_full_step : (setting : Setting) (t : ℕ) (l : ListView) (now : State) → now.threads t ≡ Running → IsStateOf l now → ((w : ℕ) → 0 < w → w < THREADS → stage_of l w ≢ stage.Never) → IsStep setting t l (Fail 7) (pos 0) now
-threads_full_step setting t l now runs is full = fails setting t 7 (pos 0) l now runs is (threads_full refl (λ u some near e. full u some near (never (stage_of l u) (sym (is.threads u) ∙ e))))
+pub threads_full_step : (setting : Setting) (t : ℕ) (l : ListView) (now : State) → now.threads t ≡ Running → IsStateOf l now
+    → ((w : ℕ) → 0 < w → w < THREADS → stage_of l w ≢ stage.Never) → IsStep setting t l (Fail 7) (pos 0) now
+threads_full_step setting t l now runs is full =
+    fails setting t 7 (pos 0) l now runs is (threads_full refl
+    (λ u some near e. full u some near (never (stage_of l u) (sym (is.threads u) ∙ e))))
 
 -- where all inputs were taken
-pub input_end_step : (setting : Setting) (t : ℕ) (l : ListView) (now : State) → now.threads t ≡ Running → IsStateOf l now → slice_get setting.inputs l.inputs_taken ≡ None → IsStep setting t l (Fail 8) (pos 0) now
-input_end_step setting t l now runs is none = fails setting t 8 (pos 0) l now runs is (input_end refl (ap (slice_get setting.inputs) is.inputs_taken ∙ none))
+pub input_end_step : (setting : Setting) (t : ℕ) (l : ListView) (now : State) → now.threads t ≡ Running → IsStateOf l now
+    → slice_get setting.inputs l.inputs_taken ≡ None → IsStep setting t l (Fail 8) (pos 0) now
+input_end_step setting t l now runs is none =
+    fails setting t 8 (pos 0) l now runs is (input_end refl (ap (slice_get setting.inputs) is.inputs_taken ∙ none))
 
 -- of a thread that was never forked
-pub bad_thread_step : (setting : Setting) (t u : ℕ) (l : ListView) (now : State) → now.threads t ≡ Running → IsStateOf l now → u < THREADS → stage_of l u ≡ stage.Never → IsStep setting t l (Fail 11) (pos u) now
-bad_thread_step setting t u l now runs is near new = fails setting t 11 (pos u) l now runs is (bad_thread refl u refl near (is.threads u ∙ ap thread_state new))
+pub bad_thread_step : (setting : Setting) (t u : ℕ) (l : ListView) (now : State) → now.threads t ≡ Running → IsStateOf l now → u < THREADS
+    → stage_of l u ≡ stage.Never → IsStep setting t l (Fail 11) (pos u) now
+bad_thread_step setting t u l now runs is near new =
+    fails setting t 11 (pos u) l now runs is (bad_thread refl u refl near (is.threads u ∙ ap thread_state new))
 
 -- where no thread is live the machine has none
 pub none_live : (l : ListView) (now : State) → IsStateOf l now → ((t : ℕ) → is_live (stage_of l t) ≡ false) → IsQuiet now

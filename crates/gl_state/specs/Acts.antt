@@ -46,7 +46,11 @@ with_word l v value = record l { volatiles = slice_set l.volatiles v value }
 
 -- an object was made
 abbrev pub with_object : ListView → ℕ × ℕ → ListView
-with_object l fields = record l { next_object = l.next_object + 1; next_variable = l.next_variable + fields.0; next_volatile = l.next_volatile + fields.1 }
+with_object l fields = record l {
+  next_object = l.next_object + 1;
+  next_variable = l.next_variable + fields.0;
+  next_volatile = l.next_volatile + fields.1;
+}
 
 -- a number was taken of the inputs
 abbrev pub with_input : ListView → ListView

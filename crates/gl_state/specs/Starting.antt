@@ -9,4 +9,12 @@ empty_row = record { value = pos 0; last_write = None; reads = replicate 16 None
 
 -- thread 0 is forked with the function of main, and nothing else is there
 abbrev pub first_state : ℕ → ListView
-first_state main = record { threads = slice_set (replicate 16 stage.Never) 0 (stage.Forked main (pos 0)); monitors = replicate 256 None; volatiles = replicate 256 (pos 0); next_object = 0; next_variable = 0; next_volatile = 0; inputs_taken = 0 }
+first_state main = record {
+  threads = slice_set (replicate 16 stage.Never) 0 (stage.Forked main (pos 0));
+  monitors = replicate 256 None;
+  volatiles = replicate 256 (pos 0);
+  next_object = 0;
+  next_variable = 0;
+  next_volatile = 0;
+  inputs_taken = 0;
+}

@@ -25,7 +25,8 @@ use Rattle.gl_table.proofs.Out as out
 use Rattle.gl_table.proofs.Passes.{pass_adds}
 
 -- the variable of a row that is held is one that there is
-held_near : (c : List (ℕ × Slot)) (order : List ℕ) (held : List Held) → AreOut c order held → (h : Held) (x : ℕ) → Contains held h → h.object ≡ suc x → x < VARIABLES
+held_near : (c : List (ℕ × Slot)) (order : List ℕ) (held : List Held) → AreOut c order held → (h : Held) (x : ℕ) → Contains held h
+    → h.object ≡ suc x → x < VARIABLES
 held_near c order held gone h x has object =
     let a : h.object < objects = All-contains (λ k. k < objects) order h.object gone.near (out.is_out c order held gone h has) in
     omega arith
@@ -34,21 +35,47 @@ here_in : (x : ℕ) → is_in x (x ∷ []) ≡ true
 here_in x = let b : (x == x) ≡ true = eq-eqb x x refl in rw b refl
 
 -- its list has the entry behind what it had
-pub added_list : (v : View) (t : ℕ) (l : List Entry) (tx : Tx) (why : Why) → first_marked (adds_one v t l (Abort tx why)).shelves ≡ l ++ Abort tx why ∷ []
+pub added_list : (v : View) (t : ℕ) (l : List Entry) (tx : Tx) (why : Why) → first_marked (adds_one v t l (Abort tx why)).shelves ≡ l
+    ++ Abort tx why ∷ []
 added_list v t l tx (Changed var read found) = refl
 added_list v t l tx (Raised var) = refl
 
-module _ (me : table.Me Slot View) (t : ℕ) (mine : List Entry) (seen : ℕ) (order : List ℕ) (quiet : Bool) (p : IsPass me t mine seen order quiet) where
+module _ (me : table.Me Slot View) (t : ℕ) (mine : List Entry) (seen : ℕ) (order : List ℕ) (quiet : Bool)
+    (p : IsPass me t mine seen order quiet) where
   abbrev now : View
   now = caught_up me.0 t mine
 
-  may_add : (tx : Tx) (why : Why) → MayAbortAs (shelf t mine) now tx why → (u : View) → u ≡ adds_one now t mine (Abort tx why) → MayAdd now (Abort tx why) u
-  may_add tx (Changed var read found) m u added = (shelf t mine, refl, (m.0, m.1, added ∙ ap (λ k. dropped now t mine (Abort tx (Changed var read found)) (var ∷ []) (draw t k (Looked found))) (ap or_zero m.1.drop.block)))
-  may_add tx (Raised var) m u added = (shelf t mine, refl, (m.0, m.1, m.2, m.3, added ∙ ap (λ k. dropped now t mine (Abort tx (Raised var)) (variables_of tx) (draw t k (Entered (Abort tx (Raised var))))) (ap or_zero (m.3 trace_setting).drop.block)))
+  may_add : (tx : Tx) (why : Why) → MayAbortAs (shelf t mine) now tx why → (u : View) → u ≡ adds_one now t mine (Abort tx why)
+      → MayAdd now (Abort tx why) u
+  may_add tx (Changed var read found) m u added = (
+    shelf t mine,
+    refl,
+    (
+      m.0,
+      m.1,
+      added ∙ ap
+          (λ k. dropped now t mine (Abort tx (Changed var read found)) (var ∷ []) (draw t k (Looked found))) (ap or_zero m.1.drop.block),
+    ),
+  )
+  may_add tx (Raised var) m u added = (
+    shelf t mine,
+    refl,
+    (
+      m.0,
+      m.1,
+      m.2,
+      m.3,
+      added
+          ∙ ap (λ k. dropped now t mine (Abort tx (Raised var)) (variables_of tx) (draw t k (Entered (Abort tx (Raised var)))))
+          (ap or_zero (m.3 trace_setting).drop.block),
+    ),
+  )
 
   pub abort_kept : (tx : Tx) (why : Why) → MayAbortAs (shelf t mine) now tx why → IsWhyKept why
-  abort_kept tx (Changed var read found) m = let r = m.1.drop.rows var (here_in var) in held_near me.1 order now.held p.out r.one var r.held r.object
-  abort_kept tx (Raised var) m = let f = m.3 trace_setting in let r = f.drop.rows var f.touches in held_near me.1 order now.held p.out r.one var r.held r.object
+  abort_kept tx (Changed var read found) m = let r = m.1.drop.rows var (here_in var)
+      in held_near me.1 order now.held p.out r.one var r.held r.object
+  abort_kept tx (Raised var) m = let f = m.3 trace_setting in let r = f.drop.rows var f.touches
+      in held_near me.1 order now.held p.out r.one var r.held r.object
 
   same_seen : (tx : Tx) (why : Why) → (adds_one now t mine (Abort tx why)).seen ≡ now.seen
   same_seen tx (Changed var read found) = refl
@@ -63,8 +90,12 @@ module _ (me : table.Me Slot View) (t : ℕ) (mine : List Entry) (seen : ℕ) (o
   same_stored tx (Raised var) = refl
 
   gone : (tx : Tx) (why : Why) → AreOut me.1 order (adds_one now t mine (Abort tx why)).held
-  gone tx (Changed var read found) = out.out_mapped me.1 order now.held p.out (with_drew (var ∷ []) (draw t (block_of mine) (Looked found))) (λ h. refl)
-  gone tx (Raised var) = out.out_mapped me.1 order now.held p.out (with_drew (variables_of tx) (draw t (block_of mine) (Entered (Abort tx (Raised var))))) (λ h. refl)
+  gone tx (Changed var read found) = out.out_mapped me.1 order now.held p.out
+      (with_drew (var ∷ []) (draw t (block_of mine) (Looked found))) (λ h. refl)
+  gone tx (Raised var) = out.out_mapped me.1 order now.held p.out
+      (with_drew (variables_of tx) (draw t (block_of mine) (Entered (Abort tx (Raised var))))) (λ h. refl)
 
-  pub pass_aborts : (tx : Tx) (why : Why) (mine' : List Entry) → MayAbortAs (shelf t mine) now tx why → IsTxKept tx → mine' ≡ mine ++ Abort tx why ∷ [] → IsPass me t mine' seen order quiet × (caught_up me.0 t mine' ≡ adds_one now t mine (Abort tx why))
-  pass_aborts tx why mine' m kept more = pass_adds me t mine seen order quiet p (Abort tx why) mine' (may_add tx why m) (same_seen tx why) (same_quiet tx why) (same_stored tx why) (gone tx why) refl (kept, abort_kept tx why m) more
+  pub pass_aborts : (tx : Tx) (why : Why) (mine' : List Entry) → MayAbortAs (shelf t mine) now tx why → IsTxKept tx → mine' ≡ mine
+      ++ Abort tx why ∷ [] → IsPass me t mine' seen order quiet × (caught_up me.0 t mine' ≡ adds_one now t mine (Abort tx why))
+  pass_aborts tx why mine' m kept more = pass_adds me t mine seen order quiet p (Abort tx why) mine' (may_add tx why m) (same_seen tx why)
+      (same_quiet tx why) (same_stored tx why) (gone tx why) refl (kept, abort_kept tx why m) more

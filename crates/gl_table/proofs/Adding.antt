@@ -12,18 +12,29 @@ use Rattle.gl_table.specs.PassInside.{IsReady}
 use Rattle.gl_rule.specs.View.{View, Shelf, shelf}
 
 -- an entry is added as adds_to says
-may_add_is : (v mid : View) (e : Entry) → MayAdd v e mid → (s : Shelf) × (v.shelves ≡ s ∷ []) × (mid ≡ adds_one v s.thread s.marked e) × (mid.shelves ≡ shelf s.thread (s.marked ++ e ∷ []) ∷ [])
+may_add_is : (v mid : View) (e : Entry) → MayAdd v e mid → (s : Shelf) × (v.shelves ≡ s ∷ []) × (mid ≡ adds_one v s.thread s.marked e)
+    × (mid.shelves ≡ shelf s.thread (s.marked ++ e ∷ []) ∷ [])
 may_add_is v mid (Over ending) may = (may.0, may.1, may.3, ap (λ (u : View). u.shelves) may.3)
 may_add_is v mid (Abort tx (Changed var read found)) may =
     let q = may.2 in
     let s = may.0 in
-    let at = ap or_zero q.1.drop.block in
-    (s, may.1, q.2 ∙ ap (λ p. dropped v s.thread s.marked (Abort tx (Changed var read found)) (var ∷ []) (draw s.thread p (Looked found))) (sym at), ap (λ (u : View). u.shelves) q.2)
+    let at = ap or_zero q.1.drop.block in (
+      s,
+      may.1,
+      q.2 ∙ ap (λ p. dropped v s.thread s.marked (Abort tx (Changed var read found)) (var ∷ []) (draw s.thread p (Looked found)))
+          (sym at),
+      ap (λ (u : View). u.shelves) q.2,
+    )
 may_add_is v mid (Abort tx (Raised var)) may =
     let q = may.2 in
     let s = may.0 in
-    let at = ap or_zero (q.3 trace_setting).drop.block in
-    (s, may.1, q.4 ∙ ap (λ p. dropped v s.thread s.marked (Abort tx (Raised var)) (variables_of tx) (draw s.thread p (Entered (Abort tx (Raised var))))) (sym at), ap (λ (u : View). u.shelves) q.4)
+    let at = ap or_zero (q.3 trace_setting).drop.block in (
+      s,
+      may.1,
+      q.4 ∙ ap (λ p. dropped v s.thread s.marked (Abort tx (Raised var)) (variables_of tx)
+          (draw s.thread p (Entered (Abort tx (Raised var))))) (sym at),
+      ap (λ (u : View). u.shelves) q.4,
+    )
 may_add_is v mid (Plain x k true write value false) may = (may.0, may.1, may.3, ap (λ (u : View). u.shelves) may.3)
 may_add_is v mid (Plain x k true write value true) may = absurd may
 may_add_is v mid (Plain x k false write value raised) may = absurd may
@@ -34,7 +45,8 @@ may_add_is v mid (Trim a) may = absurd may
 one_shelf : (a c : Shelf) → a ∷ [] ≡ c ∷ [] → a ≡ c
 one_shelf a c e = cc
 
-adding_is : (v u : View) (more : List Entry) (t : ℕ) (l : List Entry) → v.shelves ≡ shelf t l ∷ [] → Adding v more u → (u ≡ adds_all v more) × (u.shelves ≡ shelf t (l ++ more) ∷ [])
+adding_is : (v u : View) (more : List Entry) (t : ℕ) (l : List Entry) → v.shelves ≡ shelf t l ∷ [] → Adding v more u
+    → (u ≡ adds_all v more) × (u.shelves ≡ shelf t (l ++ more) ∷ [])
 adding_is v u [] t l one adds = (adds, ap (λ (z : View). z.shelves) adds ∙ one ∙ ap (λ k. shelf t k ∷ []) (sym (append-nil l)))
 adding_is v u (e ∷ more) t l one adds =
     let mid = adds.0 in
@@ -57,7 +69,8 @@ drop_front [] m = refl
 drop_front (x ∷ l) m = drop_front l m
 
 -- one entry more, which may be added to what the pass has
-pub ready_push : (v : View) (t : ℕ) (mine : List Entry) (e : Entry) → IsReady v t mine → ((u : View) → u ≡ adds_one (caught_up v t mine) t mine e → MayAdd (caught_up v t mine) e u)
+pub ready_push : (v : View) (t : ℕ) (mine : List Entry) (e : Entry) → IsReady v t mine
+    → ((u : View) → u ≡ adds_one (caught_up v t mine) t mine e → MayAdd (caught_up v t mine) e u)
     → IsReady v t (mine ++ e ∷ []) × (caught_up v t (mine ++ e ∷ []) ≡ adds_one (caught_up v t mine) t mine e)
 ready_push v t mine e ready may =
     let l = first_marked v.shelves in
@@ -67,6 +80,17 @@ ready_push v t mine e ready may =
     let b : drop (length l) (mine ++ e ∷ []) ≡ ready.more ++ e ∷ [] = ap (drop (length l)) is ∙ drop_front l (ready.more ++ e ∷ []) in
     let f : View → View = λ z. record z { shelves = shelf t (mine ++ e ∷ []) ∷ [] } in
     let m = may_add_is u (adds_one u t mine e) e (may (adds_one u t mine e) refl) in
-    let kept : f (adds_one u t mine e) ≡ adds_one u t mine e = ap (λ k. record (adds_one u t mine e) { shelves = k }) (sym (m.3 ∙ ap (λ (z : Shelf). shelf z.thread (z.marked ++ e ∷ []) ∷ []) (sym (one_shelf (shelf t mine) m.0 m.1)))) in
-    let c : caught_up v t (mine ++ e ∷ []) ≡ adds_one u t mine e = ap (λ k. f (adds_all v k)) b ∙ ap f (all_push v ready.more e ∙ ap (λ z. adds_to z e) (sym a.0)) ∙ kept in
-    (record { more = ready.more ++ e ∷ []; one = ready.one; is = is; adds = adding_push v u _ ready.more e ready.adds (may _ c); named = ready.named }, c)
+    let kept : f (adds_one u t mine e) ≡ adds_one u t mine e =
+    ap (λ k. record (adds_one u t mine e) { shelves = k })
+    (sym (m.3 ∙ ap (λ (z : Shelf). shelf z.thread (z.marked ++ e ∷ []) ∷ []) (sym (one_shelf (shelf t mine) m.0 m.1)))) in
+    let c : caught_up v t (mine ++ e ∷ []) ≡ adds_one u t mine e = ap (λ k. f (adds_all v k)) b
+    ∙ ap f (all_push v ready.more e ∙ ap (λ z. adds_to z e) (sym a.0)) ∙ kept in (
+      record {
+        more = ready.more ++ e ∷ [];
+        one = ready.one;
+        is = is;
+        adds = adding_push v u _ ready.more e ready.adds (may _ c);
+        named = ready.named;
+      },
+      c,
+    )

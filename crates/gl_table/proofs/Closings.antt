@@ -18,7 +18,8 @@ use Rattle.gl_table.specs.Ending.{ClosedTold}
 use Rattle.gl_table.specs.PassView.{PassView}
 
 -- a load by any seat tells what the record is, should the seat have all lists
-pub load_tells : (key : Key) (slots id : ℕ) (v : View) (c : List (ℕ × Slot)) → table.Allows (Rule key) slots id (v, c) 0 (λ n. n) (λ n w. ClosedTold key v w)
+pub load_tells : (key : Key) (slots id : ℕ) (v : View) (c : List (ℕ × Slot))
+    → table.Allows (Rule key) slots id (v, c) 0 (λ n. n) (λ n w. ClosedTold key v w)
 load_tells key slots id v c s rule long here fits =
     let w = rule.0 in
     let H = rule.1 in (
@@ -32,7 +33,8 @@ load_tells key slots id v c s rule long here fits =
       },
     )
 
-pub may_close : (key key' : Key) (slots id : ℕ) (me : table.Me Slot View) (u : View) → u ≡ me.0 → key' ≡ key → table.Allows (Rule key) slots id me 0 (λ n. n) (λ n w. ClosedTold key' u w)
+pub may_close : (key key' : Key) (slots id : ℕ) (me : table.Me Slot View) (u : View) → u ≡ me.0 → key' ≡ key
+    → table.Allows (Rule key) slots id me 0 (λ n. n) (λ n w. ClosedTold key' u w)
 may_close key key' slots id me u is same =
     subst (λ k. table.Allows (Rule key) slots id me 0 (λ n. n) (λ n w. ClosedTold k u w)) (sym same)
     (subst (λ z. table.Allows (Rule key) slots id me 0 (λ n. n) (λ n w. ClosedTold key z w)) (sym is) (load_tells key slots id me.0 me.1))
@@ -40,25 +42,31 @@ may_close key key' slots id me u is same =
 -- the lists after the first are of other threads
 apart_from : (t u n : ℕ) → t < u → All (λ (r : Shelf). r.thread ≡ t → ⊥) (shelves_from u n)
 apart_from t u zero h = All-nil (λ (r : Shelf). r.thread ≡ t → ⊥)
-apart_from t u (suc n) h = All-cons (λ (r : Shelf). r.thread ≡ t → ⊥) (shelf u []) (shelves_from (suc u) n) (λ e. omega arith) (apart_from t (suc u) n (omega arith))
+apart_from t u (suc n) h = All-cons (λ (r : Shelf). r.thread ≡ t → ⊥) (shelf u []) (shelves_from (suc u) n) (λ e. omega arith)
+    (apart_from t (suc u) n (omega arith))
 
 shelves_next : (t : ℕ) → t < 16 → shelves_from t (16 - t) ≡ shelf t [] ∷ shelves_from (suc t) (15 - t)
 shelves_next t h = let e : 16 - t ≡ suc (15 - t) = omega arith in ap (shelves_from t) e
 
-pub cuts : (key : Key) (id t : ℕ) (v : View) → t < 16 → v ≡ blank (shelves_from t (16 - t)) → table.Splits (Rule key) id v (rest_of v) (first_of v)
+pub cuts : (key : Key) (id t : ℕ) (v : View) → t < 16 → v ≡ blank (shelves_from t (16 - t))
+    → table.Splits (Rule key) id v (rest_of v) (first_of v)
 cuts key id t v h is =
     let e : v ≡ blank (shelf t [] ∷ shelves_from (suc t) (15 - t)) = is ∙ ap blank (shelves_next t h) in
-    subst (λ (z : View). table.Splits (Rule key) id v (rest_of z) (first_of z)) (sym e) (splits key id t v (shelves_from (suc t) (15 - t)) e (apart_from t (suc t) (15 - t) (omega arith)))
+    subst (λ (z : View). table.Splits (Rule key) id v (rest_of z) (first_of z)) (sym e)
+    (splits key id t v (shelves_from (suc t) (15 - t)) e (apart_from t (suc t) (15 - t) (omega arith)))
 
-pub cut_views : (t : ℕ) (v : View) → t < 16 → v ≡ blank (shelves_from t (16 - t)) → (rest_of v ≡ blank (shelves_from (t + 1) (15 - t))) × (first_of v ≡ blank (shelf t [] ∷ []))
+pub cut_views : (t : ℕ) (v : View) → t < 16 → v ≡ blank (shelves_from t (16 - t)) → (rest_of v ≡ blank (shelves_from (t + 1) (15 - t)))
+    × (first_of v ≡ blank (shelf t [] ∷ []))
 cut_views t v h is =
     let e : v ≡ blank (shelf t [] ∷ shelves_from (suc t) (15 - t)) = is ∙ ap blank (shelves_next t h) in
     let n : suc t ≡ t + 1 = omega arith in
     (ap rest_of e ∙ ap (λ k. blank (shelves_from k (15 - t))) n, ap first_of e)
 
-pub fresh_next : (z : TableId) (t : ℕ) (ps : List PassView) → t < 16 → (ps ++ fresh z t ∷ []) ++ fresh_from z (t + 1) (16 - (t + 1)) ≡ ps ++ fresh_from z t (16 - t)
+pub fresh_next : (z : TableId) (t : ℕ) (ps : List PassView) → t < 16 → (ps ++ fresh z t ∷ []) ++ fresh_from z (t + 1) (16 - (t + 1)) ≡ ps
+    ++ fresh_from z t (16 - t)
 fresh_next z t ps h =
     let a : 16 - (t + 1) ≡ 15 - t = omega arith in
     let b : 16 - t ≡ suc (15 - t) = omega arith in
     let n : t + 1 ≡ suc t = omega arith in
-    append_assoc ps (fresh z t ∷ []) (fresh_from z (t + 1) (16 - (t + 1))) ∙ ap (λ k. ps ++ fresh z t ∷ fresh_from z (t + 1) k) a ∙ ap (λ k. ps ++ fresh z t ∷ fresh_from z k (15 - t)) n ∙ sym (ap (λ k. ps ++ fresh_from z t k) b)
+    append_assoc ps (fresh z t ∷ []) (fresh_from z (t + 1) (16 - (t + 1))) ∙ ap (λ k. ps ++ fresh z t ∷ fresh_from z (t + 1) k) a
+    ∙ ap (λ k. ps ++ fresh z t ∷ fresh_from z k (15 - t)) n ∙ sym (ap (λ k. ps ++ fresh_from z t k) b)

@@ -40,13 +40,15 @@ with_list p l = after p (took (view_of p) 0 (slot.List l))
 
 -- and the first segment and the tail loaded
 abbrev pub with_room : PassView → ListView → ℕ → ℕ → PassView
-with_room p l low tail = after (after (with_list p l) (saw (view_of (with_list p l)) (Hold 0 low))) (saw_tail (view_of (after (with_list p l) (saw (view_of (with_list p l)) (Hold 0 low)))) tail)
+with_room p l low tail = after (after (with_list p l) (saw (view_of (with_list p l)) (Hold 0 low)))
+    (saw_tail (view_of (after (with_list p l) (saw (view_of (with_list p l)) (Hold 0 low)))) tail)
 
 not_begin : (act : Act) → Type 0
 not_begin act = (at : ℕ) (value : ℤ) → IsBegin (Sync at act value) → ⊥
 
 -- an act's entry may be stored by a thread that runs
-pub may_store : (t : ℕ) (es : List Entry) (n : ℕ) (act : Act) (value : ℤ) → life_of es ≡ Running → EntryForm t (Sync n act value) → MayStore t es (Sync n act value)
+pub may_store : (t : ℕ) (es : List Entry) (n : ℕ) (act : Act) (value : ℤ) → life_of es ≡ Running → EntryForm t (Sync n act value)
+    → MayStore t es (Sync n act value)
 may_store t es n act value runs form = record {
   well_formed = form;
   begins = λ _ all. absurd (let b = has_begun es runs in b.1.2 (all b.0 b.1.0 b.1.1));
@@ -61,12 +63,14 @@ one_shelf : (a c : Shelf) → a ∷ [] ≡ c ∷ [] → a ≡ c
 one_shelf a c e = cc
 
 -- the thread runs in each state that the list's state may stand for
-pub state_runs : (setting : Setting) (p : PassView) (l : ListView) → StateTold setting (view_of p) l → life_of p.own.mine ≡ Running → (now : State) → IsStateOf l now → now.threads p.own.id ≡ Runs
+pub state_runs : (setting : Setting) (p : PassView) (l : ListView) → StateTold setting (view_of p) l → life_of p.own.mine ≡ Running
+    → (now : State) → IsStateOf l now → now.threads p.own.id ≡ Runs
 state_runs setting p l told runs now is =
     let b = has_block p.own.mine runs in
     let s : told.shelf ≡ shelf_of p = sym (one_shelf (shelf_of p) told.shelf told.one) in
     let own = subst (λ (z : Shelf). Rattle.gl_draws.specs.Events.AreEvents told.log z.thread z.marked) s told.own in
-    is.threads p.own.id ∙ sym (told.is.threads p.own.id) ∙ running_law setting told.log told.now p.own.id b.0 p.own.mine told.allowed own b.1 (no_end p.own.mine runs)
+    is.threads p.own.id ∙ sym (told.is.threads p.own.id)
+    ∙ running_law setting told.log told.now p.own.id b.0 p.own.mine told.allowed own b.1 (no_end p.own.mine runs)
 
 some_owned : (m : Option (ℕ × ℕ)) (k : ℕ × ℕ) → m ≡ Some k → monitor_state m ≡ Owned k.0 k.1
 some_owned m k e = ap monitor_state e
@@ -80,8 +84,10 @@ shallow setting v l o told = record {
 }
 
 -- what the machine allows may be published
-pub may_publish_act : (z : TableView) (p : PassView) (l l' : ListView) (low tail : ℕ) (act : Act) (value : ℤ) → MayAct z p → tail < low * z.key.cells + capacity z.key → IsActInRange act → EntryForm p.own.id (Sync tail act value)
-    → ((now : State) → IsStateOf l now → (new : State) × Step z.key.setting now (record { thread = p.own.id; event = Does act }) value new × IsStateOf l' new)
+pub may_publish_act : (z : TableView) (p : PassView) (l l' : ListView) (low tail : ℕ) (act : Act) (value : ℤ) → MayAct z p
+    → tail < low * z.key.cells + capacity z.key → IsActInRange act → EntryForm p.own.id (Sync tail act value)
+    → ((now : State) → IsStateOf l now → (new : State) × Step z.key.setting now (record { thread = p.own.id; event = Does act }) value new
+    × IsStateOf l' new)
     → MayPublishAct z.key (with_room p l low tail) act value l'
 may_publish_act z p l l' low tail act value may room range form step = record {
   held = with_tail tail (new_held 0 (slot.List l));
@@ -114,21 +120,40 @@ may_publish_act z p l l' low tail act value may room range form step = record {
     last_read (y ∷ xs) x = let r = last_read xs x in let near = r.1 in (suc r.0, omega arith, r.2)
 
 -- the list may go back as it was taken
-pub may_put_back : (setting : Setting) (p : PassView) (l : ListView) → MayPutBack setting (shelf_of (with_list p l)) (view_of (with_list p l)) 0 (slot.List l) false
-may_put_back setting p l = record { held = new_held 0 (slot.List l); has = (0, omega arith, refl); object = refl; may = refl; quiet = λ e. absurd (cc) }
+pub may_put_back : (setting : Setting) (p : PassView) (l : ListView)
+    → MayPutBack setting (shelf_of (with_list p l)) (view_of (with_list p l)) 0 (slot.List l) false
+may_put_back setting p l = record {
+  held = new_held 0 (slot.List l);
+  has = (0, omega arith, refl);
+  object = refl;
+  may = refl;
+  quiet =
+      λ e. absurd (cc);
+}
 
-pub may_put_full : (setting : Setting) (p : PassView) (l : ListView) (low tail : ℕ) → MayPutBack setting (shelf_of (with_room p l low tail)) (view_of (with_room p l low tail)) 0 (slot.List l) false
-may_put_full setting p l low tail = record { held = with_tail tail (new_held 0 (slot.List l)); has = (0, omega arith, refl); object = refl; may = refl; quiet = λ e. absurd (cc) }
+pub may_put_full : (setting : Setting) (p : PassView) (l : ListView) (low tail : ℕ)
+    → MayPutBack setting (shelf_of (with_room p l low tail)) (view_of (with_room p l low tail)) 0 (slot.List l) false
+may_put_full setting p l low tail = record {
+  held = with_tail tail (new_held 0 (slot.List l));
+  has = (0, omega arith, refl);
+  object =
+      refl;
+  may = refl;
+  quiet = λ e. absurd (cc);
+}
 
 leave_list : (setting : Setting) (s : Shelf) (v : View) (h : Held) (k : ℕ) (x y : Slot) → k ≡ 0 → y ≡ x → MayLeaveAt setting s v h k x y
 leave_list setting s v h k x y e is = subst (λ z. MayLeaveAt setting s v h z x y) (sym e) is
 
 taken_after : (n : ℕ) (y : Slot) (drew : Held → Option Draw) (h : Held) → h.object ≡ 0 → (after_publish n y drew h).taken ≡ y
-taken_after n y drew h e = ap (λ b. (if b then record h { taken = y; tails = suc n ∷ [] } else record h { tails = suc n ∷ h.tails; drew = drew h }).taken) (eq-eqb h.object 0 e)
+taken_after n y drew h e = ap (λ b. (if b then record h { taken = y; tails = suc n ∷ [] }
+    else record h { tails = suc n ∷ h.tails; drew = drew h }).taken) (eq-eqb h.object 0 e)
 
 -- and once the act is published it may go back as it is then
-pub may_put_told : (key : Key) (setting : Setting) (p : PassView) (act : Act) (value : ℤ) (l : ListView) (n : ℕ) (q : PassView) → MayPublishAct key p act value l
-    → q ≡ after_storing p (published (view_of p) p.own.id p.own.mine (Sync n act value) n (record { thread = p.own.id; event = Does act }) (slot.List l) (λ g. g.drew)) → MayPutBack setting (shelf_of q) (view_of q) 0 (slot.List l) false
+pub may_put_told : (key : Key) (setting : Setting) (p : PassView) (act : Act) (value : ℤ) (l : ListView) (n : ℕ) (q : PassView)
+    → MayPublishAct key p act value l
+    → q ≡ after_storing p (published (view_of p) p.own.id p.own.mine (Sync n act value) n (record { thread = p.own.id; event = Does act })
+    (slot.List l) (λ g. g.drew)) → MayPutBack setting (shelf_of q) (view_of q) 0 (slot.List l) false
 may_put_told key setting p act value l n q m is =
     let drew : Held → Option Draw = λ g. g.drew in
     let y = slot.List l in
@@ -139,24 +164,35 @@ may_put_told key setting p act value l n q m is =
       held = h;
       has = in_mapped (after_publish n y drew) p.own.held m.held m.may.held;
       object = zero_object;
-      may = leave_list setting (shelf_of (after_storing p u)) (view_of (after_storing p u)) h h.object h.taken y zero_object (sym (taken_after n y drew m.held m.may.list));
+      may = leave_list setting (shelf_of (after_storing p u)) (view_of (after_storing p u)) h h.object h.taken y zero_object
+          (sym (taken_after n y drew m.held m.may.list));
       quiet = λ e. absurd (cc);
     })
 
 -- the act is one step of the machine
 pub is_step : (setting : Setting) (p : PassView) (l l' : ListView) (act : Act) (value : ℤ) → StateTold setting (view_of p) l
-    → ((now : State) → IsStateOf l now → (new : State) × Step setting now (record { thread = p.own.id; event = Does act }) value new × IsStateOf l' new) → IsStepOf setting p act value
+    → ((now : State) → IsStateOf l now → (new : State) × Step setting now (record { thread = p.own.id; event = Does act }) value new
+    × IsStateOf l' new) → IsStepOf setting p act value
 is_step setting p l l' act value told step =
     let s : told.shelf ≡ shelf_of p = sym (one_shelf (shelf_of p) told.shelf told.one) in
     let r = step told.now told.is in
-    record { log = told.log; now = told.now; allowed = told.allowed; own = subst (λ (z : Shelf). Rattle.gl_draws.specs.Events.AreEvents told.log z.thread z.marked) s told.own; new = r.0; step = r.1 }
+    record {
+      log = told.log;
+      now = told.now;
+      allowed = told.allowed;
+      own =
+          subst (λ (z : Shelf). Rattle.gl_draws.specs.Events.AreEvents told.log z.thread z.marked) s told.own;
+      new = r.0;
+      step = r.1;
+    }
 
 -- a row was taken
 abbrev pub with_row : PassView → ℕ → Row → PassView
 with_row p x row = after p (took (view_of p) (suc x) (slot.Row row))
 
 -- and may go back as it was taken
-pub may_put_row : (setting : Setting) (p : PassView) (x : ℕ) (row : Row) → MayPutBack setting (shelf_of (with_row p x row)) (view_of (with_row p x row)) (suc x) (slot.Row row) false
+pub may_put_row : (setting : Setting) (p : PassView) (x : ℕ) (row : Row)
+    → MayPutBack setting (shelf_of (with_row p x row)) (view_of (with_row p x row)) (suc x) (slot.Row row) false
 may_put_row setting p x row = record {
   held = new_held (suc x) (slot.Row row);
   has = (0, omega arith, refl);

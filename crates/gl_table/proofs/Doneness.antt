@@ -28,7 +28,8 @@ done_is [] quiet is = inr (refl, is)
 done_is (e ∷ es) quiet is = inl (ends e es quiet is)
 
 -- from the last entry that is stored
-pub last_done : (es : List StoredEntry) (quiet : Bool) (x : StoredEntry) → 0 < length es → x ≡ get_or es (length es - 1) x → is_over (seen x) ≡ is_done (map seen es) quiet
+pub last_done : (es : List StoredEntry) (quiet : Bool) (x : StoredEntry) → 0 < length es → x ≡ get_or es (length es - 1) x
+    → is_over (seen x) ≡ is_done (map seen es) quiet
 last_done [] quiet x some is = absurd (omega arith)
 last_done (y ∷ []) quiet x some is = let same : x ≡ y = is in ap (λ e. is_over (seen e)) same
 last_done (y ∷ (z ∷ es)) quiet x some is =

@@ -27,17 +27,27 @@ five_of (a ∷ (b ∷ (c ∷ (d ∷ (e ∷ []))))) n = refl
 five_of (a ∷ (b ∷ (c ∷ (d ∷ (e ∷ (f ∷ l)))))) n = absurd (omega arith)
 
 -- the words that were loaded are those of the event
-pub five_stand : (q : PassView) (p a b c d e : ℕ) (x : Stamp) → ((r : CellWord) → Contains (saw_cell (view_of (four_words q p a b c d)) (word_at p 4 e)).loaded r → r.position ≡ p → r.word ≡ slice_index (packed x) r.index) → a ∷ b ∷ c ∷ d ∷ e ∷ [] ≡ packed x
+pub five_stand : (q : PassView) (p a b c d e : ℕ) (x : Stamp)
+    → ((r : CellWord) → Contains (saw_cell (view_of (four_words q p a b c d)) (word_at p 4 e)).loaded r → r.position ≡ p → r.word
+    ≡ slice_index (packed x) r.index) → a ∷ b ∷ c ∷ d ∷ e ∷ [] ≡ packed x
 five_stand q p a b c d e x words =
     let l0 = q.loaded in
     let l1 = l0 ++ word_at p 0 a ∷ [] in
     let l2 = l1 ++ word_at p 1 b ∷ [] in
     let l3 = l2 ++ word_at p 2 c ∷ [] in
     let l4 = l3 ++ word_at p 3 d ∷ [] in
-    let w0 : a ≡ slice_index (packed x) 0 = words (word_at p 0 a) (in_front l4 (word_at p 4 e) (word_at p 0 a) (in_front l3 (word_at p 3 d) (word_at p 0 a) (in_front l2 (word_at p 2 c) (word_at p 0 a) (in_front l1 (word_at p 1 b) (word_at p 0 a) (in_last l0 (word_at p 0 a)))))) refl in
-    let w1 : b ≡ slice_index (packed x) 1 = words (word_at p 1 b) (in_front l4 (word_at p 4 e) (word_at p 1 b) (in_front l3 (word_at p 3 d) (word_at p 1 b) (in_front l2 (word_at p 2 c) (word_at p 1 b) (in_last l1 (word_at p 1 b))))) refl in
-    let w2 : c ≡ slice_index (packed x) 2 = words (word_at p 2 c) (in_front l4 (word_at p 4 e) (word_at p 2 c) (in_front l3 (word_at p 3 d) (word_at p 2 c) (in_last l2 (word_at p 2 c)))) refl in
-    let w3 : d ≡ slice_index (packed x) 3 = words (word_at p 3 d) (in_front l4 (word_at p 4 e) (word_at p 3 d) (in_last l3 (word_at p 3 d))) refl in
+    let w0 : a ≡ slice_index (packed x) 0 = words (word_at p 0 a)
+    (in_front l4 (word_at p 4 e) (word_at p 0 a)
+    (in_front l3 (word_at p 3 d) (word_at p 0 a)
+    (in_front l2 (word_at p 2 c) (word_at p 0 a) (in_front l1 (word_at p 1 b) (word_at p 0 a) (in_last l0 (word_at p 0 a)))))) refl in
+    let w1 : b ≡ slice_index (packed x) 1 = words (word_at p 1 b)
+    (in_front l4 (word_at p 4 e) (word_at p 1 b)
+    (in_front l3 (word_at p 3 d) (word_at p 1 b) (in_front l2 (word_at p 2 c) (word_at p 1 b) (in_last l1 (word_at p 1 b))))) refl in
+    let w2 : c ≡ slice_index (packed x) 2 = words (word_at p 2 c)
+    (in_front l4 (word_at p 4 e) (word_at p 2 c) (in_front l3 (word_at p 3 d) (word_at p 2 c) (in_last l2 (word_at p 2 c)))) refl in
+    let w3 : d ≡ slice_index (packed x) 3 = words (word_at p 3 d)
+    (in_front l4 (word_at p 4 e) (word_at p 3 d) (in_last l3 (word_at p 3 d))) refl in
     let w4 : e ≡ slice_index (packed x) 4 = words (word_at p 4 e) (in_last l4 (word_at p 4 e)) refl in
-    let same : a ∷ b ∷ c ∷ d ∷ e ∷ [] ≡ slice_index (packed x) 0 ∷ slice_index (packed x) 1 ∷ slice_index (packed x) 2 ∷ slice_index (packed x) 3 ∷ slice_index (packed x) 4 ∷ [] = (λ i. w0 i ∷ w1 i ∷ w2 i ∷ w3 i ∷ w4 i ∷ []) in
+    let same : a ∷ b ∷ c ∷ d ∷ e ∷ [] ≡ slice_index (packed x) 0 ∷ slice_index (packed x) 1 ∷ slice_index (packed x) 2
+    ∷ slice_index (packed x) 3 ∷ slice_index (packed x) 4 ∷ [] = (λ i. w0 i ∷ w1 i ∷ w2 i ∷ w3 i ∷ w4 i ∷ []) in
     same ∙ five_of (packed x) (packed_long x)

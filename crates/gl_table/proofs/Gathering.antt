@@ -29,32 +29,35 @@ use Rattle.gl_rule.proofs.KeptLists.{kept_are}
 use Rattle.gl_table.specs.Ending.{IsDonePass, AreAllDone, IsRoot, IsTrimmed, ClosedTold, shelves_of, mine_at}
 use Rattle.gl_table.specs.PassView.{PassView, shelf_of}
 
--- the root, which has no list yet
-pub root_none : IsRoot (blank [], []) []
-root_none = record { unread = λ e. refl; out = refl; shelves = refl; held = refl; drawn = refl; stored = refl; owed = refl; done = λ s c. absurd (let near = c.1 in omega arith) }
-
 one_in : (s r : Shelf) → Contains (s ∷ []) r → s ≡ r
 one_in s r (zero, near, is) = is
 one_in s r (suc k, near, is) = absurd (omega arith)
 
 -- each list of a view that has one
-one_done : (u : View) (r : Shelf) → u.shelves ≡ r ∷ [] → IsDone r.marked u.quiet → (s : Shelf) → Contains u.shelves s → IsDone s.marked u.quiet
+one_done : (u : View) (r : Shelf) → u.shelves ≡ r ∷ [] → IsDone r.marked u.quiet → (s : Shelf) → Contains u.shelves s
+    → IsDone s.marked u.quiet
 one_done u r one done s c = subst (λ (z : Shelf). IsDone z.marked u.quiet) (one_in r s (subst (λ l. Contains l s) one c)) done
 
 -- the root takes in the list of a pass that is done
-pub joins_root : (key : Key) (id other : ℕ) (me : table.Me Slot View) (u : View) (ps : List PassView) (r : Shelf) → IsRoot me ps → u.shelves ≡ r ∷ [] → u.held ≡ [] → IsDone r.marked u.quiet → table.Joins (Rule key) id me.0 other u (both me.0 u) (blank [])
+pub joins_root : (key : Key) (id other : ℕ) (me : table.Me Slot View) (u : View) (ps : List PassView) (r : Shelf) → IsRoot me ps
+    → u.shelves ≡ r ∷ [] → u.held ≡ [] → IsDone r.marked u.quiet → table.Joins (Rule key) id me.0 other u (both me.0 u) (blank [])
 joins_root key id other me u ps r root one free done st rule at apart there =
     let w = rule.0 in
     let H = rule.1 in
     let v = me.0 in
-    let there' : get_elem? st.views other ≡ some u = ⊎_elim (λ (t : (other ≡ id) × (both v u ≡ u)). absurd (apart t.0)) (λ (t : (other ≢ id) × (get_elem? st.views other ≡ some u)). t.1) (at_set st.views id other (both v u) u there) in
+    let there' : get_elem? st.views other ≡ some u =
+    ⊎_elim (λ (t : (other ≡ id) × (both v u ≡ u)). absurd (apart t.0)) (λ (t : (other ≢ id) × (get_elem? st.views other ≡ some u)). t.1)
+    (at_set st.views id other (both v u) u there) in
     let has : Contains u.shelves r = subst (λ l. Contains l r) (sym one) (zero, omega arith, refl) in
     let all = one_done u r one done in
-    joins key id other v u r root.unread has free root.held (drew_all key w st other u H there' free all r has) root.drawn root.stored (paid_all key w st other u H there' free all) root.owed st rule at apart there
+    joins key id other v u r root.unread has free root.held (drew_all key w st other u H there' free all r has) root.drawn root.stored
+    (paid_all key w st other u H there' free all) root.owed st rule at apart there
 
-pub root_more : (me : table.Me Slot View) (u : View) (ps : List PassView) (p : PassView) → IsRoot me ps → u.shelves ≡ shelf_of p ∷ [] → IsDone p.own.mine u.quiet → IsRoot (both me.0 u, me.1) (ps ++ p ∷ [])
+pub root_more : (me : table.Me Slot View) (u : View) (ps : List PassView) (p : PassView) → IsRoot me ps → u.shelves ≡ shelf_of p ∷ []
+    → IsDone p.own.mine u.quiet → IsRoot (both me.0 u, me.1) (ps ++ p ∷ [])
 root_more me u ps p root one done = record {
-  unread = λ e. absurd (let l = length-append me.0.shelves u.shelves in let n : length (me.0.shelves ++ u.shelves) ≡ 0 = ap length e in let m : length u.shelves ≡ 1 = ap length one in omega arith);
+  unread = λ e. absurd (let l = length-append me.0.shelves u.shelves in let n : length (me.0.shelves ++ u.shelves) ≡ 0 = ap length e
+      in let m : length u.shelves ≡ 1 = ap length one in omega arith);
   out = root.out;
   shelves = ap (λ l. l ++ u.shelves) root.shelves ∙ ap (λ l. shelves_of ps ++ l) one ∙ sym (map-append shelf_of ps (p ∷ []));
   held = root.held;
@@ -69,7 +72,8 @@ pub kept_more : (ps : List Shelf) (s : Shelf) → kept_lists (ps ++ s ∷ []) �
 kept_more [] s = refl
 kept_more (r ∷ ps) s = by r.marked (kept_more ps s)
   where
-    by : (l : List Entry) → kept_lists (ps ++ s ∷ []) ≡ kept_lists ps ++ kept_lists (s ∷ []) → with_list r.thread l (kept_lists (ps ++ s ∷ [])) ≡ with_list r.thread l (kept_lists ps) ++ kept_lists (s ∷ [])
+    by : (l : List Entry) → kept_lists (ps ++ s ∷ []) ≡ kept_lists ps ++ kept_lists (s ∷ [])
+        → with_list r.thread l (kept_lists (ps ++ s ∷ [])) ≡ with_list r.thread l (kept_lists ps) ++ kept_lists (s ∷ [])
     by [] rest = rest
     by (e ∷ es) rest = ap (λ l. (r.thread, e ∷ es) ∷ l) rest
 
@@ -77,11 +81,13 @@ pub shelves_more : (ps : List PassView) (p : PassView) → shelves_of (ps ++ p �
 shelves_more ps p = map-append shelf_of ps (p ∷ [])
 
 -- the lists of threads below t are behind none of t
-kept_below : (t : ℕ) (ps : List PassView) → ((j : ℕ) (p : PassView) → slice_get ps j ≡ Some p → p.own.id < t) → AllByRecursion (λ (l : ℕ × List Entry). l.0 < t) (kept_lists (shelves_of ps))
+kept_below : (t : ℕ) (ps : List PassView) → ((j : ℕ) (p : PassView) → slice_get ps j ≡ Some p → p.own.id < t)
+    → AllByRecursion (λ (l : ℕ × List Entry). l.0 < t) (kept_lists (shelves_of ps))
 kept_below t [] below = tt
 kept_below t (p ∷ ps) below = by p.own.mine (kept_below t ps (λ j q at. below (suc j) q at))
   where
-    by : (l : List Entry) → AllByRecursion (λ (l : ℕ × List Entry). l.0 < t) (kept_lists (shelves_of ps)) → AllByRecursion (λ (l : ℕ × List Entry). l.0 < t) (with_list p.own.id l (kept_lists (shelves_of ps)))
+    by : (l : List Entry) → AllByRecursion (λ (l : ℕ × List Entry). l.0 < t) (kept_lists (shelves_of ps))
+        → AllByRecursion (λ (l : ℕ × List Entry). l.0 < t) (with_list p.own.id l (kept_lists (shelves_of ps)))
     by [] rest = rest
     by (e ∷ es) rest = (below 0 p refl, rest)
 
@@ -95,10 +101,12 @@ get_mid [] x ys = refl
 get_mid (a ∷ xs) x ys = get_mid xs x ys
 
 -- the pass behind those that were gathered
-pub next_done : (z : TableId) (all xs ys : List PassView) (p : PassView) → AreAllDone z all → xs ++ p ∷ ys ≡ all → IsDonePass z (length xs) p
+pub next_done : (z : TableId) (all xs ys : List PassView) (p : PassView) → AreAllDone z all → xs ++ p ∷ ys ≡ all
+    → IsDonePass z (length xs) p
 next_done z all xs ys p are is = are.each (length xs) p (subst (λ l. slice_get l (length xs) ≡ Some p) is (get_mid xs p ys))
 
-pub next_behind : (z : TableId) (all xs ys : List PassView) (p : PassView) → AreAllDone z all → xs ++ p ∷ ys ≡ all → AllByRecursion (λ (l : ℕ × List Entry). l.0 < p.own.id) (kept_lists (shelves_of xs))
+pub next_behind : (z : TableId) (all xs ys : List PassView) (p : PassView) → AreAllDone z all → xs ++ p ∷ ys ≡ all
+    → AllByRecursion (λ (l : ℕ × List Entry). l.0 < p.own.id) (kept_lists (shelves_of xs))
 next_behind z all xs ys p are is = kept_below p.own.id xs (λ j q at.
     let near = slice_get_within xs j q at in
     let mine = (are.each j q (subst (λ l. slice_get l j ≡ Some q) is (get_front xs (p ∷ ys) j q at))).id in
@@ -130,16 +138,23 @@ has_all z ps me are root = record {
 }
 
 -- the threads of the lists rise
-rises_from : (t : ℕ) (ps : List PassView) → ((j : ℕ) (p : PassView) → slice_get ps j ≡ Some p → p.own.id ≡ t + j) → Rises (map (λ (s : Shelf). s.thread) (shelves_of ps))
+rises_from : (t : ℕ) (ps : List PassView) → ((j : ℕ) (p : PassView) → slice_get ps j ≡ Some p → p.own.id ≡ t + j)
+    → Rises (map (λ (s : Shelf). s.thread) (shelves_of ps))
 rises_from t [] ids = tt
 rises_from t (p ∷ ps) ids =
     let here : p.own.id ≡ t = (let a = ids 0 p refl in omega arith) in
-    let next : (j : ℕ) (q : PassView) → slice_get ps j ≡ Some q → q.own.id ≡ suc t + j = λ j q at. (let a = ids (suc j) q at in omega arith) in
+    let next : (j : ℕ) (q : PassView) → slice_get ps j ≡ Some q → q.own.id
+    ≡ suc t + j = λ j q at. (let a = ids (suc j) q at in omega arith) in
     (above (suc t) p.own.id ps next (omega arith), rises_from (suc t) ps next)
   where
-    above : (u n : ℕ) (ps : List PassView) → ((j : ℕ) (q : PassView) → slice_get ps j ≡ Some q → q.own.id ≡ u + j) → n < u → AllByRecursion (λ y. n < y) (map (λ (s : Shelf). s.thread) (shelves_of ps))
+    above : (u n : ℕ) (ps : List PassView) → ((j : ℕ) (q : PassView) → slice_get ps j ≡ Some q → q.own.id ≡ u + j) → n < u
+        → AllByRecursion (λ y. n < y) (map (λ (s : Shelf). s.thread) (shelves_of ps))
     above u n [] ids less = tt
-    above u n (q ∷ ps) ids less = ((let a = ids 0 q refl in omega arith), above (suc u) n ps (λ j r at. let a = ids (suc j) r at in omega arith) (omega arith))
+    above u n (q ∷ ps) ids less = (
+      (let a = ids 0 q refl in omega arith),
+      above (suc u) n ps (λ j r at. let a = ids (suc j) r at
+          in omega arith) (omega arith),
+    )
 
 pub rises : (z : TableId) (ps : List PassView) → AreAllDone z ps → Rises (map (λ (s : Shelf). s.thread) (shelves_of ps))
 rises z ps are = rises_from 0 ps (λ j p at. let a = (are.each j p at).id in omega arith)
@@ -170,12 +185,14 @@ pub record_rising : (ls : List (ℕ × List Entry)) (t i : ℕ) (e : Entry) → 
 record_rising ls t i e is at = entry_rising e (list_kept ls t i e is.1 at)
 
 -- so the record of the lists is lawful, and its Trims are those of the ring
-pub closed_record : (key : Key) (z : TableId) (ps : List PassView) (me w : table.Me Slot View) (ls : List (ℕ × List Entry)) → AreAllDone z ps → IsRoot me ps → ClosedTold key me.0 w → ls ≡ kept_lists (shelves_of ps) → IsRecord ls
+pub closed_record : (key : Key) (z : TableId) (ps : List PassView) (me w : table.Me Slot View) (ls : List (ℕ × List Entry))
+    → AreAllDone z ps → IsRoot me ps → ClosedTold key me.0 w → ls ≡ kept_lists (shelves_of ps) → IsRecord ls
     → IsLawful key.setting (lists_of ls) × IsTrimmed key (lists_of ls) × ((t : ℕ) → lists_of ls t ≡ mine_at ps t)
 closed_record key z ps me w ls are root told is kept =
     let whole = has_all z ps me are root in
     let here : (t : ℕ) → lists_of ls t ≡ mine_at ps t = λ t. ap (λ l. lists_of l t) is ∙ kept_are (shelves_of ps) t (rises z ps are) in
     let each : (t : ℕ) → lists_in me.0.shelves t ≡ lists_of ls t = λ t. ap (λ s. lists_in s t) root.shelves ∙ sym (here t) in
     let same : lists_in me.0.shelves ≡ lists_of ls = λ i t. (each t) i in
-    let rising : (d : Place) (e : Entry) → EntryAt (lists_in me.0.shelves) d e → IsEntryRising e = λ d e at. record_rising ls d.thread d.index e kept (subst (λ l. At l d.index e) (each d.thread) at) in
+    let rising : (d : Place) (e : Entry) → EntryAt (lists_in me.0.shelves) d e
+    → IsEntryRising e = λ d e at. record_rising ls d.thread d.index e kept (subst (λ l. At l d.index e) (each d.thread) at) in
     (subst (IsLawful key.setting) same (told.lawful whole rising), subst (IsTrimmed key) same (told.trims whole), here)

@@ -19,33 +19,49 @@ pub record AreLeastBelow (levels : List ℕ) (k : ℕ) (held : List ℕ) : Type 
   pub least : (o : ℕ) → o < k → 0 < slice_index levels o → Contains held o ⊎ ((length held ≡ HELD) × ((m : ℕ) → Contains held m → m < o))
 
 pub least_none : (levels : List ℕ) → AreLeastBelow levels 0 []
-least_none levels = record { rising = λ k near. absurd (omega arith); entered = λ o c. absurd (let n = c.1 in omega arith); at_most_four = omega arith; least = λ o near some. absurd (omega arith) }
+least_none levels = record {
+  rising = λ k near. absurd (omega arith);
+  entered = λ o c. absurd (let n = c.1 in omega arith);
+  at_most_four = omega arith;
+  least = λ o near some. absurd (omega arith);
+}
 
 -- the next one is not entered
-pub least_skipped : (levels : List ℕ) (k : ℕ) (held : List ℕ) → slice_index levels k ≡ 0 → AreLeastBelow levels k held → AreLeastBelow levels (k + 1) held
+pub least_skipped : (levels : List ℕ) (k : ℕ) (held : List ℕ) → slice_index levels k ≡ 0 → AreLeastBelow levels k held
+    → AreLeastBelow levels (k + 1) held
 least_skipped levels k held none l = record {
   rising = l.rising;
   entered = λ o c. let e = l.entered o c in let n = e.0 in ((omega arith), e.1);
   at_most_four = l.at_most_four;
-  least = λ o near some. elim (ℕ_discrete o k) [ yes e ↦ absurd (let z = ap (slice_index levels) e in omega arith) | no ne ↦ l.least o (omega arith) some ];
+  least = λ o near some. elim (ℕ_discrete o k) [
+    | yes e ↦ absurd (let z = ap (slice_index levels) e in omega arith)
+    | no ne ↦ l.least o (omega arith) some
+  ];
 }
 
-rising_push : (xs : List ℕ) (x : ℕ) → IsStrictlyIncreasing xs → ((j : ℕ) → j < length xs → slice_index xs j < x) → IsStrictlyIncreasing (xs ++ x ∷ [])
+rising_push : (xs : List ℕ) (x : ℕ) → IsStrictlyIncreasing xs → ((j : ℕ) → j < length xs → slice_index xs j < x)
+    → IsStrictlyIncreasing (xs ++ x ∷ [])
 rising_push xs x rising below k near =
     let n = length-append xs (x ∷ []) in
     let m : k < length xs = omega arith in
     let a : slice_index (xs ++ x ∷ []) k ≡ slice_index xs k = get_or_append_left xs (x ∷ []) 0 k m in
     elim (cases_lt (k + 1) (length xs)) [
-      | inl lt ↦ (let b : slice_index (xs ++ x ∷ []) (k + 1) ≡ slice_index xs (k + 1) = get_or_append_left xs (x ∷ []) 0 (k + 1) lt in let c = rising k lt in omega arith)
-      | inr ge ↦ (let b : slice_index (xs ++ x ∷ []) (k + 1) ≡ x = get_or_push xs x 0 (k + 1) (omega arith) in let c = below k m in omega arith)
+      | inl lt ↦ (let b : slice_index (xs ++ x ∷ []) (k + 1) ≡ slice_index xs (k + 1) = get_or_append_left xs (x ∷ []) 0 (k + 1) lt
+          in let c = rising k lt in omega arith)
+      | inr ge ↦ (let b : slice_index (xs ++ x ∷ []) (k + 1) ≡ x = get_or_push xs x 0 (k + 1) (omega arith) in let c = below k m
+          in omega arith)
     ]
 
 -- the next one is entered
-pub least_taken : (levels : List ℕ) (k : ℕ) (held : List ℕ) → 0 < slice_index levels k → AreLeastBelow levels k held → AreLeastBelow levels (k + 1) (take HELD (with_one k held))
+pub least_taken : (levels : List ℕ) (k : ℕ) (held : List ℕ) → 0 < slice_index levels k → AreLeastBelow levels k held
+    → AreLeastBelow levels (k + 1) (take HELD (with_one k held))
 least_taken levels k held some l =
     elim (cases_lt (length held) HELD) [
-      | inl lt ↦ subst (AreLeastBelow levels (k + 1)) (sym (ap (take HELD) pushed ∙ take_all HELD (held ++ k ∷ []) (let n = long in omega arith))) (room lt)
-      | inr ge ↦ subst (AreLeastBelow levels (k + 1)) (sym (ap (take HELD) pushed ∙ take-append-le HELD held (k ∷ []) ge ∙ take_all HELD held l.at_most_four)) (full (let n = l.at_most_four in omega arith))
+      | inl lt ↦ subst (AreLeastBelow levels (k + 1))
+          (sym (ap (take HELD) pushed ∙ take_all HELD (held ++ k ∷ []) (let n = long in omega arith))) (room lt)
+      | inr ge ↦ subst (AreLeastBelow levels (k + 1))
+          (sym (ap (take HELD) pushed ∙ take-append-le HELD held (k ∷ []) ge ∙ take_all HELD held l.at_most_four))
+          (full (let n = l.at_most_four in omega arith))
     ]
   where
     below : (j : ℕ) → j < length held → slice_index held j < k
@@ -95,10 +111,14 @@ least_all levels k held upto l = record {
 }
   where
     near : (o : ℕ) → 0 < slice_index levels o → o < k
-    near o some = elim (cases_lt o k) [ inl lt ↦ lt | inr ge ↦ absurd (let z : slice_index levels o ≡ 0 = get_or_past levels o 0 (omega arith) in omega arith) ]
+    near o some = elim (cases_lt o k) [
+      | inl lt ↦ lt
+      | inr ge ↦ absurd (let z : slice_index levels o ≡ 0 = get_or_past levels o 0 (omega arith) in omega arith)
+    ]
 
 -- levels that are above 0 at the same monitors
-pub least_same : (levels new held : List ℕ) → ((o : ℕ) → 0 < slice_index levels o → 0 < slice_index new o) → ((o : ℕ) → 0 < slice_index new o → 0 < slice_index levels o) → AreLeastEntered levels held → AreLeastEntered new held
+pub least_same : (levels new held : List ℕ) → ((o : ℕ) → 0 < slice_index levels o → 0 < slice_index new o)
+    → ((o : ℕ) → 0 < slice_index new o → 0 < slice_index levels o) → AreLeastEntered levels held → AreLeastEntered new held
 least_same levels new held to back l = record {
   rising = l.rising;
   entered = λ o c. to o (l.entered o c);
@@ -107,12 +127,14 @@ least_same levels new held to back l = record {
 }
 
 -- one level changes, which is above 0 before and after
-pub least_changed : (levels held : List ℕ) (p v : ℕ) → p < length levels → 0 < slice_index levels p → 0 < v → AreLeastEntered levels held → AreLeastEntered (slice_set levels p v) held
+pub least_changed : (levels held : List ℕ) (p v : ℕ) → p < length levels → 0 < slice_index levels p → 0 < v → AreLeastEntered levels held
+    → AreLeastEntered (slice_set levels p v) held
 least_changed levels held p v near before after l = least_same levels (slice_set levels p v) held to back l
   where
     to : (o : ℕ) → 0 < slice_index levels o → 0 < slice_index (slice_set levels p v) o
     to o some = elim (ℕ_discrete o p) [
-      | yes e ↦ (let z : slice_index (slice_set levels p v) p ≡ v = get_or-set_same levels p v 0 near in let w = ap (slice_index (slice_set levels p v)) e in omega arith)
+      | yes e ↦ (let z : slice_index (slice_set levels p v) p ≡ v = get_or-set_same levels p v 0 near
+          in let w = ap (slice_index (slice_set levels p v)) e in omega arith)
       | no ne ↦ (let z : slice_index (slice_set levels p v) o ≡ slice_index levels o = get_or-set_other levels p o v 0 ne in omega arith)
     ]
 
@@ -121,7 +143,3 @@ least_changed levels held p v near before after l = least_same levels (slice_set
       | yes e ↦ (let w = ap (slice_index levels) e in omega arith)
       | no ne ↦ (let z : slice_index (slice_set levels p v) o ≡ slice_index levels o = get_or-set_other levels p o v 0 ne in omega arith)
     ]
-
--- none is entered
-pub least_of_zeros : (levels : List ℕ) → ((o : ℕ) → slice_index levels o ≡ 0) → AreLeastEntered levels []
-least_of_zeros levels zeros = record { rising = λ k near. absurd (omega arith); entered = λ o c. absurd (let n = c.1 in omega arith); at_most_four = omega arith; least = λ o some. absurd (let z = zeros o in omega arith) }

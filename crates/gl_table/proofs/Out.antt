@@ -29,11 +29,16 @@ contains_more order k q c = let near = c.1 in (suc c.0, omega arith, c.2)
 -- k is none of these that do not have it
 all_other : (k : ℕ) (order : List ℕ) → ((q : ℕ) → Contains order q → k ≢ q) → AllByRecursion (λ q. (k == q) ≡ false) order
 all_other k [] other = tt
-all_other k (x ∷ order) other = (ne_eqb k x (other x (zero, omega arith, refl)), all_other k order (λ q c. other q (contains_more order x q c)))
+all_other k (x ∷ order) other = (
+  ne_eqb k x (other x (zero, omega arith, refl)),
+  all_other k order
+      (λ q c. other q (contains_more order x q c)),
+)
 
 other_of : (k : ℕ) (order : List ℕ) → AllByRecursion (λ q. (k == q) ≡ false) order → (q : ℕ) → Contains order q → k ≢ q
 other_of k [] all q c same = absurd (let near = c.1 in omega arith)
-other_of k (x ∷ order) all q (zero, near, is) same = let a : x ≡ q = is in let b : (k == x) ≡ true = eq-eqb k x (same ∙ sym a) in absurd (let z : true ≡ false = sym b ∙ all.0 in cc)
+other_of k (x ∷ order) all q (zero, near, is) same = let a : x ≡ q = is in let b : (k == x) ≡ true = eq-eqb k x (same ∙ sym a)
+    in absurd (let z : true ≡ false = sym b ∙ all.0 in cc)
 other_of k (x ∷ order) all q (suc i, near, is) same = other_of k order all.1 q (i, omega arith, is) same
 
 apart_cons : (k : ℕ) (order : List ℕ) → ((q : ℕ) → Contains order q → k ≢ q) → Apart order → Apart (k ∷ order)
@@ -54,7 +59,13 @@ apart_none = tt
 
 -- nothing is held
 pub none_out : AreOut [] [] []
-none_out = record { carried = refl; listed = All-nil (In []); holds = All-nil (IsHeld []); near = All-nil (λ k. k < objects); distinct = apart_none }
+none_out = record {
+  carried = refl;
+  listed = All-nil (In []);
+  holds = All-nil (IsHeld []);
+  near = All-nil (λ k. k < objects);
+  distinct = apart_none;
+}
 
 module _ (c : List (ℕ × Slot)) (order : List ℕ) (held : List Held) (out : AreOut c order held) where
   -- an object that is not held is none of those whose slots are out
@@ -64,7 +75,8 @@ module _ (c : List (ℕ × Slot)) (order : List ℕ) (held : List Held) (out : A
   -- so there is room for it
   pub out_room : (k : ℕ) → (IsHeld held k → ⊥) → k < objects → length order < objects
   out_room k free near =
-      let a : length (k ∷ order) ≤ objects = length-le_from_distinct_below (k ∷ order) objects (apart_cons k order (not_out k free) out.distinct) (λ q any. below q (Contains-from_any eqb-true q (k ∷ order) any)) in
+      let a : length (k ∷ order) ≤ objects = length-le_from_distinct_below (k ∷ order) objects
+      (apart_cons k order (not_out k free) out.distinct) (λ q any. below q (Contains-from_any eqb-true q (k ∷ order) any)) in
       omega arith
     where
       below : (q : ℕ) → Contains (k ∷ order) q → q < objects
@@ -75,8 +87,10 @@ module _ (c : List (ℕ × Slot)) (order : List ℕ) (held : List Held) (out : A
   pub out_takes : (k : ℕ) (y : Slot) → (IsHeld held k → ⊥) → k < objects → AreOut ((k, slot.Empty) ∷ c) (k ∷ order) (new_held k y ∷ held)
   out_takes k y free near = record {
     carried = ap (λ l. (k, slot.Empty) ∷ l) out.carried;
-    listed = All-cons (In (k ∷ order)) (new_held k y) held (zero, omega arith, refl) (All-weaker (In order) (In (k ∷ order)) (λ h d. contains_more order k h.object d) held out.listed);
-    holds = All-cons (IsHeld (new_held k y ∷ held)) k order (new_held k y, (zero, omega arith, refl), refl) (All-weaker (IsHeld held) (IsHeld (new_held k y ∷ held)) (λ q d. (d.0, in_cons (new_held k y) held d.0 d.1, d.2)) order out.holds);
+    listed = All-cons (In (k ∷ order)) (new_held k y) held (zero, omega arith, refl)
+        (All-weaker (In order) (In (k ∷ order)) (λ h d. contains_more order k h.object d) held out.listed);
+    holds = All-cons (IsHeld (new_held k y ∷ held)) k order (new_held k y, (zero, omega arith, refl), refl)
+        (All-weaker (IsHeld held) (IsHeld (new_held k y ∷ held)) (λ q d. (d.0, in_cons (new_held k y) held d.0 d.1, d.2)) order out.holds);
     near = All-cons (λ n. n < objects) k order near out.near;
     distinct = apart_cons k order (not_out k free) out.distinct;
   }
@@ -95,7 +109,9 @@ module _ (c : List (ℕ × Slot)) (order : List ℕ) (held : List Held) (out : A
   pub out_changes : (h g : Held) → Contains held h → g.object ≡ h.object → AreOut c order (g ∷ without h.object held)
   out_changes h g has same = record {
     carried = out.carried;
-    listed = All-cons (In order) g (without h.object held) (subst (Contains order) (sym same) (All-contains (In order) held h out.listed has)) (all_without (In order) (In order) h.object held (λ f ne d. d) out.listed);
+    listed = All-cons (In order) g (without h.object held)
+        (subst (Contains order) (sym same) (All-contains (In order) held h out.listed has))
+        (all_without (In order) (In order) h.object held (λ f ne d. d) out.listed);
     holds = All-weaker (IsHeld held) (IsHeld (g ∷ without h.object held)) (λ q d. elim (ℕ_discrete d.0.object h.object) [
       | yes e ↦ (g, (zero, omega arith, refl), same ∙ sym e ∙ d.2)
       | no ne ↦ (d.0, in_cons g (without h.object held) d.0 (in_without h.object held d.0 ne d.1), d.2)
@@ -105,14 +121,19 @@ module _ (c : List (ℕ × Slot)) (order : List ℕ) (held : List Held) (out : A
   }
 
   -- an object is put back
-  pub out_leaves : (k : ℕ) (order' : List ℕ) (c' : List (ℕ × Slot)) → IsPermutation order order' → order' ≡ k ∷ drop 1 order' → c' ≡ empties (drop 1 order') → AreOut c' (drop 1 order') (without k held)
+  pub out_leaves : (k : ℕ) (order' : List ℕ) (c' : List (ℕ × Slot)) → IsPermutation order order' → order' ≡ k ∷ drop 1 order' → c'
+      ≡ empties (drop 1 order') → AreOut c' (drop 1 order') (without k held)
   out_leaves k order' c' perm front is =
       let rest = drop 1 order' in
       let apart : Apart (k ∷ rest) = subst Apart front (IsDistinct-IsPermutation (λ a b. a == b) flips order order' perm out.distinct) in
-      let back : (q : ℕ) → Contains rest q → Contains order q = λ q d. Contains-permutation order' order q (IsPermutation-sym order order' perm) (subst (λ l. Contains l q) (sym front) (contains_more rest k q d)) in
+      let back : (q : ℕ) → Contains rest q → Contains order q =
+      λ q d. Contains-permutation order' order q (IsPermutation-sym order order' perm)
+      (subst (λ l. Contains l q) (sym front) (contains_more rest k q d)) in
       record {
         carried = is;
-        listed = all_without (In order) (In rest) k held (λ h ne d. Contains-tail k rest h.object (λ e. ne (sym e)) (subst (λ l. Contains l h.object) front (Contains-permutation order order' h.object perm d))) out.listed;
+        listed = all_without (In order) (In rest) k held
+            (λ h ne d. Contains-tail k rest h.object (λ e. ne (sym e))
+            (subst (λ l. Contains l h.object) front (Contains-permutation order order' h.object perm d))) out.listed;
         holds = all_of rest (IsHeld (without k held)) (λ q d.
             let o = All-contains (IsHeld held) order q out.holds (back q d) in
             (o.0, in_without k held o.0 (λ e. apart_head k rest apart q d (sym e ∙ o.2)) o.1, o.2));
@@ -121,7 +142,11 @@ module _ (c : List (ℕ × Slot)) (order : List ℕ) (held : List Held) (out : A
       }
     where
       flips : (x y : ℕ) → (x == y) ≡ (y == x)
-      flips x y = elim (ℕ_discrete x y) [ yes e ↦ eq-eqb x y e ∙ sym (eq-eqb y x (sym e)) | no ne ↦ ne_eqb x y ne ∙ sym (ne_eqb y x (λ e. ne (sym e))) ]
+      flips x y = elim (ℕ_discrete x y) [
+        | yes e ↦ eq-eqb x y e ∙ sym (eq-eqb y x (sym e))
+        | no ne ↦ ne_eqb x y ne
+            ∙ sym (ne_eqb y x (λ e. ne (sym e)))
+      ]
 
       all_of : (xs : List ℕ) (P : ℕ → Type 0) → ((q : ℕ) → Contains xs q → P q) → All P xs
       all_of [] P f = All-nil P
@@ -134,4 +159,6 @@ module _ (c : List (ℕ × Slot)) (order : List ℕ) (held : List Held) (out : A
 -- where nothing is held no slot is out
 pub nothing_out : (c : List (ℕ × Slot)) (order : List ℕ) (held : List Held) → AreOut c order held → held ≡ [] → c ≡ []
 nothing_out c [] held out idle = out.carried
-nothing_out c (k ∷ order) held out idle = absurd (let h = All-head (IsHeld held) k order out.holds in let near = h.1.0 in let none : length held ≡ 0 = ap length idle in omega arith)
+nothing_out c (k ∷ order) held out idle =
+    absurd (let h = All-head (IsHeld held) k order out.holds in let near = h.1.0 in let none : length held ≡ 0 = ap length idle
+    in omega arith)

@@ -30,11 +30,22 @@ gives_in_range (Trim a) x k w kept gives = absurd gives
 gives_in_range (Over a) x k w kept gives = absurd gives
 
 -- a variable that may be repeated is one that there is
-pub right_in_range : (s : Shelf) (v : View) (x k : ℕ) (write : Bool) (value : ℤ) → All IsEntryKept s.marked → MayCache s v x k write value → x < VARIABLES
-right_in_range s v x k write value kept may = gives_in_range may.right.entry x k may.right.by_write (entry_at IsEntryKept s.marked may.right.index may.right.entry kept may.right.there) may.right.gives
+pub right_in_range : (s : Shelf) (v : View) (x k : ℕ) (write : Bool) (value : ℤ) → All IsEntryKept s.marked → MayCache s v x k write value
+    → x < VARIABLES
+right_in_range s v x k write value kept may =
+    gives_in_range may.right.entry x k may.right.by_write
+    (entry_at IsEntryKept s.marked may.right.index may.right.entry kept may.right.there) may.right.gives
 
 -- who may repeat an access may add it
-pub may_cache : (p : PassView) (x k : ℕ) (write : Bool) (value : ℤ) → MayRepeat p x k write value → MayCache (shelf_of p) (view_of p) x k write value
+pub may_cache : (p : PassView) (x k : ℕ) (write : Bool) (value : ℤ) → MayRepeat p x k write value
+    → MayCache (shelf_of p) (view_of p) x k write value
 may_cache p x k write value may =
     let b = has_block p.own.mine may.runs in
-    record { held = may.held; right = right_stands p.own.mine x k may.by_write write may.right may.enough; word = may.word; position = b.0; block = b.1; goes_on = no_end p.own.mine may.runs }
+    record {
+      held = may.held;
+      right = right_stands p.own.mine x k may.by_write write may.right may.enough;
+      word = may.word;
+      position = b.0;
+      block = b.1;
+      goes_on = no_end p.own.mine may.runs;
+    }

@@ -10,7 +10,8 @@ use Rattle.gl_draws.proofs.Pushes.{at_cases, at_kept, at_new}
 use Rattle.gl_table.specs.RightOf.{right_after, right_from, right_of}
 
 -- an entry more
-pub right_push : (x : ℕ) (r : Option (ℕ × Bool)) (es : List Entry) (e : Entry) → right_from x r (es ++ e ∷ []) ≡ right_after x (right_from x r es) e
+pub right_push : (x : ℕ) (r : Option (ℕ × Bool)) (es : List Entry) (e : Entry) → right_from x r (es ++ e ∷ [])
+    ≡ right_after x (right_from x r es) e
 right_push x r [] e = refl
 right_push x r (y ∷ es) e = right_push x (right_after x r y) es e
 
@@ -23,7 +24,8 @@ length_push : (es : List Entry) (e : Entry) → length (es ++ e ∷ []) ≡ leng
 length_push [] e = refl
 length_push (y ∷ es) e = let r = length_push es e in omega arith
 
-keeps_right : (es : List Entry) (x : ℕ) (r : Option (ℕ × Bool)) (e : Entry) → position_of e ≡ None → ((m : ℕ) (w : Bool) → GivesRight e x m w → ⊥) → RightStands es x r → RightStands (es ++ e ∷ []) x r
+keeps_right : (es : List Entry) (x : ℕ) (r : Option (ℕ × Bool)) (e : Entry) → position_of e ≡ None
+    → ((m : ℕ) (w : Bool) → GivesRight e x m w → ⊥) → RightStands es x r → RightStands (es ++ e ∷ []) x r
 keeps_right es x None e place gives stands = tt
 keeps_right es x (Some r) e place gives stands = λ write enough.
     let h = stands write enough in
@@ -37,8 +39,14 @@ keeps_right es x (Some r) e place gives stands = λ write enough.
       by_write = h.by_write;
       gives = h.gives;
       enough = h.enough;
-      no_event = λ j f at lt near. elim (at_cases es e f j at) [ inl old ↦ h.no_event j f old lt (slice_get_within es j f old) | inr new ↦ ap position_of new.1 ∙ place ];
-      latest = λ j m f w at lt near g. elim (at_cases es e f j at) [ inl old ↦ h.latest j m f w old lt (slice_get_within es j f old) g | inr new ↦ gives m w (subst (λ z. GivesRight z x m w) new.1 g) ];
+      no_event = λ j f at lt near. elim (at_cases es e f j at) [
+        | inl old ↦ h.no_event j f old lt (slice_get_within es j f old)
+        | inr new ↦ ap position_of new.1 ∙ place
+      ];
+      latest = λ j m f w at lt near g. elim (at_cases es e f j at) [
+        | inl old ↦ h.latest j m f w old lt (slice_get_within es j f old) g
+        | inr new ↦ gives m w (subst (λ z. GivesRight z x m w) new.1 g)
+      ];
     }
 
 new_right : (es : List Entry) (x k : ℕ) (w : Bool) (value : ℤ) → RightStands (es ++ Plain x k false w value false ∷ []) x (Some (k, w))
@@ -57,24 +65,31 @@ new_right es x k w value = λ write enough.
       latest = λ j m f u at lt near g. absurd (omega arith);
     }
 
-right_step : (es : List Entry) (x : ℕ) (r : Option (ℕ × Bool)) (e : Entry) → RightStands es x r → RightStands (es ++ e ∷ []) x (right_after x r e)
+right_step : (es : List Entry) (x : ℕ) (r : Option (ℕ × Bool)) (e : Entry) → RightStands es x r
+    → RightStands (es ++ e ∷ []) x (right_after x r e)
 right_step es x r (Sync at act value) stands = tt
 right_step es x r (Commit at tx) stands = tt
 right_step es x r (Abort tx why) stands = tt
 right_step es x r (Trim low) stands = keeps_right es x r (Trim low) refl (λ m w g. absurd g) stands
 right_step es x r (Over ending) stands = keeps_right es x r (Over ending) refl (λ m w g. absurd g) stands
-right_step es x r (Plain var nth true write value raised) stands = keeps_right es x r (Plain var nth true write value raised) refl (λ m w g. absurd (let z : true ≡ false = g.0 in cc)) stands
-right_step es x r (Plain var nth false write value true) stands = keeps_right es x r (Plain var nth false write value true) refl (λ m w g. absurd (let z : true ≡ false = g.1 in cc)) stands
+right_step es x r (Plain var nth true write value raised) stands =
+    keeps_right es x r (Plain var nth true write value raised) refl (λ m w g. absurd (let z : true ≡ false = g.0 in cc)) stands
+right_step es x r (Plain var nth false write value true) stands =
+    keeps_right es x r (Plain var nth false write value true) refl (λ m w g. absurd (let z : true ≡ false = g.1 in cc)) stands
 right_step es x r (Plain var nth false write value false) stands = by (var == x) refl
   where
     by : (b : Bool) → (var == x) ≡ b → RightStands (es ++ Plain var nth false write value false ∷ []) x (if b then Some (nth, write) else r)
-    by true same = subst (λ v. RightStands (es ++ Plain v nth false write value false ∷ []) x (Some (nth, write))) (sym (eqb-true var x same)) (new_right es x nth write value)
-    by false other = keeps_right es x r (Plain var nth false write value false) refl (λ m w g. absurd (let z : true ≡ false = sym (eq-eqb var x g.2) ∙ other in cc)) stands
+    by true same = subst (λ v. RightStands (es ++ Plain v nth false write value false ∷ []) x (Some (nth, write)))
+        (sym (eqb-true var x same)) (new_right es x nth write value)
+    by false other = keeps_right es x r (Plain var nth false write value false) refl
+        (λ m w g. absurd (let z : true ≡ false = sym (eq-eqb var x g.2) ∙ other in cc)) stands
 
 right_all : (done es : List Entry) (x : ℕ) (r : Option (ℕ × Bool)) → RightStands done x r → RightStands (done ++ es) x (right_from x r es)
 right_all done [] x r stands = subst (λ l. RightStands l x r) (sym (append-nil done)) stands
-right_all done (e ∷ es) x r stands = subst (λ l. RightStands l x (right_from x (right_after x r e) es)) (append_assoc done (e ∷ []) es) (right_all (done ++ e ∷ []) es x (right_after x r e) (right_step done x r e stands))
+right_all done (e ∷ es) x r stands = subst (λ l. RightStands l x (right_from x (right_after x r e) es)) (append_assoc done (e ∷ []) es)
+    (right_all (done ++ e ∷ []) es x (right_after x r e) (right_step done x r e stands))
 
 -- the right that the list gives is one by which an entry may be repeated
-pub right_stands : (es : List Entry) (x k : ℕ) (w write : Bool) → right_of es x ≡ Some (k, w) → (write ≡ true → w ≡ true) → HasRight es (length es) x k write
+pub right_stands : (es : List Entry) (x k : ℕ) (w write : Bool) → right_of es x ≡ Some (k, w) → (write ≡ true → w ≡ true)
+    → HasRight es (length es) x k write
 right_stands es x k w write is enough = (subst (RightStands es x) is (right_all [] es x None tt)) write enough

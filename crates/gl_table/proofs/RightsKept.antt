@@ -18,7 +18,8 @@ none_there : (x : ℕ) → x < VARIABLES → slice_index_or (replicate {A = Opti
 none_there x near = get_or-replicate VARIABLES x None None near
 
 -- after an entry more the right that is kept on x is the one that the entry leaves
-pub right_kept : (rights : List (Option (ℕ × Bool))) (x : ℕ) (e : Entry) → x < VARIABLES → length rights ≡ VARIABLES → slice_index_or (rights_after rights e) x None ≡ right_after x (slice_index_or rights x None) e
+pub right_kept : (rights : List (Option (ℕ × Bool))) (x : ℕ) (e : Entry) → x < VARIABLES → length rights ≡ VARIABLES
+    → slice_index_or (rights_after rights e) x None ≡ right_after x (slice_index_or rights x None) e
 right_kept rights x (Sync at act value) near long = none_there x near
 right_kept rights x (Commit at tx) near long = none_there x near
 right_kept rights x (Abort tx why) near long = none_there x near
@@ -28,9 +29,11 @@ right_kept rights x (Trim low) near long = refl
 right_kept rights x (Over ending) near long = refl
 right_kept rights x (Plain var nth false write value false) near long = elim (ℕ_discrete x var) [
   | yes e ↦
-      ap (λ v. slice_index_or (slice_set rights v (Some (nth, write))) x None) (sym e) ∙ get_or-set_same rights x (Some (nth, write)) None (omega arith)
+      ap (λ v. slice_index_or (slice_set rights v (Some (nth, write))) x None) (sym e)
+      ∙ get_or-set_same rights x (Some (nth, write)) None (omega arith)
       ∙ sym (ap (λ (b : Bool). if b then Some (nth, write) else slice_index_or rights x None) (eq-eqb var x (sym e)))
-  | no ne ↦ get_or-set_other rights var x (Some (nth, write)) None ne ∙ sym (ap (λ (b : Bool). if b then Some (nth, write) else slice_index_or rights x None) (ne_eqb var x (λ z. ne (sym z))))
+  | no ne ↦ get_or-set_other rights var x (Some (nth, write)) None ne
+      ∙ sym (ap (λ (b : Bool). if b then Some (nth, write) else slice_index_or rights x None) (ne_eqb var x (λ z. ne (sym z))))
 ]
 
 pub rights_long : (rights : List (Option (ℕ × Bool))) (e : Entry) → length rights ≡ VARIABLES → length (rights_after rights e) ≡ VARIABLES
@@ -44,10 +47,12 @@ rights_long rights (Trim low) long = long
 rights_long rights (Over ending) long = long
 
 -- they go on to be those that the list gives
-pub rights_push : (rights new : List (Option (ℕ × Bool))) (es more : List Entry) (e : Entry) → length rights ≡ VARIABLES → ((x : ℕ) → x < VARIABLES → slice_index_or rights x None ≡ right_of es x) → new ≡ rights_after rights e → more ≡ es ++ e ∷ []
+pub rights_push : (rights new : List (Option (ℕ × Bool))) (es more : List Entry) (e : Entry) → length rights ≡ VARIABLES
+    → ((x : ℕ) → x < VARIABLES → slice_index_or rights x None ≡ right_of es x) → new ≡ rights_after rights e → more ≡ es ++ e ∷ []
     → (x : ℕ) → x < VARIABLES → slice_index_or new x None ≡ right_of more x
 rights_push rights new es more e long are is added x near =
-    ap (λ (l : List (Option (ℕ × Bool))). slice_index_or l x None) is ∙ right_kept rights x e near long ∙ ap (λ r. right_after x r e) (are x near) ∙ sym (ap (λ l. right_of l x) added ∙ right_push x None es e)
+    ap (λ (l : List (Option (ℕ × Bool))). slice_index_or l x None) is ∙ right_kept rights x e near long
+    ∙ ap (λ r. right_after x r e) (are x near) ∙ sym (ap (λ l. right_of l x) added ∙ right_push x None es e)
 
 -- of a variable that there is not, entries whose ids are ones that there are give no right
 after_far : (x : ℕ) (e : Entry) → VARIABLES ≤ x → IsEntryKept e → right_after x None e ≡ None
@@ -58,11 +63,13 @@ after_far x (Plain var nth false write value true) far kept = refl
 after_far x (Plain var nth true write value raised) far kept = refl
 after_far x (Trim low) far kept = refl
 after_far x (Over ending) far kept = refl
-after_far x (Plain var nth false write value false) far kept = ap (λ (b : Bool). if b then Some (nth, write) else None) (ne_eqb var x (λ e. absurd (omega arith)))
+after_far x (Plain var nth false write value false) far kept =
+    ap (λ (b : Bool). if b then Some (nth, write) else None) (ne_eqb var x (λ e. absurd (omega arith)))
 
 pub right_far : (x : ℕ) (es : List Entry) → VARIABLES ≤ x → All IsEntryKept es → right_of es x ≡ None
 right_far x [] far kept = refl
-right_far x (e ∷ es) far kept = ap (λ r. right_from x r es) (after_far x e far (All-head IsEntryKept e es kept)) ∙ right_far x es far (All-tail IsEntryKept e es kept)
+right_far x (e ∷ es) far kept = ap (λ r. right_from x r es) (after_far x e far (All-head IsEntryKept e es kept))
+    ∙ right_far x es far (All-tail IsEntryKept e es kept)
 
 -- ---- the places in which they are kept
 
@@ -73,9 +80,11 @@ map_set f (x ∷ xs) zero a = refl
 map_set f (x ∷ xs) (suc i) a = ap (λ l. f x ∷ l) (map_set f xs i a)
 
 -- in a block that begins no right is there
-pub none_begun : (b : ℕ) (places : List Right) → All (λ (p : Right). p.block ≤ b) places → map (right_in (b + 1)) places ≡ replicate (length places) None
+pub none_begun : (b : ℕ) (places : List Right) → All (λ (p : Right). p.block ≤ b) places → map (right_in (b + 1)) places
+    ≡ replicate (length places) None
 none_begun b [] all = refl
 none_begun b (p ∷ places) all =
     let h = All-head (λ (p : Right). p.block ≤ b) p places all in
-    let e : right_in (b + 1) p ≡ None = ap (λ (c : Bool). if c then Some (p.nth, p.write) else None) (ne_eqb p.block (b + 1) (λ e. absurd (omega arith))) in
+    let e : right_in (b + 1) p ≡ None = ap (λ (c : Bool). if c then Some (p.nth, p.write) else None)
+    (ne_eqb p.block (b + 1) (λ e. absurd (omega arith))) in
     (λ i. e i ∷ none_begun b places (All-tail (λ (p : Right). p.block ≤ b) p places all) i)

@@ -18,13 +18,19 @@ use Rattle.gl_rule.specs.Cells.{act_word, four_in, behind_four, words_of}
 use Rattle.gl_table.specs.Unpacking.{act_at, part_of, id_in, HaveIds}
 
 -- an act from its word
-pub act_back : (t : ℕ) (a : Act) → t < 16 → IsActInRange a → ((k : ℕ) → a ≡ Fail k → k < 256) → act_at ((act_word a + 256 * t) % 256) ((act_word a + 256 * t) / 65536 % 65536) ≡ a
-act_back t (Begin f) near range small = let k : (act_word (Begin f) + 256 * t) % 256 ≡ 1 = omega arith in let r : (act_word (Begin f) + 256 * t) / 65536 % 65536 ≡ f = omega arith in rw (k, r) refl
+pub act_back : (t : ℕ) (a : Act) → t < 16 → IsActInRange a → ((k : ℕ) → a ≡ Fail k → k < 256)
+    → act_at ((act_word a + 256 * t) % 256) ((act_word a + 256 * t) / 65536 % 65536) ≡ a
+act_back t (Begin f) near range small = let k : (act_word (Begin f) + 256 * t) % 256 ≡ 1 = omega arith
+    in let r : (act_word (Begin f) + 256 * t) / 65536 % 65536 ≡ f = omega arith in rw (k, r) refl
 act_back t End near range small = let k : (act_word End + 256 * t) % 256 ≡ 2 = omega arith in rw k refl
-act_back t (Acq o) near range small = let k : (act_word (Acq o) + 256 * t) % 256 ≡ 3 = omega arith in let r : (act_word (Acq o) + 256 * t) / 65536 % 65536 ≡ o = omega arith in rw (k, r) refl
-act_back t (Rel o) near range small = let k : (act_word (Rel o) + 256 * t) % 256 ≡ 4 = omega arith in let r : (act_word (Rel o) + 256 * t) / 65536 % 65536 ≡ o = omega arith in rw (k, r) refl
-act_back t (VRead v) near range small = let k : (act_word (VRead v) + 256 * t) % 256 ≡ 5 = omega arith in let r : (act_word (VRead v) + 256 * t) / 65536 % 65536 ≡ v = omega arith in rw (k, r) refl
-act_back t (VWrite v) near range small = let k : (act_word (VWrite v) + 256 * t) % 256 ≡ 6 = omega arith in let r : (act_word (VWrite v) + 256 * t) / 65536 % 65536 ≡ v = omega arith in rw (k, r) refl
+act_back t (Acq o) near range small = let k : (act_word (Acq o) + 256 * t) % 256 ≡ 3 = omega arith
+    in let r : (act_word (Acq o) + 256 * t) / 65536 % 65536 ≡ o = omega arith in rw (k, r) refl
+act_back t (Rel o) near range small = let k : (act_word (Rel o) + 256 * t) % 256 ≡ 4 = omega arith
+    in let r : (act_word (Rel o) + 256 * t) / 65536 % 65536 ≡ o = omega arith in rw (k, r) refl
+act_back t (VRead v) near range small = let k : (act_word (VRead v) + 256 * t) % 256 ≡ 5 = omega arith
+    in let r : (act_word (VRead v) + 256 * t) / 65536 % 65536 ≡ v = omega arith in rw (k, r) refl
+act_back t (VWrite v) near range small = let k : (act_word (VWrite v) + 256 * t) % 256 ≡ 6 = omega arith
+    in let r : (act_word (VWrite v) + 256 * t) / 65536 % 65536 ≡ v = omega arith in rw (k, r) refl
 act_back t (Fork u f) near range small =
     let a = range.0 in let b = range.1 in
     let k : (act_word (Fork u f) + 256 * t) % 256 ≡ 7 = omega arith in
@@ -37,7 +43,8 @@ act_back t (Join u) near range small =
     let r : (act_word (Join u) + 256 * t) / 65536 % 65536 ≡ u = omega arith in
     let p : u % 256 ≡ u = omega arith in
     rw (k, r) (ap Join p)
-act_back t (Alloc c) near range small = let k : (act_word (Alloc c) + 256 * t) % 256 ≡ 9 = omega arith in let r : (act_word (Alloc c) + 256 * t) / 65536 % 65536 ≡ c = omega arith in rw (k, r) refl
+act_back t (Alloc c) near range small = let k : (act_word (Alloc c) + 256 * t) % 256 ≡ 9 = omega arith
+    in let r : (act_word (Alloc c) + 256 * t) / 65536 % 65536 ≡ c = omega arith in rw (k, r) refl
 act_back t Print near range small = let k : (act_word Print + 256 * t) % 256 ≡ 10 = omega arith in rw k refl
 act_back t Input near range small = let k : (act_word Input + 256 * t) % 256 ≡ 11 = omega arith in rw k refl
 act_back t (Fail c) near range small =
@@ -62,10 +69,14 @@ four_back (a ∷ (b ∷ (c ∷ []))) zero all near few = let x = all.0 in let y 
 four_back (a ∷ (b ∷ (c ∷ []))) (suc zero) all near few = let x = all.0 in let y = all.1.0 in let z = all.1.1.0 in omega arith
 four_back (a ∷ (b ∷ (c ∷ []))) (suc (suc zero)) all near few = let x = all.0 in let y = all.1.0 in let z = all.1.1.0 in omega arith
 four_back (a ∷ (b ∷ (c ∷ []))) (suc (suc (suc r))) all near few = absurd (omega arith)
-four_back (a ∷ (b ∷ (c ∷ (d ∷ xs)))) zero all near few = let x = all.0 in let y = all.1.0 in let z = all.1.1.0 in let w = all.1.1.1.0 in omega arith
-four_back (a ∷ (b ∷ (c ∷ (d ∷ xs)))) (suc zero) all near few = let x = all.0 in let y = all.1.0 in let z = all.1.1.0 in let w = all.1.1.1.0 in omega arith
-four_back (a ∷ (b ∷ (c ∷ (d ∷ xs)))) (suc (suc zero)) all near few = let x = all.0 in let y = all.1.0 in let z = all.1.1.0 in let w = all.1.1.1.0 in omega arith
-four_back (a ∷ (b ∷ (c ∷ (d ∷ xs)))) (suc (suc (suc zero))) all near few = let x = all.0 in let y = all.1.0 in let z = all.1.1.0 in let w = all.1.1.1.0 in omega arith
+four_back (a ∷ (b ∷ (c ∷ (d ∷ xs)))) zero all near few = let x = all.0 in let y = all.1.0 in let z = all.1.1.0 in let w = all.1.1.1.0
+    in omega arith
+four_back (a ∷ (b ∷ (c ∷ (d ∷ xs)))) (suc zero) all near few = let x = all.0 in let y = all.1.0 in let z = all.1.1.0 in let w = all.1.1.1.0
+    in omega arith
+four_back (a ∷ (b ∷ (c ∷ (d ∷ xs)))) (suc (suc zero)) all near few = let x = all.0 in let y = all.1.0 in let z = all.1.1.0
+    in let w = all.1.1.1.0 in omega arith
+four_back (a ∷ (b ∷ (c ∷ (d ∷ xs)))) (suc (suc (suc zero))) all near few = let x = all.0 in let y = all.1.0 in let z = all.1.1.0
+    in let w = all.1.1.1.0 in omega arith
 four_back (a ∷ (b ∷ (c ∷ (d ∷ xs)))) (suc (suc (suc (suc r)))) all near few = absurd (omega arith)
 
 behind_all : (xs : List ℕ) → AreIds xs → AreIds (behind_four xs)
@@ -79,8 +90,10 @@ behind_get : (xs : List ℕ) (r : ℕ) → get_or (behind_four xs) r 0 ≡ get_o
 behind_get [] r = refl
 behind_get (a ∷ []) r = let n : 4 + r ≡ suc (3 + r) = omega arith in sym (ap (λ k. get_or (a ∷ []) k 0) n)
 behind_get (a ∷ (b ∷ [])) r = let n : 4 + r ≡ suc (suc (2 + r)) = omega arith in sym (ap (λ k. get_or (a ∷ (b ∷ [])) k 0) n)
-behind_get (a ∷ (b ∷ (c ∷ []))) r = let n : 4 + r ≡ suc (suc (suc (1 + r))) = omega arith in sym (ap (λ k. get_or (a ∷ (b ∷ (c ∷ []))) k 0) n)
-behind_get (a ∷ (b ∷ (c ∷ (d ∷ xs)))) r = let n : 4 + r ≡ suc (suc (suc (suc r))) = omega arith in sym (ap (λ k. get_or (a ∷ (b ∷ (c ∷ (d ∷ xs)))) k 0) n)
+behind_get (a ∷ (b ∷ (c ∷ []))) r = let n : 4 + r ≡ suc (suc (suc (1 + r))) = omega arith
+    in sym (ap (λ k. get_or (a ∷ (b ∷ (c ∷ []))) k 0) n)
+behind_get (a ∷ (b ∷ (c ∷ (d ∷ xs)))) r = let n : 4 + r ≡ suc (suc (suc (suc r))) = omega arith
+    in sym (ap (λ k. get_or (a ∷ (b ∷ (c ∷ (d ∷ xs)))) k 0) n)
 
 behind_long : (xs : List ℕ) → 4 ≤ length xs → length (behind_four xs) + 4 ≡ length xs
 behind_long [] some = absurd (omega arith)
@@ -93,11 +106,13 @@ behind_long (a ∷ (b ∷ (c ∷ (d ∷ xs)))) some = omega arith
 pub ids_stand : (t : ℕ) (xs : List ℕ) → AreVariables xs → HaveIds (words_of t (Commit xs)) xs
 ids_stand t xs are = record { variables = are; ids = ids }
   where
-    one : (j g r : ℕ) (ys : List ℕ) → j ≡ 4 * g + r → r < 4 → slice_index (words_of t (Commit xs)) (1 + g) ≡ four_in ys → AreIds ys → r < length ys → get_or ys r 0 ≡ get_or xs j 0 → id_in (words_of t (Commit xs)) j ≡ get_or xs j 0
+    one : (j g r : ℕ) (ys : List ℕ) → j ≡ 4 * g + r → r < 4 → slice_index (words_of t (Commit xs)) (1 + g) ≡ four_in ys → AreIds ys
+        → r < length ys → get_or ys r 0 ≡ get_or xs j 0 → id_in (words_of t (Commit xs)) j ≡ get_or xs j 0
     one j g r ys is few word all near same =
         let q : j / 4 ≡ g = omega arith in
         let m : j % 4 ≡ r = omega arith in
-        ap (λ k. part_of (j % 4) (slice_index (words_of t (Commit xs)) (1 + k))) q ∙ ap (λ k. part_of k (slice_index (words_of t (Commit xs)) (1 + g))) m ∙ ap (part_of r) word ∙ four_back ys r all near few ∙ same
+        ap (λ k. part_of (j % 4) (slice_index (words_of t (Commit xs)) (1 + k))) q
+        ∙ ap (λ k. part_of k (slice_index (words_of t (Commit xs)) (1 + g))) m ∙ ap (part_of r) word ∙ four_back ys r all near few ∙ same
 
     ids : (j : ℕ) → j < length xs → id_in (words_of t (Commit xs)) j ≡ get_or xs j 0
     ids j near =
@@ -111,15 +126,21 @@ ids_stand t xs are = record { variables = are; ids = ids }
           | inr ge ↦
               (let lb = behind_long xs (omega arith) in
               elim (cases_lt j 8) [
-                | inl lt ↦ (let e : 4 + (j - 4) ≡ j = omega arith in one j 1 (j - 4) b (omega arith) (omega arith) refl (behind_all xs all) (omega arith) (behind_get xs (j - 4) ∙ ap (λ k. get_or xs k 0) e))
+                | inl lt ↦ (let e : 4 + (j - 4) ≡ j = omega arith
+                    in one j 1 (j - 4) b (omega arith) (omega arith) refl (behind_all xs all) (omega arith) (behind_get xs (j - 4)
+                    ∙ ap (λ k. get_or xs k 0) e))
                 | inr ge' ↦
                     (let lc = behind_long b (omega arith) in
                     elim (cases_lt j 12) [
-                      | inl lt ↦ (let e : 4 + (4 + (j - 8)) ≡ j = omega arith in one j 2 (j - 8) c (omega arith) (omega arith) refl (behind_all b (behind_all xs all)) (omega arith) (behind_get b (j - 8) ∙ behind_get xs (4 + (j - 8)) ∙ ap (λ k. get_or xs k 0) e))
+                      | inl lt ↦ (let e : 4 + (4 + (j - 8)) ≡ j = omega arith
+                          in one j 2 (j - 8) c (omega arith) (omega arith) refl (behind_all b (behind_all xs all)) (omega arith)
+                          (behind_get b (j - 8) ∙ behind_get xs (4 + (j - 8)) ∙ ap (λ k. get_or xs k 0) e))
                       | inr ge'' ↦
                           (let ld = behind_long c (omega arith) in
                           let e : 4 + (4 + (4 + (j - 12))) ≡ j = omega arith in
-                          one j 3 (j - 12) d (omega arith) (omega arith) refl (behind_all c (behind_all b (behind_all xs all))) (omega arith) (behind_get c (j - 12) ∙ behind_get b (4 + (j - 12)) ∙ behind_get xs (4 + (4 + (j - 12))) ∙ ap (λ k. get_or xs k 0) e))
+                          one j 3 (j - 12) d (omega arith) (omega arith) refl (behind_all c (behind_all b (behind_all xs all)))
+                          (omega arith) (behind_get c (j - 12) ∙ behind_get b (4 + (j - 12)) ∙ behind_get xs (4 + (4 + (j - 12)))
+                          ∙ ap (λ k. get_or xs k 0) e))
                     ])
               ])
         ]
@@ -151,11 +172,9 @@ take_long (x ∷ xs) (suc j) le = ap suc (take_long xs j (omega arith))
 -- one id more of a list that rises
 pub next_id : (xs : List ℕ) (j : ℕ) → Rises xs → j < length xs → with_one (get_or xs j 0) (take j xs) ≡ take (j + 1) xs
 next_id xs j rises near =
-    past_all (take j xs) (get_or xs j 0) (λ k lt. let n = take_long xs j (omega arith) in subst (λ z. z < get_or xs j 0) (sym (take_get xs j k (omega arith))) (rises_get xs k j rises (omega arith) near))
+    past_all (take j xs) (get_or xs j 0) (λ k lt. let n = take_long xs j (omega arith)
+    in subst (λ z. z < get_or xs j 0) (sym (take_get xs j k (omega arith))) (rises_get xs k j rises (omega arith) near))
     ∙ sym (take_more xs j 0 near)
-
-pub take_short : (xs : List ℕ) (j : ℕ) → j < length xs → length (take j xs) < length xs
-take_short xs j near = let n = take_long xs j (omega arith) in omega arith
 
 pub id_near : (xs : List ℕ) (j : ℕ) → AllByRecursion (λ x. x < VARIABLES) xs → j < length xs → get_or xs j 0 < VARIABLES
 id_near [] j all near = absurd (omega arith)
@@ -176,20 +195,6 @@ not_commit t Print near e = omega arith
 not_commit t Input near e = omega arith
 not_commit t (Fail c) near e = omega arith
 
-act_thread : (t : ℕ) (a : Act) → t < 16 → (act_word a + 256 * t) / 256 % 256 ≡ t
-act_thread t (Begin f) near = omega arith
-act_thread t End near = omega arith
-act_thread t (Acq o) near = omega arith
-act_thread t (Rel o) near = omega arith
-act_thread t (VRead o) near = omega arith
-act_thread t (VWrite o) near = omega arith
-act_thread t (Fork u f) near = omega arith
-act_thread t (Join u) near = omega arith
-act_thread t (Alloc c) near = omega arith
-act_thread t Print near = omega arith
-act_thread t Input near = omega arith
-act_thread t (Fail c) near = omega arith
-
 abbrev pub stamp_of : ℕ → Event → Stamp
 stamp_of t e = record { thread = t; event = e }
 
@@ -197,7 +202,8 @@ stamp_is : (t u : ℕ) (e f : Event) → t ≡ u → e ≡ f → stamp_of t e �
 stamp_is t u e f a b = λ i. stamp_of (a i) (b i)
 
 -- words of kind 12 are those of a commit
-pub as_commit : (t : ℕ) (e : Event) (ws vars : List ℕ) → t < THREADS → IsEventInRange e → ws ≡ words_of t e → slice_index ws 0 % 256 ≡ 12 → ((xs : List ℕ) → HaveIds ws xs → slice_index ws 0 / 4294967296 ≡ length xs → vars ≡ xs)
+pub as_commit : (t : ℕ) (e : Event) (ws vars : List ℕ) → t < THREADS → IsEventInRange e → ws ≡ words_of t e → slice_index ws 0 % 256 ≡ 12
+    → ((xs : List ℕ) → HaveIds ws xs → slice_index ws 0 / 4294967296 ≡ length xs → vars ≡ xs)
     → stamp_of (slice_index ws 0 / 256 % 256) (Commit vars) ≡ stamp_of t e
 as_commit t (Does a) ws vars near range is kind from = absurd (not_commit t a near (ap (λ l. slice_index l 0 % 256) (sym is) ∙ kind))
 as_commit t (Commit xs) ws vars near range is kind from =
@@ -205,18 +211,12 @@ as_commit t (Commit xs) ws vars near range is kind from =
     let head : slice_index ws 0 ≡ 12 + 256 * t + 4294967296 * length xs = ap (λ l. slice_index l 0) is in
     let a : slice_index ws 0 / 256 % 256 ≡ t = omega arith in
     let n : slice_index ws 0 / 4294967296 ≡ length xs = omega arith in
-    stamp_is (slice_index ws 0 / 256 % 256) t (Commit vars) (Commit xs) a (ap Commit (from xs (subst (λ l. HaveIds l xs) (sym is) (ids_stand t xs range)) n))
-
--- and the others those of an act
-pub as_act : (t : ℕ) (e : Event) (ws : List ℕ) → t < THREADS → IsEventInRange e → ((k : ℕ) → e ≡ Does (Fail k) → k < 256) → ws ≡ words_of t e → slice_index ws 0 % 256 ≢ 12
-    → stamp_of (slice_index ws 0 / 256 % 256) (Does (act_at (slice_index ws 0 % 256) (slice_index ws 0 / 65536 % 65536))) ≡ stamp_of t e
-as_act t (Does a) ws near range small is kind =
-    let head : slice_index ws 0 ≡ act_word a + 256 * t = ap (λ l. slice_index l 0) is in
-    stamp_is _ t _ (Does a) (ap (λ n. n / 256 % 256) head ∙ act_thread t a near) (ap (λ n. Does (act_at (n % 256) (n / 65536 % 65536))) head ∙ ap Does (act_back t a near range (λ k e. small k (ap Does e))))
-as_act t (Commit xs) ws near range small is kind = absurd (kind (let most = range.0 in let head : slice_index ws 0 ≡ 12 + 256 * t + 4294967296 * length xs = ap (λ l. slice_index l 0) is in omega arith))
+    stamp_is (slice_index ws 0 / 256 % 256) t (Commit vars) (Commit xs) a
+    (ap Commit (from xs (subst (λ l. HaveIds l xs) (sym is) (ids_stand t xs range)) n))
 
 -- a commit's count of ids
-pub commit_ids : (t : ℕ) (e : Event) (ws : List ℕ) → t < THREADS → IsEventInRange e → ws ≡ words_of t e → slice_index ws 0 % 256 ≡ 12 → (xs : List ℕ) × HaveIds ws xs × (slice_index ws 0 / 4294967296 ≡ length xs)
+pub commit_ids : (t : ℕ) (e : Event) (ws : List ℕ) → t < THREADS → IsEventInRange e → ws ≡ words_of t e → slice_index ws 0 % 256 ≡ 12
+    → (xs : List ℕ) × HaveIds ws xs × (slice_index ws 0 / 4294967296 ≡ length xs)
 commit_ids t (Does a) ws near range is kind = absurd (not_commit t a near (ap (λ l. slice_index l 0 % 256) (sym is) ∙ kind))
 commit_ids t (Commit xs) ws near range is kind =
     let most = range.0 in

@@ -26,8 +26,10 @@ block_of es = or_zero (last_position es)
 
 -- thread t, which has stored l, adds e
 abbrev pub adds_one : View → ℕ → List Entry → Entry → View
-adds_one v t l (Abort tx (Changed var read found)) = dropped v t l (Abort tx (Changed var read found)) (var ∷ []) (draw t (block_of l) (Looked found))
-adds_one v t l (Abort tx (Raised var)) = dropped v t l (Abort tx (Raised var)) (variables_of tx) (draw t (block_of l) (Entered (Abort tx (Raised var))))
+adds_one v t l (Abort tx (Changed var read found)) =
+    dropped v t l (Abort tx (Changed var read found)) (var ∷ []) (draw t (block_of l) (Looked found))
+adds_one v t l (Abort tx (Raised var)) = dropped v t l (Abort tx (Raised var)) (variables_of tx)
+    (draw t (block_of l) (Entered (Abort tx (Raised var))))
 adds_one v t l (Plain x k cached write value raised) = cached_in v t l x k write value
 adds_one v t l (Over ending) = stored v t l (Over ending)
 adds_one v t l _ = v

@@ -25,7 +25,8 @@ commit_stamp t tx = record { thread = t; event = Commits (variables_of tx) }
 pub record MayPublishTx (key : Key) (p : PassView) (tx : Tx) (state : ListView) : Type 0 where
   pub held : Held
   pub old : ListView
-  pub may : MayPublish key (shelf_of p) (record (view_of p) { stored = packed (commit_stamp p.own.id tx) }) held old state (λ n. Commit n tx) (commit_stamp p.own.id tx) (pos 0)
+  pub may : MayPublish key (shelf_of p) (record (view_of p) { stored = packed (commit_stamp p.own.id tx) }) held old state
+      (λ n. Commit n tx) (commit_stamp p.own.id tx) (pos 0)
   pub tail : may.tail ≡ p.seen
   pub block : ℕ
   pub judged : ℕ
@@ -35,4 +36,5 @@ pub record MayPublishTx (key : Key) (p : PassView) (tx : Tx) (state : ListView) 
 -- the pass after the commit was published at n
 abbrev pub published_tx : PassView → Tx → ℕ → ListView → PassView
 published_tx p tx n state =
-    after_storing p (published (view_of p) p.own.id p.own.mine (Commit n tx) n (commit_stamp p.own.id tx) (slot.List state) (drew_commit (variables_of tx) (draw p.own.id n (Entered (Commit n tx)))))
+    after_storing p (published (view_of p) p.own.id p.own.mine (Commit n tx) n (commit_stamp p.own.id tx) (slot.List state)
+    (drew_commit (variables_of tx) (draw p.own.id n (Entered (Commit n tx)))))

@@ -39,5 +39,6 @@ pub record IsStepOf (setting : Setting) (p : PassView) (act : Act) (value : ℤ)
 -- the act was published at n, and the list was put back as y
 abbrev pub announced : PassView → Act → ℤ → ℕ → Slot → PassView
 announced p act value n y =
-    let q = after_storing p (published (view_of p) p.own.id p.own.mine (Sync n act value) n (record { thread = p.own.id; event = Does act }) y (λ g. g.drew)) in
+    let q = after_storing p (published (view_of p) p.own.id p.own.mine (Sync n act value) n
+    (record { thread = p.own.id; event = Does act }) y (λ g. g.drew)) in
     after q (left (view_of q) 0 false)

@@ -41,7 +41,8 @@ pub record IsTrimmed (key : Key) (R : Lists) : Type 0 where
 
 -- the record of these lists is lawful, where one seat has all of them
 pub record ClosedTold (key : Key) (v : View) (w : Seat) : Type 0 where
-  pub lawful : HasAll v → ((d : Place) (e : Entry) → EntryAt (lists_in v.shelves) d e → IsEntryRising e) → IsLawful key.setting (lists_in v.shelves)
+  pub lawful : HasAll v → ((d : Place) (e : Entry) → EntryAt (lists_in v.shelves) d e → IsEntryRising e)
+      → IsLawful key.setting (lists_in v.shelves)
   pub trims : HasAll v → IsTrimmed key (lists_in v.shelves)
 
 -- a seat that has taken in the lists of these passes, each done

@@ -43,7 +43,19 @@ pass_of table id mine v spare = record {
 
 -- its view, as the rule has it
 abbrev pub view_of : PassView → View
-view_of p = record { shelves = shelf p.own.id p.own.mine ∷ []; seen = p.seen; known = p.known; held = p.own.held; drawn = p.own.drawn; reads = p.reads; quiet = p.quiet; owed = p.own.owed; stored = p.stored; loaded = p.loaded }
+view_of p = record {
+  shelves = shelf p.own.id p.own.mine
+      ∷ [];
+  seen = p.seen;
+  known = p.known;
+  held = p.own.held;
+  drawn = p.own.drawn;
+  reads = p.reads;
+  quiet = p.quiet;
+  owed = p.own.owed;
+  stored = p.stored;
+  loaded = p.loaded;
+}
 
 abbrev pub shelf_of : PassView → Shelf
 shelf_of p = shelf p.own.id p.own.mine

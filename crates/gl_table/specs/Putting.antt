@@ -43,7 +43,8 @@ pub record MayPutWords (key : Key) (v : View) (cell : ℕ) : Type 0 where
 pub record MayPublishAct (key : Key) (p : PassView) (act : Act) (value : ℤ) (state : ListView) : Type 0 where
   pub held : Held
   pub old : ListView
-  pub may : MayPublish key (shelf_of p) (record (view_of p) { stored = packed (record { thread = p.own.id; event = Does act }) }) held old state (λ n. Sync n act value) (record { thread = p.own.id; event = Does act }) value
+  pub may : MayPublish key (shelf_of p) (record (view_of p) { stored = packed (record { thread = p.own.id; event = Does act }) }) held old
+      state (λ n. Sync n act value) (record { thread = p.own.id; event = Does act }) value
   pub tail : may.tail ≡ p.seen
 
 -- object k is none of these
@@ -65,12 +66,14 @@ pub record MayMarkPlain (setting : Setting) (p : PassView) (x : ℕ) (write : Bo
 abbrev pub marked_plain : PassView → ℕ → ℕ → Bool → ℤ → Bool → PassView
 marked_plain p x n write value raised =
     let e : Entry = Plain x n false write value raised in
-    after_storing p (marked (view_of p) (shelf p.own.id (p.own.mine ++ e ∷ [])) p.own.drawn (held_at (x + 1) p.own.held) (draw p.own.id (block_of p.own.mine) (Entered e)))
+    after_storing p (marked (view_of p) (shelf p.own.id (p.own.mine ++ e ∷ [])) p.own.drawn (held_at (x + 1) p.own.held)
+    (draw p.own.id (block_of p.own.mine) (Entered e)))
 
 -- the pass after an act was published at n, by which the list's state became this
 abbrev pub published_act : PassView → Act → ℤ → ℕ → ListView → PassView
 published_act p act value n state =
-    after_storing p (published (view_of p) p.own.id p.own.mine (Sync n act value) n (record { thread = p.own.id; event = Does act }) (slot.List state) (λ g. g.drew))
+    after_storing p (published (view_of p) p.own.id p.own.mine (Sync n act value) n (record { thread = p.own.id; event = Does act })
+    (slot.List state) (λ g. g.drew))
 
 -- what is asked of a number that is drawn on x for a look with this word, or for the end of an attempt
 pub record MayOpenOn (p : PassView) (x : ℕ) (look : Option ℤ) : Type 0 where
@@ -79,7 +82,8 @@ pub record MayOpenOn (p : PassView) (x : ℕ) (look : Option ℤ) : Type 0 where
 
 -- the pass after it drew n
 abbrev pub opened : PassView → ℕ → ℕ → Option ℤ → PassView
-opened p x n look = after p (marked (view_of p) (shelf_of p) (p.own.drawn ++ record { var = x; nth = n; look = look } ∷ []) (held_at (x + 1) p.own.held) (draw p.own.id (block_of p.own.mine) (what_of look)))
+opened p x n look = after p (marked (view_of p) (shelf_of p) (p.own.drawn ++ record { var = x; nth = n; look = look } ∷ [])
+    (held_at (x + 1) p.own.held) (draw p.own.id (block_of p.own.mine) (what_of look)))
 
 -- the held row of x, and the value that the pass owes it
 pub record MayPayOn (p : PassView) (x : ℕ) (row : Row) : Type 0 where
@@ -95,7 +99,8 @@ paid_back p x row = after p (left (paid (view_of p) (held_at (x + 1) p.own.held)
 -- what is asked of an attempt that is dropped
 abbrev pub MayAbortAs : Shelf → View → Tx → Why → Type 0
 MayAbortAs s v tx (Changed var read found) = (q : ℕ) × MayChange s v tx var read found q
-MayAbortAs s v tx (Raised var) = (q : ℕ) × (m : ℕ) × (question : ℕ → Question) × ((setting : Setting) → MayRefuse setting s v tx var q m question)
+MayAbortAs s v tx (Raised var) = (q : ℕ) × (m : ℕ) × (question : ℕ → Question)
+    × ((setting : Setting) → MayRefuse setting s v tx var q m question)
 
 abbrev pub MayAbort : PassView → Tx → Why → Type 0
 MayAbort p tx why = MayAbortAs (shelf_of p) (view_of p) tx why

@@ -23,4 +23,5 @@ head_slot (x ∷ c) = x.1
 -- a commit was published
 abbrev pub PublishedTx : Shelf → Tx → Slot → View → List (ℕ × Slot) → ℕ → Seat → Type 0
 PublishedTx s tx y v c n w =
-    Published s (λ k. Commit k tx) (record { thread = s.thread; event = Commits (variables_of tx) }) y (λ k g. drew_commit (variables_of tx) (draw s.thread k (Entered (Commit k tx))) g) v c n w
+    Published s (λ k. Commit k tx) (record { thread = s.thread; event = Commits (variables_of tx) }) y
+    (λ k g. drew_commit (variables_of tx) (draw s.thread k (Entered (Commit k tx))) g) v c n w

@@ -58,7 +58,8 @@ pub plain_good : (bs : List ℕ) → IsPlain bs → is_bad bs ≡ false
 plain_good bs e = printable_good bs (fewer_pass is_special is_unprintable (λ x f. (or_none (is_hash x) (is_unprintable x) f).1) bs e)
 
 pub plain_words : (bs : List ℕ) → IsPlain bs → words bs ≡ parts bs
-plain_words bs e = ap parts (all_front is_hash bs (fewer_pass is_special is_hash (λ x f. (or_none (is_hash x) (is_unprintable x) f).0) bs e))
+plain_words bs e = ap parts (all_front is_hash bs
+    (fewer_pass is_special is_hash (λ x f. (or_none (is_hash x) (is_unprintable x) f).0) bs e))
 
 fed : (b : ℕ) → b ≡ 10 → is_line_feed b ≡ true
 fed b e = rw e refl
@@ -79,12 +80,14 @@ plain_front bs line n found front =
     let same : before_first is_special bs ≡ line = ap (λ k. take k bs) at ∙ sym front in
     rw same at (front_fails is_special bs)
 
-pub plain_first : (bs line rest : List ℕ) (n : ℕ) → position is_special bs ≡ Some n → get_or bs n 0 ≡ 10 → line ≡ take n bs → rest ≡ drop (n + 1) bs
+pub plain_first : (bs line rest : List ℕ) (n : ℕ) → position is_special bs ≡ Some n → get_or bs n 0 ≡ 10 → line ≡ take n bs → rest
+    ≡ drop (n + 1) bs
     → lines bs ≡ line ∷ lines rest
 plain_first bs line rest n found feed front back =
     let at = feed_place bs n found feed in
     let (within, here, below) = position-Some is_special bs n 0 found in
     let whole = kept_end line (plain_front bs line n found front) in
-    let same_line : strip_carriage_return (before_first is_line_feed bs) ≡ line = ap (λ k. strip_carriage_return (take k bs)) at ∙ ap strip_carriage_return (sym front) ∙ whole in
+    let same_line : strip_carriage_return (before_first is_line_feed bs) ≡ line = ap (λ k. strip_carriage_return (take k bs)) at
+    ∙ ap strip_carriage_return (sym front) ∙ whole in
     let same_rest : after_first is_line_feed bs ≡ rest = ap (λ k. drop (k + 1) bs) at ∙ sym back in
     lines_first bs (omega arith) ∙ ap (λ l. l ∷ lines (after_first is_line_feed bs)) same_line ∙ ap (λ l. line ∷ lines l) same_rest

@@ -12,12 +12,14 @@ use Rattle.gl_text.proofs.TextLemmas.{place_some, place_none, split_none, word_b
 
 -- blanks at the front move the spans up
 pub spans_skip : (at : ℕ) (bs : List ℕ) → spans_from at (slice_split is_blank bs)
-    ≡ spans_from (at + position_or_len (λ b. not (is_blank b)) bs) (slice_split is_blank (drop (position_or_len (λ b. not (is_blank b)) bs) bs))
+    ≡ spans_from (at + position_or_len (λ b. not (is_blank b)) bs)
+    (slice_split is_blank (drop (position_or_len (λ b. not (is_blank b)) bs) bs))
 spans_skip at [] = refl
 spans_skip at (x ∷ xs) =
     elim (cases_Bool (is_blank x)) [
       | inl e ↦
-          let more : position_or_len (λ y. not (is_blank y)) (x ∷ xs) ≡ suc (position_or_len (λ y. not (is_blank y)) xs) = rw e (omega arith) in
+          let more : position_or_len (λ y. not (is_blank y)) (x ∷ xs)
+          ≡ suc (position_or_len (λ y. not (is_blank y)) xs) = rw e (omega arith) in
           let k : ℕ = position_or_len (λ y. not (is_blank y)) xs in
           let up : at + 1 + k ≡ at + suc k = omega arith in
           rw more
@@ -31,7 +33,8 @@ spans_skip at (x ∷ xs) =
 
 -- one blank behind a word
 pub spans_rest : (at : ℕ) (bs : List ℕ) → position_or_len is_blank bs < length bs
-    → spans_from at (slice_split is_blank (drop (position_or_len is_blank bs) bs)) ≡ spans_from (at + 1) (slice_split is_blank (after_first is_blank bs))
+    → spans_from at (slice_split is_blank (drop (position_or_len is_blank bs) bs))
+    ≡ spans_from (at + 1) (slice_split is_blank (after_first is_blank bs))
 spans_rest at [] h = absurd (omega arith)
 spans_rest at (x ∷ xs) h =
     elim (cases_Bool (is_blank x)) [
@@ -46,14 +49,16 @@ spans_rest at (x ∷ xs) h =
           rw more (spans_rest at xs (omega arith)) ∙ ap (λ l. spans_from (at + 1) (slice_split is_blank l)) (sym next)
     ]
 
-front_span : (at : ℕ) (w : List ℕ) (ws : List (List ℕ)) → 0 < length w → spans_from at (w ∷ ws) ≡ (at, at + length w) ∷ spans_from (at + length w + 1) ws
+front_span : (at : ℕ) (w : List ℕ) (ws : List (List ℕ)) → 0 < length w → spans_from at (w ∷ ws) ≡ (at, at + length w)
+    ∷ spans_from (at + length w + 1) ws
 front_span at [] ws h = absurd (omega arith)
 front_span at (x ∷ xs) ws h = refl
 
 -- a text that begins with a word
 pub spans_first : (at : ℕ) (bs : List ℕ) → 0 < position_or_len is_blank bs → 0 < length bs
     → spans_from at (slice_split is_blank bs)
-    ≡ (at, at + position_or_len is_blank bs) ∷ spans_from (at + position_or_len is_blank bs) (slice_split is_blank (drop (position_or_len is_blank bs) bs))
+    ≡ (at, at + position_or_len is_blank bs) ∷ spans_from (at + position_or_len is_blank bs)
+    (slice_split is_blank (drop (position_or_len is_blank bs) bs))
 spans_first at bs some there =
     let n : ℕ = position_or_len is_blank bs in
     let le : n ≤ length bs = prefix_len-le-length (λ b. not (is_blank b)) bs in
@@ -101,7 +106,8 @@ stands_split line at (x ∷ xs) more e =
     ]
 
 -- the parts of a line that stands in a text from this place on
-stands_line : (whole : List ℕ) (start : ℕ) (line : List ℕ) → IsPart whole start line → Stands whole start (slice_split is_blank (before_first is_hash line))
+stands_line : (whole : List ℕ) (start : ℕ) (line : List ℕ) → IsPart whole start line
+    → Stands whole start (slice_split is_blank (before_first is_hash line))
 stands_line whole start line part =
     let rest : List ℕ = drop start whole in
     let count : length line ≡ start + length line - start = omega arith in
@@ -118,12 +124,15 @@ slice_of line at p more e =
     let count : at + length p - at ≡ length p = omega arith in
     ap (λ n. take n (drop at line)) count ∙ ap (take (length p)) e ∙ take_at p more (length p) refl
 
-slices : (line : List ℕ) (at : ℕ) (ps : List (List ℕ)) → Stands line at ps → filter is_some_word ps ≡ map (λ s. slice_range line s.0 s.1) (spans_from at ps)
+slices : (line : List ℕ) (at : ℕ) (ps : List (List ℕ)) → Stands line at ps → filter is_some_word ps
+    ≡ map (λ s. slice_range line s.0 s.1) (spans_from at ps)
 slices line at [] h = refl
-slices line at ([] ∷ ps) h = let next : at + 0 + 1 ≡ at + 1 = omega arith in slices line (at + 1) ps (subst (λ n. Stands line n ps) next h.1)
+slices line at ([] ∷ ps) h = let next : at + 0 + 1 ≡ at + 1 = omega arith
+    in slices line (at + 1) ps (subst (λ n. Stands line n ps) next h.1)
 slices line at ((b ∷ bs) ∷ ps) h =
     ap (λ l. (b ∷ bs) ∷ l) (slices line (at + length (b ∷ bs) + 1) ps h.1)
-    ∙ ap (λ w. w ∷ map (λ s. slice_range line s.0 s.1) (spans_from (at + length (b ∷ bs) + 1) ps)) (sym (slice_of line at (b ∷ bs) h.0.0 h.0.1))
+    ∙ ap (λ w. w ∷ map (λ s. slice_range line s.0 s.1) (spans_from (at + length (b ∷ bs) + 1) ps))
+    (sym (slice_of line at (b ∷ bs) h.0.0 h.0.1))
 
 pub are_slices : (whole : List ℕ) (start : ℕ) (line : List ℕ) → IsPart whole start line → AreSlices whole start line
 are_slices whole start line part = slices whole start (slice_split is_blank (before_first is_hash line)) (stands_line whole start line part)
@@ -132,13 +141,15 @@ are_slices whole start line part = slices whole start (slice_split is_blank (bef
 begins : (at : ℕ) (ps : List (List ℕ)) (i : ℕ) (s : ℕ × ℕ) → slice_get (spans_from at ps) i ≡ Some s → at ≤ s.0
 begins at [] i s e = absurd (true≢false (sym (ap is_some e)))
 begins at ([] ∷ ps) i s e = let next = begins (at + 1) ps i s e in omega arith
-begins at ((b ∷ bs) ∷ ps) zero s e = let same : (at, at + length (b ∷ bs)) ≡ s = cc in let first : at ≡ s.0 = ap (λ x. x.0) same in omega arith
+begins at ((b ∷ bs) ∷ ps) zero s e = let same : (at, at + length (b ∷ bs)) ≡ s = cc in let first : at ≡ s.0 = ap (λ x. x.0) same
+    in omega arith
 begins at ((b ∷ bs) ∷ ps) (suc i) s e = let next = begins (at + length (b ∷ bs) + 1) ps i s e in omega arith
 
 within : (line : List ℕ) (at : ℕ) (ps : List (List ℕ)) → Stands line at ps → (i : ℕ) (s : ℕ × ℕ) → slice_get (spans_from at ps) i ≡ Some s
     → (s.0 < s.1) × (s.1 ≤ length line)
 within line at [] h i s e = absurd (true≢false (sym (ap is_some e)))
-within line at ([] ∷ ps) h i s e = let next : at + 0 + 1 ≡ at + 1 = omega arith in within line (at + 1) ps (subst (λ n. Stands line n ps) next h.1) i s e
+within line at ([] ∷ ps) h i s e = let next : at + 0 + 1 ≡ at + 1 = omega arith
+    in within line (at + 1) ps (subst (λ n. Stands line n ps) next h.1) i s e
 within line at ((b ∷ bs) ∷ ps) h zero s e =
     let same : (at, at + length (b ∷ bs)) ≡ s = cc in
     let first : at ≡ s.0 = ap (λ x. x.0) same in
@@ -147,7 +158,8 @@ within line at ((b ∷ bs) ∷ ps) h zero s e =
     (omega arith, omega (arith, length-drop at line))
 within line at ((b ∷ bs) ∷ ps) h (suc i) s e = within line (at + length (b ∷ bs) + 1) ps h.1 i s e
 
-apart : (at : ℕ) (ps : List (List ℕ)) (i j : ℕ) (s r : ℕ × ℕ) → slice_get (spans_from at ps) i ≡ Some s → slice_get (spans_from at ps) j ≡ Some r
+apart : (at : ℕ) (ps : List (List ℕ)) (i j : ℕ) (s r : ℕ × ℕ) → slice_get (spans_from at ps) i ≡ Some s → slice_get (spans_from at ps) j
+    ≡ Some r
     → i < j → s.1 < r.0
 apart at [] i j s r e f h = absurd (true≢false (sym (ap is_some e)))
 apart at ([] ∷ ps) i j s r e f h = apart (at + 1) ps i j s r e f h
@@ -174,7 +186,8 @@ no_span at bs none =
 
 pub one_span : (at : ℕ) (bs word : List ℕ) (start size : ℕ) → position (λ b. not (is_blank b)) bs ≡ Some start → word ≡ drop start bs
     → size ≡ position_or_len is_blank word → 0 < position_or_len is_blank word → 0 < length word
-    → spans_from at (slice_split is_blank bs) ≡ (at + start, at + start + size) ∷ spans_from (at + start + size) (slice_split is_blank (drop (start + size) bs))
+    → spans_from at (slice_split is_blank bs) ≡ (at + start, at + start + size)
+    ∷ spans_from (at + start + size) (slice_split is_blank (drop (start + size) bs))
 one_span at bs word start size found w n some there =
     let (here, below) = place_some (λ b. not (is_blank b)) bs start found in
     let skipped : spans_from at (slice_split is_blank bs) ≡ spans_from (at + start) (slice_split is_blank (drop start bs)) =
@@ -205,7 +218,8 @@ span_within bs word start size found w n =
 
 pub some_span : (at : ℕ) (bs word : List ℕ) (start size : ℕ) → position (λ b. not (is_blank b)) bs ≡ Some start → word ≡ drop start bs
     → size ≡ position_or_len is_blank word
-    → spans_from at (slice_split is_blank bs) ≡ (at + start, at + start + size) ∷ spans_from (at + start + size) (slice_split is_blank (drop (start + size) bs))
+    → spans_from at (slice_split is_blank bs) ≡ (at + start, at + start + size)
+    ∷ spans_from (at + start + size) (slice_split is_blank (drop (start + size) bs))
 some_span at bs word start size found w n =
     let (here, below) = place_some (λ b. not (is_blank b)) bs start found in
     let left : length word ≡ length bs - start = ap length w ∙ length-drop start bs in

@@ -70,7 +70,8 @@ parts_skip [] = refl
 parts_skip (x ∷ xs) =
     elim (cases_Bool (is_blank x)) [
       | inl e ↦
-          let more : position_or_len (λ y. not (is_blank y)) (x ∷ xs) ≡ suc (position_or_len (λ y. not (is_blank y)) xs) = rw e (omega arith) in
+          let more : position_or_len (λ y. not (is_blank y)) (x ∷ xs)
+          ≡ suc (position_or_len (λ y. not (is_blank y)) xs) = rw e (omega arith) in
           rw more (parts_skip xs ∙ sym (parts_blank x xs e))
       | inr e ↦
           let none : position_or_len (λ y. not (is_blank y)) (x ∷ xs) ≡ 0 = rw e refl in
@@ -78,7 +79,8 @@ parts_skip (x ∷ xs) =
     ]
 
 -- a part ends at a blank
-parts_rest : (bs : List ℕ) → position_or_len is_blank bs < length bs → parts (drop (position_or_len is_blank bs) bs) ≡ parts (after_first is_blank bs)
+parts_rest : (bs : List ℕ) → position_or_len is_blank bs < length bs → parts (drop (position_or_len is_blank bs) bs)
+    ≡ parts (after_first is_blank bs)
 parts_rest [] h = absurd (omega arith)
 parts_rest (x ∷ xs) h =
     elim (cases_Bool (is_blank x)) [
@@ -100,7 +102,8 @@ starts_word [] h = absurd (omega arith)
 starts_word (x ∷ xs) h =
     elim (cases_Bool (is_blank x)) [
       | inl e ↦
-          let more : position_or_len (λ y. not (is_blank y)) (x ∷ xs) ≡ suc (position_or_len (λ y. not (is_blank y)) xs) = rw e (omega arith) in
+          let more : position_or_len (λ y. not (is_blank y)) (x ∷ xs)
+          ≡ suc (position_or_len (λ y. not (is_blank y)) xs) = rw e (omega arith) in
           rw more (starts_word xs (omega arith))
       | inr e ↦
           let none : position_or_len (λ y. not (is_blank y)) (x ∷ xs) ≡ 0 = rw e refl in
@@ -118,7 +121,8 @@ parts_first bs some there =
     elim (cases_lt (position_or_len is_blank bs) (length bs)) [
       | inl h ↦
           ap (filter is_some_word) (slice_split_first is_blank bs 0 h)
-          ∙ front_word (before_first is_blank bs) (slice_split is_blank (after_first is_blank bs)) (omega (arith, length-take (position_or_len is_blank bs) bs))
+          ∙ front_word (before_first is_blank bs) (slice_split is_blank (after_first is_blank bs))
+          (omega (arith, length-take (position_or_len is_blank bs) bs))
           ∙ ap (λ l. before_first is_blank bs ∷ l) (sym (parts_rest bs h))
       | inr h ↦
           ap (filter is_some_word) (split_none is_blank bs h)
@@ -127,12 +131,14 @@ parts_first bs some there =
     ]
 
 -- what `first_line` answers
-pub first_line_at : (bs line rest : List ℕ) (n : ℕ) → position is_line_feed bs ≡ Some n → line ≡ strip_carriage_return (take n bs) → rest ≡ drop (n + 1) bs
+pub first_line_at : (bs line rest : List ℕ) (n : ℕ) → position is_line_feed bs ≡ Some n → line ≡ strip_carriage_return (take n bs) → rest
+    ≡ drop (n + 1) bs
     → lines bs ≡ line ∷ lines rest
 first_line_at bs line rest n found front back =
     let (at, within) = place_some is_line_feed bs n found in
     let first = lines_first bs (omega arith) in
-    let same_line : strip_carriage_return (before_first is_line_feed bs) ≡ line = ap (λ k. strip_carriage_return (take k bs)) at ∙ sym front in
+    let same_line : strip_carriage_return (before_first is_line_feed bs) ≡ line = ap (λ k. strip_carriage_return (take k bs)) at
+    ∙ sym front in
     let same_rest : after_first is_line_feed bs ≡ rest = ap (λ k. drop (k + 1) bs) at ∙ sym back in
     first ∙ ap (λ l. l ∷ lines (after_first is_line_feed bs)) same_line ∙ ap (λ l. line ∷ lines l) same_rest
 

@@ -24,4 +24,5 @@ AreSlices whole start line = words line ≡ map (λ s. slice_range whole s.0 s.1
 -- each span has a byte and is within the text, and there is a byte between it and each later one
 pub record Rise (whole : List ℕ) (start : ℕ) (line : List ℕ) : Type 0 where
   pub within : (i : ℕ) (s : ℕ × ℕ) → slice_get (spans_at start line) i ≡ Some s → (s.0 < s.1) × (s.1 ≤ length whole)
-  pub apart : (i j : ℕ) (s r : ℕ × ℕ) → slice_get (spans_at start line) i ≡ Some s → slice_get (spans_at start line) j ≡ Some r → i < j → s.1 < r.0
+  pub apart : (i j : ℕ) (s r : ℕ × ℕ) → slice_get (spans_at start line) i ≡ Some s → slice_get (spans_at start line) j ≡ Some r → i < j
+      → s.1 < r.0

@@ -28,7 +28,8 @@ use Rattle.gl_riders.specs.Riding.{Rides}
 use Rattle.gl_threads.specs.declared.crew.Crew.{Crew}
 use Rattle.gl_threads.specs.declared.rider.Rider.{Rider}
 
-pub rides_new : (P : Bytecode) (z : TableId) (id steps : ℕ) (c : Config) (own : Own) → Fits P c → c ≡ fresh P id steps → own ≡ new_own z id → steps < 2 ^ 32 → Rides P z c own None
+pub rides_new : (P : Bytecode) (z : TableId) (id steps : ℕ) (c : Config) (own : Own) → Fits P c → c ≡ fresh P id steps → own ≡ new_own z id
+    → steps < 2 ^ 32 → Rides P z c own None
 unfolding levels_of
 rides_new P z id steps c own fits is new short =
     let fits' : Fits P (fresh P id steps) = rw is at fits in
@@ -86,18 +87,24 @@ dealt_more W n k crews crew rider dealt' less id gets = record {
         (let in' : n % W < length crews = (let l = dealt'.long in omega arith) in
         let old = dealt'.ids (n % W) crew less in
         let items : map rider_id crew.riders.items ≡ dealt W (n % W) (suc n) k ++ n ∷ [] =
-        ap (map rider_id) gets ∙ map-append rider_id (slice_index_or crews (n % W) crew).riders.items (rider ∷ []) ∙ (λ i. old i ++ id i ∷ []) in
-        let there : slice_index_or (slice_set crews (n % W) crew) c d ≡ crew = ap (λ j. slice_index_or (slice_set crews (n % W) crew) j d) same ∙ here crews (n % W) crew in' d in
-        ap (λ (q : Crew). map rider_id q.riders.items) there ∙ items ∙ (λ i. dealt W (sym same i) (suc n) k ++ sym (this_worker W c n (sym same)) i))
+        ap (map rider_id) gets ∙ map-append rider_id (slice_index_or crews (n % W) crew).riders.items (rider ∷ [])
+        ∙ (λ i. old i ++ id i ∷ []) in
+        let there : slice_index_or (slice_set crews (n % W) crew) c d
+        ≡ crew = ap (λ j. slice_index_or (slice_set crews (n % W) crew) j d) same ∙ here crews (n % W) crew in' d in
+        ap (λ (q : Crew). map rider_id q.riders.items) there ∙ items
+        ∙ (λ i. dealt W (sym same i) (suc n) k ++ sym (this_worker W c n (sym same)) i))
     | no other ↦
-        (ap (λ (q : Crew). map rider_id q.riders.items) (elsewhere crews (n % W) crew (let l = dealt'.long in omega arith) c d other) ∙ dealt'.ids c d low ∙ sym (append-nil (dealt W c (suc n) k))
+        (ap (λ (q : Crew). map rider_id q.riders.items) (elsewhere crews (n % W) crew (let l = dealt'.long in omega arith) c d other)
+        ∙ dealt'.ids c d low ∙ sym (append-nil (dealt W c (suc n) k))
         ∙ ap (λ ns. dealt W c (suc n) k ++ ns) (sym (other_worker W c n (λ same. other (sym same)))))
   ];
 }
 
 pub ready_more :
-    (P : Bytecode) (steps : ℕ) (t : TableView) (crews : List Crew) (c : ℕ) (crew : Crew) (rider : Rider) → AreReady P steps t crews → c < length crews → IsAboard P steps t.id rider →
-    crew.riders.items ≡ (slice_index_or crews c crew).riders.items ++ rider ∷ [] → crew.window ≡ (slice_index_or crews c crew).window → AreReady P steps t (slice_set crews c crew)
+    (P : Bytecode) (steps : ℕ) (t : TableView) (crews : List Crew) (c : ℕ) (crew : Crew) (rider : Rider) → AreReady P steps t crews
+    → c < length crews → IsAboard P steps t.id rider →
+    crew.riders.items ≡ (slice_index_or crews c crew).riders.items ++ rider ∷ [] → crew.window ≡ (slice_index_or crews c crew).window
+    → AreReady P steps t (slice_set crews c crew)
 ready_more P steps t crews c crew rider ready less aboard gets window = λ j d low. elim (ℕ_discrete j c) [
   | yes same ↦
       (let old = ready c crew less in
@@ -105,7 +112,8 @@ ready_more P steps t crews c crew rider ready less aboard gets window = λ j d l
         aboard = rw gets (All-push (IsAboard P steps t.id) (slice_index_or crews c crew).riders.items rider old.aboard aboard);
         room = rw window old.room;
       } in
-      let there : slice_index_or (slice_set crews c crew) j d ≡ crew = ap (λ i. slice_index_or (slice_set crews c crew) i d) same ∙ here crews c crew less d in
+      let there : slice_index_or (slice_set crews c crew) j d ≡ crew = ap (λ i. slice_index_or (slice_set crews c crew) i d) same
+      ∙ here crews c crew less d in
       let at : Crew → Type 0 = λ q. IsReady P steps t q in subst at (sym there) now)
   | no other ↦
       (let at : Crew → Type 0 = λ q. IsReady P steps t q in
@@ -157,15 +165,18 @@ pub dealt_less :
 dealt_less W n k crews crew rider dealt' less gives =
     let in' : n % W < length crews = (let l = dealt'.long in omega arith) in
     let old : map rider_id (crew.riders.items ++ rider ∷ []) ≡ dealt W (n % W) (suc n) k ++ n ∷ [] =
-    ap (map rider_id) (sym gives) ∙ dealt'.ids (n % W) crew less ∙ ap (λ ns. dealt W (n % W) (suc n) k ++ ns) (this_worker W (n % W) n refl) in
-    let last : IsLast n (dealt W (n % W) (suc n) k) crew.riders.items rider = is_last n (dealt W (n % W) (suc n) k) crew.riders.items rider old in
+    ap (map rider_id) (sym gives) ∙ dealt'.ids (n % W) crew less
+    ∙ ap (λ ns. dealt W (n % W) (suc n) k ++ ns) (this_worker W (n % W) n refl) in
+    let last : IsLast n (dealt W (n % W) (suc n) k) crew.riders.items rider =
+    is_last n (dealt W (n % W) (suc n) k) crew.riders.items rider old in
     record {
       id = last.id;
       dealt = record {
         long = length-set crews (n % W) crew ∙ dealt'.long;
         ids = λ c d low. elim (ℕ_discrete c (n % W)) [
           | yes same ↦
-              (let there : slice_index_or (slice_set crews (n % W) crew) c d ≡ crew = ap (λ j. slice_index_or (slice_set crews (n % W) crew) j d) same ∙ here crews (n % W) crew in' d in
+              (let there : slice_index_or (slice_set crews (n % W) crew) c d
+              ≡ crew = ap (λ j. slice_index_or (slice_set crews (n % W) crew) j d) same ∙ here crews (n % W) crew in' d in
               ap (λ (q : Crew). map rider_id q.riders.items) there ∙ last.left_ids ∙ ap (λ j. dealt W j (suc n) k) (sym same))
           | no other ↦
               (ap (λ (q : Crew). map rider_id q.riders.items) (elsewhere crews (n % W) crew in' c d other) ∙ dealt'.ids c d low
@@ -175,9 +186,11 @@ dealt_less W n k crews crew rider dealt' less gives =
     }
 
 -- there is one to give away
-pub dealt_some : (W n k : ℕ) (crews : List Crew) → AreDealt W n (suc k) crews → n % W < W → ((d : Crew) → (slice_index_or crews (n % W) d).riders.items ≡ []) → (d : Crew) → ⊥
+pub dealt_some : (W n k : ℕ) (crews : List Crew) → AreDealt W n (suc k) crews → n % W < W
+    → ((d : Crew) → (slice_index_or crews (n % W) d).riders.items ≡ []) → (d : Crew) → ⊥
 dealt_some W n k crews dealt' less none d =
-    let e : [] ≡ dealt W (n % W) (suc n) k ++ n ∷ [] = ap (map rider_id) (sym (none d)) ∙ dealt'.ids (n % W) d less ∙ ap (λ ns. dealt W (n % W) (suc n) k ++ ns) (this_worker W (n % W) n refl) in
+    let e : [] ≡ dealt W (n % W) (suc n) k ++ n ∷ [] = ap (map rider_id) (sym (none d)) ∙ dealt'.ids (n % W) d less
+    ∙ ap (λ ns. dealt W (n % W) (suc n) k ++ ns) (this_worker W (n % W) n refl) in
     short (dealt W (n % W) (suc n) k) n e
   where
     short : (zs : List ℕ) (y : ℕ) → [] ≡ zs ++ y ∷ [] → ⊥
@@ -185,15 +198,18 @@ dealt_some W n k crews dealt' less none d =
     short (z ∷ zs) y e = cc
 
 pub done_less :
-    (P : Bytecode) (steps : ℕ) (z : TableId) (crews : List Crew) (c : ℕ) (crew : Crew) (rider : Rider) → AreDone P steps z crews → c < length crews →
-    (slice_index_or crews c crew).riders.items ≡ crew.riders.items ++ rider ∷ [] → AreDone P steps z (slice_set crews c crew) × IsFinished P steps z rider.pass
+    (P : Bytecode) (steps : ℕ) (z : TableId) (crews : List Crew) (c : ℕ) (crew : Crew) (rider : Rider) → AreDone P steps z crews
+    → c < length crews →
+    (slice_index_or crews c crew).riders.items ≡ crew.riders.items ++ rider ∷ [] → AreDone P steps z (slice_set crews c crew)
+    × IsFinished P steps z rider.pass
 done_less P steps z crews c crew rider done less gives =
     let F : Rider → Type 0 = λ r. IsFinished P steps z r.pass in
     let both : AreFinished P steps z (crew.riders.items ++ rider ∷ []) = rw gives at (done c crew less) in
     let parts = All-pop F (crew.riders.items ++ rider ∷ []) crew.riders.items (Some rider) refl both in (
       λ j d low. elim (ℕ_discrete j c) [
         | yes same ↦
-            (let there : slice_index_or (slice_set crews c crew) j d ≡ crew = ap (λ i. slice_index_or (slice_set crews c crew) i d) same ∙ here crews c crew less d in
+            (let there : slice_index_or (slice_set crews c crew) j d ≡ crew = ap (λ i. slice_index_or (slice_set crews c crew) i d) same
+            ∙ here crews c crew less d in
             let at : Crew → Type 0 = λ q. AreFinished P steps z q.riders.items in subst at (sym there) parts.0)
         | no other ↦
             (let at : Crew → Type 0 = λ q. AreFinished P steps z q.riders.items in
@@ -205,14 +221,16 @@ done_less P steps z crews c crew rider done less gives =
 -- ## Passes
 
 pub back_more :
-    (P : Bytecode) (steps : ℕ) (z : TableId) (n : ℕ) (ps : List PassView) (v : PassView) → AreBack P steps z ps → length ps ≡ n → v.own.id ≡ n → IsFinished P steps z v →
+    (P : Bytecode) (steps : ℕ) (z : TableId) (n : ℕ) (ps : List PassView) (v : PassView) → AreBack P steps z ps → length ps ≡ n → v.own.id
+    ≡ n → IsFinished P steps z v →
     AreBack P steps z (ps ++ v ∷ [])
 back_more P steps z n ps v back long id finished = record {
   ids = λ j d less. by_place (λ (u : PassView). u.own.id ≡ j) j d less (λ low. back.ids j d low) (λ same. id ∙ sym same);
   finished = λ j d less. by_place (λ u. IsFinished P steps z u) j d less (λ low. back.finished j d low) (λ same. finished);
 } where
   by_place :
-      (Q : PassView → Type 0) (j : ℕ) (d : PassView) → j < length (ps ++ v ∷ []) → (j < length ps → Q (slice_index_or ps j d)) → (j ≡ n → Q v) →
+      (Q : PassView → Type 0) (j : ℕ) (d : PassView) → j < length (ps ++ v ∷ []) → (j < length ps → Q (slice_index_or ps j d))
+      → (j ≡ n → Q v) →
       Q (slice_index_or (ps ++ v ∷ []) j d)
   by_place Q j d less low last = elim (ℕ_discrete j n) [
     | yes same ↦ subst Q (sym (get_or_at ps v [] d j (long ∙ sym same))) (last same)
@@ -226,7 +244,8 @@ pub record IsNewLast (z : TableId) (n : ℕ) (left : List PassView) (v : PassVie
   pub new : v.own ≡ new_own z n
   pub rest : AreNew z left
 
-pub new_less : (z : TableId) (n : ℕ) (ps left : List PassView) (v : PassView) → AreNew z ps → ps ≡ left ++ v ∷ [] → length left ≡ n → IsNewLast z n left v
+pub new_less : (z : TableId) (n : ℕ) (ps left : List PassView) (v : PassView) → AreNew z ps → ps ≡ left ++ v ∷ [] → length left ≡ n
+    → IsNewLast z n left v
 new_less z n ps left v new is long =
     let new' : AreNew z (left ++ v ∷ []) = rw is at new in
     let l = length-append left (v ∷ []) in
@@ -253,7 +272,8 @@ module _ (P : Bytecode) (steps : ℕ) (z : TableId) (W : ℕ) where
     pub long : length ps ≡ n
     pub back : AreBack P steps z ps
 
-  pub gathers_some : (n : ℕ) (crews : List Crew) (ps : List PassView) → Gathers n crews ps → n < 16 → n % W < W → ((d : Crew) → (slice_index_or crews (n % W) d).riders.items ≡ []) → (d : Crew) → ⊥
+  pub gathers_some : (n : ℕ) (crews : List Crew) (ps : List PassView) → Gathers n crews ps → n < 16 → n % W < W
+      → ((d : Crew) → (slice_index_or crews (n % W) d).riders.items ≡ []) → (d : Crew) → ⊥
   gathers_some n crews ps g less low none d =
       let sum = g.sum in
       let m = suc_of g.k (omega arith) in
@@ -262,7 +282,8 @@ module _ (P : Bytecode) (steps : ℕ) (z : TableId) (W : ℕ) where
 
   pub gathers_more :
       (n : ℕ) (crews : List Crew) (ps : List PassView) (crew : Crew) (rider : Rider) → Gathers n crews ps → n < 16 → n % W < W →
-      (slice_index_or crews (n % W) crew).riders.items ≡ crew.riders.items ++ rider ∷ [] → Gathers (n + 1) (slice_set crews (n % W) crew) (ps ++ rider.pass ∷ [])
+      (slice_index_or crews (n % W) crew).riders.items ≡ crew.riders.items ++ rider ∷ []
+      → Gathers (n + 1) (slice_set crews (n % W) crew) (ps ++ rider.pass ∷ [])
   gathers_more n crews ps crew rider g less low gives =
       let sum = g.sum in
       let m = suc_of g.k (omega arith) in
@@ -293,7 +314,8 @@ module _ (P : Bytecode) (steps : ℕ) (t : TableView) (W : ℕ) where
     pub ready : AreReady P steps t crews
 
   pub deals_more :
-      (ps left : List PassView) (v : PassView) (crews : List Crew) (crew : Crew) (rider : Rider) → Deals ps crews → ps ≡ left ++ v ∷ [] → length left % W < W →
+      (ps left : List PassView) (v : PassView) (crews : List Crew) (crew : Crew) (rider : Rider) → Deals ps crews → ps ≡ left ++ v ∷ []
+      → length left % W < W →
       (v.own ≡ new_own v.own.table v.own.id → IsAboard P steps v.own.table rider × (rider_id rider ≡ v.own.id)) →
       crew.riders.items ≡ (slice_index_or crews (length left % W) crew).riders.items ++ rider ∷ [] →
       crew.window ≡ (slice_index_or crews (length left % W) crew).window → Deals left (slice_set crews (length left % W) crew)
@@ -301,10 +323,12 @@ module _ (P : Bytecode) (steps : ℕ) (t : TableView) (W : ℕ) where
       let sum = g.sum in
       let long : length ps ≡ suc (length left) = has_last 0 left v ps is in
       let last = new_less t.id (length left) ps left v g.new is refl in
-      let own : v.own ≡ new_own v.own.table v.own.id = last.new ∙ (λ i. new_own (ap (λ (o : Own). o.table) (sym last.new) i) (ap (λ (o : Own). o.id) (sym last.new) i)) in
+      let own : v.own ≡ new_own v.own.table v.own.id = last.new
+      ∙ (λ i. new_own (ap (λ (o : Own). o.table) (sym last.new) i) (ap (λ (o : Own). o.id) (sym last.new) i)) in
       let b = boards own in
       let id : rider_id rider ≡ length left = b.1 ∙ ap (λ (o : Own). o.id) last.new in
-      let aboard : IsAboard P steps t.id rider = (let at : TableId → Type 0 = λ z. IsAboard P steps z rider in subst at (ap (λ (o : Own). o.table) last.new) b.0) in
+      let aboard : IsAboard P steps t.id rider =
+      (let at : TableId → Type 0 = λ z. IsAboard P steps z rider in subst at (ap (λ (o : Own). o.table) last.new) b.0) in
       let dealt' : AreDealt W (suc (length left)) g.k crews = rw long at g.dealt in
       let in' : length left % W < length crews = (let l = dealt'.long in omega arith) in
       record {
@@ -327,7 +351,8 @@ pub record AreEmpty (W n : ℕ) (P : Bytecode) (steps : ℕ) (t : TableView) (cr
   pub ready : AreReady P steps t crews
 
 pub crews_new :
-    (W n : ℕ) (P : Bytecode) (steps : ℕ) (t : TableView) (room : ℕ) (crews : List Crew) → length crews ≡ W → capacity t.key ≡ room → All (IsEmptyCrew room) crews →
+    (W n : ℕ) (P : Bytecode) (steps : ℕ) (t : TableView) (room : ℕ) (crews : List Crew) → length crews ≡ W → capacity t.key ≡ room
+    → All (IsEmptyCrew room) crews →
     AreEmpty W n P steps t crews
 crews_new W n P steps t room crews long is none = record {
   dealt = record { long = long; ids = λ c d less. ap (map rider_id) (none c d (omega (arith, long))).none };
@@ -342,7 +367,8 @@ crews_new W n P steps t room crews long is none = record {
 fresh_at : (z : TableId) (n k j : ℕ) (d : PassView) → j < k → slice_index_or (fresh_from z n k) j d ≡ new_pass z (n + j)
 fresh_at z n zero j d less = absurd (omega arith)
 fresh_at z n (suc k) zero d less = (let same : n ≡ n + 0 = omega arith in ap (new_pass z) same)
-fresh_at z n (suc k) (suc j) d less = (let same : suc n + j ≡ n + suc j = omega arith in fresh_at z (suc n) k j d (omega arith) ∙ ap (new_pass z) same)
+fresh_at z n (suc k) (suc j) d less = (let same : suc n + j ≡ n + suc j = omega arith in fresh_at z (suc n) k j d (omega arith)
+    ∙ ap (new_pass z) same)
 
 pub fresh_long : (z : TableId) (n k : ℕ) → length (fresh_from z n k) ≡ k
 fresh_long z n zero = refl
@@ -353,4 +379,5 @@ fresh_new z ps is j d less =
     let long : length ps ≡ 16 = ap length is ∙ fresh_long z 0 16 in
     let low : j < 16 = omega arith in
     let same : 0 + j ≡ j = omega arith in
-    ap (λ (qs : List PassView). (slice_index_or qs j d).own) is ∙ ap (λ (p : PassView). p.own) (fresh_at z 0 16 j d low) ∙ ap (new_own z) same
+    ap (λ (qs : List PassView). (slice_index_or qs j d).own) is ∙ ap (λ (p : PassView). p.own) (fresh_at z 0 16 j d low)
+    ∙ ap (new_own z) same

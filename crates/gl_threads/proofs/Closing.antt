@@ -22,7 +22,8 @@ use Rattle.gl_threads.specs.Crews.{CrewIsDone}
 use Rattle.gl_threads.specs.Dealing.{AreBack, AreDealt, AreDone}
 use Rattle.gl_threads.specs.declared.crew.Crew.{Crew}
 
-none_any : (p : Crew → Bool) (xs : List Crew) → list_any p xs ≡ false → (c : ℕ) (d : Crew) → c < length xs → p (slice_index_or xs c d) ≡ false
+none_any : (p : Crew → Bool) (xs : List Crew) → list_any p xs ≡ false → (c : ℕ) (d : Crew) → c < length xs → p (slice_index_or xs c d)
+    ≡ false
 none_any p [] none c d less = absurd (omega arith)
 none_any p (x ∷ xs) none zero d less = first (p x) (list_any p xs) none where
   first : (a b : Bool) → (a || b) ≡ false → a ≡ false
@@ -63,7 +64,8 @@ got_index (x ∷ ps) zero d less = refl
 got_index (x ∷ ps) (suc j) d less = got_index ps j d (omega arith)
 
 -- what is true of the pass at a place
-back_at : (P : Bytecode) (steps : ℕ) (z : TableId) (ps : List PassView) (j : ℕ) (p : PassView) → AreBack P steps z ps → slice_get ps j ≡ Some p → (p.own.id ≡ j) × IsFinished P steps z p
+back_at : (P : Bytecode) (steps : ℕ) (z : TableId) (ps : List PassView) (j : ℕ) (p : PassView) → AreBack P steps z ps → slice_get ps j
+    ≡ Some p → (p.own.id ≡ j) × IsFinished P steps z p
 back_at P steps z ps j p back is =
     let g = index_got ps j p is in
     let F : PassView → Type 0 = λ v. IsFinished P steps z v in
@@ -75,7 +77,8 @@ back_done P steps z ps long back = record {
   each = λ j p is. (let b = back_at P steps z ps j p back is in record { table = b.1.table; id = b.0; held = b.1.held; done = b.1.done });
 }
 
-pub back_runs : (P : Bytecode) (steps : ℕ) (z : TableId) (ps : List PassView) → AreBack P steps z ps → (j : ℕ) (p : PassView) → slice_get ps j ≡ Some p → p.own.mine ≢ [] → Runs P steps j p.own.mine
+pub back_runs : (P : Bytecode) (steps : ℕ) (z : TableId) (ps : List PassView) → AreBack P steps z ps → (j : ℕ) (p : PassView)
+    → slice_get ps j ≡ Some p → p.own.mine ≢ [] → Runs P steps j p.own.mine
 back_runs P steps z ps back j p is some =
     let b = back_at P steps z ps j p back is in
     let at : ℕ → Type 0 = λ n. Runs P steps n p.own.mine in
@@ -92,16 +95,18 @@ IsRun P steps v = v.own.mine ≢ [] → Runs P steps v.own.id v.own.mine
 
 mine_runs : (P : Bytecode) (steps t : ℕ) (ps : List PassView) → All (IsRun P steps) ps → mine_at ps t ≢ [] → Runs P steps t (mine_at ps t)
 mine_runs P steps t [] runs some = absurd (some refl)
-mine_runs P steps t (p ∷ ps) runs some = by_test (p.own.id == t) refl some (λ more. mine_runs P steps t ps (All-tail (IsRun P steps) p ps runs) more) where
-  by_test :
-      (b : Bool) → (p.own.id == t) ≡ b → (if b then p.own.mine else mine_at ps t) ≢ [] → (mine_at ps t ≢ [] → Runs P steps t (mine_at ps t)) →
-      Runs P steps t (if b then p.own.mine else mine_at ps t)
-  by_test true is some' more =
-      let same : p.own.id ≡ t = grind (arith, nat_tests) in
-      let at : ℕ → Type 0 = λ n. Runs P steps n p.own.mine in
-      let here : IsRun P steps p = All-head (IsRun P steps) p ps runs in
-      subst at same (here some')
-  by_test false is some' more = more some'
+mine_runs P steps t (p ∷ ps) runs some = by_test (p.own.id == t) refl some
+    (λ more. mine_runs P steps t ps (All-tail (IsRun P steps) p ps runs) more) where
+      by_test :
+          (b : Bool) → (p.own.id == t) ≡ b → (if b then p.own.mine else mine_at ps t) ≢ []
+          → (mine_at ps t ≢ [] → Runs P steps t (mine_at ps t)) →
+          Runs P steps t (if b then p.own.mine else mine_at ps t)
+      by_test true is some' more =
+          let same : p.own.id ≡ t = grind (arith, nat_tests) in
+          let at : ℕ → Type 0 = λ n. Runs P steps n p.own.mine in
+          let here : IsRun P steps p = All-head (IsRun P steps) p ps runs in
+          subst at same (here some')
+      by_test false is some' more = more some'
 
 all_run :
     (P : Bytecode) (steps : ℕ) (z : TableId) (ps : List PassView) → AreAllDone z ps →
@@ -114,8 +119,10 @@ all_run P steps z ps done runs = λ j d less some.
 
 -- the record of a table whose passes are done
 pub closed_lawful :
-    (P : Bytecode) (inputs : List ℤ) (steps : ℕ) (z : TableId) (setting : Setting) (ps : List PassView) (R : Lists) → setting ≡ setting_of P inputs → AreAllDone z ps →
-    ((j : ℕ) (p : PassView) → slice_get ps j ≡ Some p → p.own.mine ≢ [] → Runs P steps j p.own.mine) → ((t : ℕ) → R t ≡ mine_at ps t) → IsLawful setting R → Lawful P inputs steps R
+    (P : Bytecode) (inputs : List ℤ) (steps : ℕ) (z : TableId) (setting : Setting) (ps : List PassView) (R : Lists) → setting
+    ≡ setting_of P inputs → AreAllDone z ps →
+    ((j : ℕ) (p : PassView) → slice_get ps j ≡ Some p → p.own.mine ≢ [] → Runs P steps j p.own.mine) → ((t : ℕ) → R t ≡ mine_at ps t)
+    → IsLawful setting R → Lawful P inputs steps R
 closed_lawful P inputs steps z setting ps R set done runs lists allowed = record {
   allowed = (let at : Setting → Type 0 = λ s. IsLawful s R in subst at set allowed);
   runs =
@@ -133,4 +140,5 @@ mine_spared t (p ∷ ps) spared = by_test (p.own.id == t) (mine_spared t ps (All
 
 -- and it is sparing
 pub closed_sparing : (ps : List PassView) (R : Lists) → All (λ v. IsSpared v.own.mine) ps → ((t : ℕ) → R t ≡ mine_at ps t) → Sparing R
-closed_sparing ps R spared lists = λ t. (let at : List Entry → Type 0 = λ es. IsSpared es in subst at (sym (lists t)) (mine_spared t ps spared))
+closed_sparing ps R spared lists = λ t. (let at : List Entry → Type 0 = λ es. IsSpared es
+    in subst at (sym (lists t)) (mine_spared t ps spared))

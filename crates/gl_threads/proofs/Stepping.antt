@@ -47,7 +47,8 @@ quiet_go : (o : Option Attempt) (p : Progress) → is_quiet o p Go Gone ≡ true
 quiet_go None p = refl
 quiet_go (Some a) p = refl
 
-go_answered : (P : Bytecode) (z : TableId) (c : Config) (own : Own) (txn : Option Attempting) → Rides P z c own txn → IsAnswered P c Go Gone own own txn txn
+go_answered : (P : Bytecode) (z : TableId) (c : Config) (own : Own) (txn : Option Attempting) → Rides P z c own txn
+    → IsAnswered P c Go Gone own own txn txn
 go_answered P z c own txn rides = record {
   exchange = Quiet Gone;
   gives = rw (quiet_go c.attempt (progress_of c txn)) refl;
@@ -74,24 +75,29 @@ pub record Stays (P : Bytecode) (z : TableId) (c d : Config) (own new : Own) (af
   pub table : new.table ≡ own.table
 
 pub answered_on :
-    (P : Bytecode) (z : TableId) (c d : Config) (own mid new : Own) (txn after : Option Attempting) (ask r : Ask) (reply : Reply) → Rides P z c own txn →
-    mid ≡ own → ask ≡ ask_of c.stage → IsAnswered P c ask reply mid new txn after → d ≡ next P c reply → r ≡ ask_of d.stage → AsksInRange P r →
+    (P : Bytecode) (z : TableId) (c d : Config) (own mid new : Own) (txn after : Option Attempting) (ask r : Ask) (reply : Reply)
+    → Rides P z c own txn →
+    mid ≡ own → ask ≡ ask_of c.stage → IsAnswered P c ask reply mid new txn after → d ≡ next P c reply → r ≡ ask_of d.stage
+    → AsksInRange P r →
     is_some d.attempt ≡ runs_after (ask_of c.stage) (is_some c.attempt) → Stays P z c d own new after
 answered_on P z c d own mid new txn after ask r reply rides same asks answered steps is range attempt =
     let a : IsAnswered P c (ask_of c.stage) reply own new txn after =
     (let at : Ask × Own → Type 0 = λ t. IsAnswered P c t.0 reply t.1 new txn after in subst at (λ i. (asks i, same i)) answered) in
-    let range' : AsksInRange P (ask_of (next P c reply).stage) = (let at : Config → Type 0 = λ e. AsksInRange P (ask_of e.stage) in subst at steps (rw is at range)) in
+    let range' : AsksInRange P (ask_of (next P c reply).stage) =
+    (let at : Config → Type 0 = λ e. AsksInRange P (ask_of e.stage) in subst at steps (rw is at range)) in
     let taken : takes c reply ≡ true = takes_told P c reply rides.orderly a.fitting a.leaves in
     let f : Falls P c (ask_of c.stage) reply (next P c reply) = step_falls P c reply rides.orderly taken in
     record {
-      rides = rw steps (rides_on P z c reply own new txn after rides a range' (ap (λ (e : Config). is_some e.attempt) (sym steps) ∙ attempt));
+      rides = rw steps (rides_on P z c reply own new txn after rides a range' (ap (λ (e : Config). is_some e.attempt) (sym steps)
+          ∙ attempt));
       limit = ap (λ (e : Config). e.limit) steps ∙ f.limit;
       id = ap (λ (v : Own). v.id) a.rest;
       table = ap (λ (v : Own). v.table) a.rest;
     }
 
 pub answered_may :
-    (P : Bytecode) (z : TableId) (c : Config) (own mid new : Own) (txn after : Option Attempting) (ask : Ask) (reply : Reply) → Rides P z c own txn →
+    (P : Bytecode) (z : TableId) (c : Config) (own mid new : Own) (txn after : Option Attempting) (ask : Ask) (reply : Reply)
+    → Rides P z c own txn →
     ask ≡ ask_of c.stage → IsAnswered P c ask reply mid new txn after → takes c reply ≡ true
 answered_may P z c own mid new txn after ask reply rides asks answered =
     let at : Ask → Type 0 = λ t. IsAnswered P c t reply mid new txn after in
@@ -99,24 +105,17 @@ answered_may P z c own mid new txn after ask reply rides asks answered =
     takes_told P c reply rides.orderly a.fitting a.leaves
 
 pub goes_on :
-    (P : Bytecode) (z : TableId) (c d : Config) (own mid : Own) (txn : Option Attempting) (r : Ask) → Rides P z c own txn → mid ≡ own → Go ≡ ask_of c.stage →
-    d ≡ next P c Gone → r ≡ ask_of d.stage → AsksInRange P r → is_some d.attempt ≡ runs_after (ask_of c.stage) (is_some c.attempt) → Stays P z c d own mid txn
+    (P : Bytecode) (z : TableId) (c d : Config) (own mid : Own) (txn : Option Attempting) (r : Ask) → Rides P z c own txn → mid ≡ own → Go
+    ≡ ask_of c.stage →
+    d ≡ next P c Gone → r ≡ ask_of d.stage → AsksInRange P r → is_some d.attempt ≡ runs_after (ask_of c.stage) (is_some c.attempt)
+    → Stays P z c d own mid txn
 goes_on P z c d own mid txn r rides same asks steps is range attempt =
     answered_on P z c d own mid mid txn txn Go r Gone rides same asks (rw same (go_answered P z c own txn rides)) steps is range attempt
 
-pub rides_same : (P : Bytecode) (z : TableId) (c : Config) (own mid new : Own) (txn after : Option Attempting) → Rides P z c own txn → mid ≡ own → new ≡ mid → after ≡ txn → Stays P z c c own new after
-rides_same P z c own mid new txn after rides same same' idle =
-    let is : new ≡ own = same' ∙ same in
-    record {
-      rides = rw (is, idle) rides;
-      limit = refl;
-      id = ap (λ (v : Own). v.id) is;
-      table = ap (λ (v : Own). v.table) is;
-    }
-
 -- nothing was done but to write some words back
 pub rides_again :
-    (P : Bytecode) (z : TableId) (c : Config) (own new : Own) (txn after : Option Attempting) → Rides P z c own txn → new ≡ record own { owed = new.owed } → after ≡ txn →
+    (P : Bytecode) (z : TableId) (c : Config) (own new : Own) (txn after : Option Attempting) → Rides P z c own txn → new
+    ≡ record own { owed = new.owed } → after ≡ txn →
     Stays P z c c own new after
 rides_again P z c own new txn after rides paid idle = record {
   rides = rw idle (rides_paid P z c own new txn rides paid);
@@ -131,7 +130,8 @@ kept_swept words None old new swept kept = owns_swept words old new swept kept
 kept_swept words (Some a) old new swept kept = (kept.0, ap (λ (v : Own). v.owed) swept.own ∙ kept.1)
 
 pub rides_swept_on :
-    (P : Bytecode) (z : TableId) (c : Config) (old new : Own) (txn : Option Attempting) → Rides P z c old txn → IsOpen (life_of old.mine) → IsSwept old new → Stays P z c c old new txn
+    (P : Bytecode) (z : TableId) (c : Config) (old new : Own) (txn : Option Attempting) → Rides P z c old txn → IsOpen (life_of old.mine)
+    → IsSwept old new → Stays P z c c old new txn
 rides_swept_on P z c old new txn rides goes s = record {
   rides = rides_swept P z c old new txn rides goes s;
   limit = refl;
@@ -166,12 +166,15 @@ asks_open Input l is for = inr for
 asks_open TxBegin l is for = inr for
 asks_open (TxEnd keep) l is for = inr for
 
-pub ask_open : (P : Bytecode) (z : TableId) (c : Config) (own : Own) (txn : Option Attempting) (ask : Ask) → ask ≡ ask_of c.stage → IsAsk ask → Rides P z c own txn → IsOpen (life_of own.mine)
+pub ask_open : (P : Bytecode) (z : TableId) (c : Config) (own : Own) (txn : Option Attempting) (ask : Ask) → ask ≡ ask_of c.stage
+    → IsAsk ask → Rides P z c own txn → IsOpen (life_of own.mine)
 ask_open P z c own txn ask asks is rides = asks_open ask (life_of own.mine) is (rw asks (rides_life P z c own txn rides (rw asks at is)))
 
 pub may_sweep :
-    (P : Bytecode) (t : TableView) (c : Config) (v : PassView) (txn : Option Attempting) (ask : Ask) → Rides P t.id c v.own txn → ask ≡ ask_of c.stage → IsAsk ask → 0 < v.spare → MaySettle t v
-may_sweep P t c v txn ask rides asks is room = record { table = rides.table; held = rides.held; spare = room; goes_on = ask_open P t.id c v.own txn ask asks is rides }
+    (P : Bytecode) (t : TableView) (c : Config) (v : PassView) (txn : Option Attempting) (ask : Ask) → Rides P t.id c v.own txn → ask
+    ≡ ask_of c.stage → IsAsk ask → 0 < v.spare → MaySettle t v
+may_sweep P t c v txn ask rides asks is room =
+    record { table = rides.table; held = rides.held; spare = room; goes_on = ask_open P t.id c v.own txn ask asks is rides }
 
 -- where Over stands, the list is closed
 closed_stays : (es : List Entry) → life_from Closed es ≡ Closed
@@ -204,25 +207,32 @@ open_not_closed Ended goes is = cc
 open_not_closed Closed goes is = elim goes [ inl e ↦ (cc) | inr e ↦ (cc) ]
 
 pub home_unforked :
-    (P : Bytecode) (z : TableId) (c : Config) (v : PassView) (txn : Option Attempting) (ask : Ask) → Rides P z c v.own txn → ask ≡ ask_of c.stage → IsAsk ask →
+    (P : Bytecode) (z : TableId) (c : Config) (v : PassView) (txn : Option Attempting) (ask : Ask) → Rides P z c v.own txn → ask
+    ≡ ask_of c.stage → IsAsk ask →
     IsDone v.own.mine v.quiet → IsFinished P c.limit z v
-home_unforked P z c v txn ask rides asks is done = record { table = rides.table; held = rides.held; done = done; runs = λ some. absurd (some (empty done)); spared = rides.spares.spared } where
-  empty : IsDone v.own.mine v.quiet → v.own.mine ≡ []
-  empty (inl over) = absurd (open_not_closed (life_of v.own.mine) (ask_open P z c v.own txn ask asks is rides) (closed_by Unbegun v.own.mine over.0 over.1.0 over.1.1 over.1.2))
-  empty (inr none) = none.0
+home_unforked P z c v txn ask rides asks is done =
+    record { table = rides.table; held = rides.held; done = done; runs = λ some. absurd (some (empty done)); spared = rides.spares.spared }
+  where
+    empty : IsDone v.own.mine v.quiet → v.own.mine ≡ []
+    empty (inl over) = absurd (open_not_closed (life_of v.own.mine) (ask_open P z c v.own txn ask asks is rides)
+        (closed_by Unbegun v.own.mine over.0 over.1.0 over.1.1 over.1.2))
+    empty (inr none) = none.0
 
 -- where nothing comes any more
 over_stage : (P : Bytecode) (c : Config) (e : Ending) (stage : Stage) → StageIsOrderly P c stage → Over e ≡ ask_of stage → stage ≡ IsOver e
 over_stage P c e New orderly asks = cc
 over_stage P c e Begins orderly asks = cc
 over_stage P c e IsRuns orderly asks = cc
-over_stage P c e (Waits ask) orderly asks = absurd (let at : Ask → Type 0 = λ q. StageIsOrderly P c (Waits q) in let o : StageIsOrderly P c (Waits (Over e)) = subst at (sym asks) orderly in o.asks)
+over_stage P c e (Waits ask) orderly asks =
+    absurd (let at : Ask → Type 0 = λ q. StageIsOrderly P c (Waits q)
+    in let o : StageIsOrderly P c (Waits (Over e)) = subst at (sym asks) orderly in o.asks)
 over_stage P c e (Drops failure) orderly asks = cc
 over_stage P c e (Leaves ending o) orderly asks = cc
 over_stage P c e (Ends ending) orderly asks = cc
 over_stage P c e (IsOver ending) orderly asks = (let is : e ≡ ending = cc in ap IsOver (sym is))
 
-pub ends_over : (P : Bytecode) (z : TableId) (c : Config) (own : Own) (txn : Option Attempting) (e : Ending) → Rides P z c own txn → Over e ≡ ask_of c.stage → life_of own.mine ≡ Ended
+pub ends_over : (P : Bytecode) (z : TableId) (c : Config) (own : Own) (txn : Option Attempting) (e : Ending) → Rides P z c own txn → Over e
+    ≡ ask_of c.stage → life_of own.mine ≡ Ended
 ends_over P z c own txn e rides asks =
     let is : c.stage ≡ IsOver e = over_stage P c e c.stage rides.orderly.stage asks in
     rides.life ∙ ap life_at is
@@ -235,7 +245,8 @@ home_over P z c own v txn e rides whole asks =
     let mine : v.own.mine ≡ own.mine ++ IsOverEntry e ∷ [] = ap (λ (u : Own). u.mine) whole in
     let id : v.own.id ≡ own.id = ap (λ (u : Own). u.id) whole in
     let at : ℕ × List Entry → Type 0 = λ t. Runs P c.limit t.0 t.1 in
-    let runs : Runs P c.limit v.own.id v.own.mine = subst at (λ i. (sym id i, sym mine i)) (along_over P c.limit own.id own.mine (progress_of c txn) e rides.along stage) in
+    let runs : Runs P c.limit v.own.id v.own.mine =
+    subst at (λ i. (sym id i, sym mine i)) (along_over P c.limit own.id own.mine (progress_of c txn) e rides.along stage) in
     let done : List Entry → Type 0 = λ es. IsDone es v.quiet in
     record {
       table = ap (λ (u : Own). u.table) whole ∙ rides.table;

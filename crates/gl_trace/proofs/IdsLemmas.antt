@@ -26,7 +26,8 @@ pub last_split : (bs : List ℕ) → position is_comma bs ≡ None → slice_spl
 last_split bs none = split_none is_comma bs (place_none is_comma bs none)
 
 -- where no number reaches n, all are below it
-below_of : (xs : List ℕ) (n : ℕ) (x : ℕ) → (nat_le n x || list_any (λ y. nat_le n y) xs) ≡ false → (x < n) × (list_any (λ y. nat_le n y) xs ≡ false)
+below_of : (xs : List ℕ) (n : ℕ) (x : ℕ) → (nat_le n x || list_any (λ y. nat_le n y) xs) ≡ false → (x < n)
+    × (list_any (λ y. nat_le n y) xs ≡ false)
 below_of xs n x none =
     elim (cases_Bool (nat_le n x)) [
       | inl e ↦ let whole : (nat_le n x || list_any (λ y. nat_le n y) xs) ≡ true = rw e refl in absurd cc
@@ -39,7 +40,8 @@ rises_push (x ∷ xs) n r none =
     let (below, rest) = below_of xs n x none in
     let (first, others) = and_parts (list_all (λ y. nat_lt x y) xs) (rises xs) r in
     and_from (list_all (λ y. nat_lt x y) (xs ++ n ∷ [])) (rises (xs ++ n ∷ []))
-    (list_all-append (λ y. nat_lt x y) xs (n ∷ []) ∙ and_from (list_all (λ y. nat_lt x y) xs) (nat_lt x n && true) first (rw (lt-ltb x n below) refl))
+    (list_all-append (λ y. nat_lt x y) xs (n ∷ [])
+    ∙ and_from (list_all (λ y. nat_lt x y) xs) (nat_lt x n && true) first (rw (lt-ltb x n below) refl))
     (rises_push xs n others rest)
 
 falls_push : (xs : List ℕ) (n : ℕ) → list_any (λ x. nat_le n x) xs ≡ true → rises (xs ++ n ∷ []) ≡ false
@@ -67,26 +69,25 @@ goes_last (x ∷ xs) n none =
 pub falls : (xs : List ℕ) (n : ℕ) → list_any (λ x. nat_le n x) xs ≡ true → None ≡ as_set (xs ++ n ∷ [])
 falls xs n some = rw (and_left (rises (xs ++ n ∷ [])) (nat_le (length (xs ++ n ∷ [])) TX_VARIABLES) (falls_push xs n some)) refl
 
-pub overflows : (xs : List ℕ) (n : ℕ) → length xs ≡ TX_VARIABLES → None ≡ as_set (xs ++ n ∷ [])
-overflows xs n full =
-    let over : nat_le (length (xs ++ n ∷ [])) TX_VARIABLES ≡ false = lt-leb (length (xs ++ n ∷ [])) TX_VARIABLES (omega (arith, length-append xs (n ∷ []))) in
-    rw (and_right (rises (xs ++ n ∷ [])) (nat_le (length (xs ++ n ∷ [])) TX_VARIABLES) over) refl
-
 holds_any : (xs : List ℕ) (n : ℕ) → list_any (λ x. nat_le n x) xs ≡ false → Contains xs n → ⊥
 holds_any xs n none h = true≢false (sym (list_any-from_Any (λ x. nat_le n x) xs (h.0, n, h.1, h.2, le-leb n n (omega arith))) ∙ none)
 
-pub grows : (xs ys : List ℕ) (n : ℕ) → is_set xs ≡ true → list_any (λ x. nat_le n x) xs ≡ false → ((length xs ≡ TX_VARIABLES) × (Contains xs n → ⊥) → ⊥)
+pub grows : (xs ys : List ℕ) (n : ℕ) → is_set xs ≡ true → list_any (λ x. nat_le n x) xs ≡ false
+    → ((length xs ≡ TX_VARIABLES) × (Contains xs n → ⊥) → ⊥)
     → ys ≡ with_one n xs → Some ys ≡ as_set (xs ++ n ∷ [])
 grows xs ys n set none room e =
-    let most : length xs ≤ TX_VARIABLES = leb-true (length xs) TX_VARIABLES (and_parts (rises xs) (nat_le (length xs) TX_VARIABLES) set).1 in
+    let most : length xs ≤ TX_VARIABLES = leb-true (length xs) TX_VARIABLES (and_parts (rises xs) (nat_le (length xs) TX_VARIABLES) set).1
+    in
     let few : length xs < TX_VARIABLES =
     elim (cases_lt (length xs) TX_VARIABLES) [
       | inl h ↦ h
       | inr h ↦ absurd (room (omega arith, holds_any xs n none))
     ] in
     let (up, count) = and_parts (rises xs) (nat_le (length xs) TX_VARIABLES) set in
-    let fits : nat_le (length (xs ++ n ∷ [])) TX_VARIABLES ≡ true = le-leb (length (xs ++ n ∷ [])) TX_VARIABLES (omega (arith, length-append xs (n ∷ []))) in
-    let still : is_set (xs ++ n ∷ []) ≡ true = and_from (rises (xs ++ n ∷ [])) (nat_le (length (xs ++ n ∷ [])) TX_VARIABLES) (rises_push xs n up none) fits in
+    let fits : nat_le (length (xs ++ n ∷ [])) TX_VARIABLES
+    ≡ true = le-leb (length (xs ++ n ∷ [])) TX_VARIABLES (omega (arith, length-append xs (n ∷ []))) in
+    let still : is_set (xs ++ n ∷ []) ≡ true =
+    and_from (rises (xs ++ n ∷ [])) (nat_le (length (xs ++ n ∷ [])) TX_VARIABLES) (rises_push xs n up none) fits in
     rw still (ap Some (e ∙ goes_last xs n none))
 
 -- the whole of a list, from what is kept of the words before and those that are left

@@ -28,7 +28,8 @@ or_none false b e = (refl, e)
 
 -- the first comment behind a word is that of the rest
 hash_behind : (w rest : List ℕ) → list_any is_end w ≡ false → before_first is_hash (w ++ 32 ∷ rest) ≡ w ++ 32 ∷ before_first is_hash rest
-hash_behind [] rest e = ap (λ k. take k (32 ∷ rest)) (let z : 1 + position_or_len is_hash rest ≡ suc (position_or_len is_hash rest) = omega arith in z)
+hash_behind [] rest e = ap (λ k. take k (32 ∷ rest)) (let z : 1 + position_or_len is_hash rest
+    ≡ suc (position_or_len is_hash rest) = omega arith in z)
 hash_behind (x ∷ xs) rest e =
     let both = or_none (is_end x) (list_any is_end xs) e in
     let here = (or_none (is_hash x) (is_unprintable x) (or_none (is_blank x) (is_special x) both.0).1).0 in
@@ -47,7 +48,8 @@ split_behind : (w rest : List ℕ) → list_any is_end w ≡ false → slice_spl
 split_behind [] rest e = slice_split-cons_yes is_blank 32 rest refl
 split_behind (x ∷ xs) rest e =
     let both = or_none (is_end x) (list_any is_end xs) e in
-    slice_split-cons_no is_blank x (xs ++ 32 ∷ rest) (or_none (is_blank x) (is_special x) both.0).0 ∙ ap (onto_first x) (split_behind xs rest both.1)
+    slice_split-cons_no is_blank x (xs ++ 32 ∷ rest) (or_none (is_blank x) (is_special x) both.0).0
+    ∙ ap (onto_first x) (split_behind xs rest both.1)
 
 split_none : (w : List ℕ) → list_any is_end w ≡ false → slice_split is_blank w ≡ w ∷ []
 split_none [] e = refl
@@ -86,7 +88,8 @@ feed_at : (line rest : List ℕ) → IsPlain line → position_or_len is_special
 feed_at [] rest e = refl
 feed_at (x ∷ xs) rest e =
     let both = or_none (is_special x) (list_any is_special xs) e in
-    let more : position_or_len is_special ((x ∷ xs) ++ 10 ∷ rest) ≡ suc (position_or_len is_special (xs ++ 10 ∷ rest)) = rw both.0 (omega arith) in
+    let more : position_or_len is_special ((x ∷ xs) ++ 10 ∷ rest)
+    ≡ suc (position_or_len is_special (xs ++ 10 ∷ rest)) = rw both.0 (omega arith) in
     more ∙ ap suc (feed_at xs rest both.1)
 
 at_feed : (line rest : List ℕ) → get_or (line ++ 10 ∷ rest) (length line) 0 ≡ 10
@@ -121,20 +124,29 @@ plain_line text line rest plain is = subst (λ t. IsFirstLine t line rest) (sym 
 
 -- ---- what three words say
 
-usual : (t v n : List ℕ) (thread k : ℕ) (verb : Verb) → operand_of (THREADS - 1) t ≡ Ok thread → form_of v ≡ Ok (One verb) → operand_of (most_of verb) n ≡ Ok k
+usual : (t v n : List ℕ) (thread k : ℕ) (verb : Verb) → operand_of (THREADS - 1) t ≡ Ok thread → form_of v ≡ Ok (One verb)
+    → operand_of (most_of verb) n ≡ Ok k
     → said (t ∷ (v ∷ (n ∷ []))) ≡ Ok (Some (thread, item_of verb k))
 unfolding step_said verb_said
 usual t v n thread k verb a b c = rw (a, b, c) refl
 
 -- a line of three words
-pub usual_line : (text r q rest t v n : List ℕ) (thread k : ℕ) (verb : Verb) → Begins text t 32 r → Begins r v 32 q → Begins q n 10 rest → operand_of (THREADS - 1) t ≡ Ok thread → form_of v ≡ Ok (One verb) → operand_of (most_of verb) n ≡ Ok k
+pub usual_line : (text r q rest t v n : List ℕ) (thread k : ℕ) (verb : Verb) → Begins text t 32 r → Begins r v 32 q → Begins q n 10 rest
+    → operand_of (THREADS - 1) t ≡ Ok thread → form_of v ≡ Ok (One verb) → operand_of (most_of verb) n ≡ Ok k
     → (line : List ℕ) × IsFirstLine text line rest × (said (words line) ≡ Ok (Some (thread, item_of verb k)))
 usual_line text r q rest t v n thread k verb x y z a b c =
     let ws : words (t ++ 32 ∷ (v ++ 32 ∷ n)) ≡ t ∷ (v ∷ (n ∷ [])) =
-    words_behind t (v ++ 32 ∷ n) x.is_word ∙ ap (λ l. t ∷ l) (words_behind v n y.is_word) ∙ ap (λ l. t ∷ (v ∷ l)) (words_last n z.is_word) in
+    words_behind t (v ++ 32 ∷ n) x.is_word ∙ ap (λ l. t ∷ l) (words_behind v n y.is_word)
+    ∙ ap (λ l. t ∷ (v ∷ l)) (words_last n z.is_word) in
     let whole : text ≡ (t ++ 32 ∷ (v ++ 32 ∷ n)) ++ 10 ∷ rest =
-    x.whole ∙ ap (λ l. t ++ 32 ∷ l) (y.whole ∙ ap (λ l. v ++ 32 ∷ l) z.whole ∙ sym (append_assoc v (32 ∷ n) (10 ∷ rest))) ∙ sym (append_assoc t (32 ∷ (v ++ 32 ∷ n)) (10 ∷ rest)) in
-    (t ++ 32 ∷ (v ++ 32 ∷ n), plain_line text (t ++ 32 ∷ (v ++ 32 ∷ n)) rest (spaced_plain t (v ++ 32 ∷ n) x.is_word (spaced_plain v n y.is_word (word_plain n z.is_word))) whole, ap said ws ∙ usual t v n thread k verb a b c)
+    x.whole ∙ ap (λ l. t ++ 32 ∷ l) (y.whole ∙ ap (λ l. v ++ 32 ∷ l) z.whole ∙ sym (append_assoc v (32 ∷ n) (10 ∷ rest)))
+    ∙ sym (append_assoc t (32 ∷ (v ++ 32 ∷ n)) (10 ∷ rest)) in (
+      t ++ 32 ∷ (v ++ 32 ∷ n),
+      plain_line text (t ++ 32 ∷ (v ++ 32 ∷ n)) rest
+          (spaced_plain t (v ++ 32 ∷ n) x.is_word (spaced_plain v n y.is_word (word_plain n z.is_word))) whole,
+      ap said ws
+          ∙ usual t v n thread k verb a b c,
+    )
 
 -- ---- numbers
 
@@ -145,8 +157,11 @@ digit_word b e =
     let low = leb-true 48 b both.0 in
     let high = leb-true b 57 both.1 in
     let above : nat_le 32 b ≡ true = le-leb 32 b (omega arith) in
-    let below : nat_le b 126 ≡ true = le-leb b 126 (omega arith) in
-    (rw (ne_eqb b 32 (λ z. omega arith), ne_eqb b 9 (λ z. omega arith), ne_eqb b 35 (λ z. omega arith), above, below) refl, ne_eqb b 45 (λ z. omega arith))
+    let below : nat_le b 126 ≡ true = le-leb b 126 (omega arith) in (
+      rw (ne_eqb b 32 (λ z. omega arith), ne_eqb b 9 (λ z. omega arith), ne_eqb b 35 (λ z. omega arith), above, below) refl,
+      ne_eqb b 45
+          (λ z. omega arith),
+    )
 
 digits_word : (ds : List ℕ) → list_all is_ascii_digit ds ≡ true → list_any is_end ds ≡ false
 digits_word [] e = refl
@@ -155,7 +170,8 @@ digits_word (b ∷ bs) e =
     rw ((digit_word b both.0).0, digits_word bs both.1) refl
 
 -- the test of magnitudes, where all is a digit
-pub digits_number : (ds : List ℕ) (most : ℕ) → 0 < length ds → length ds ≤ 4 → list_all is_ascii_digit ds ≡ true → digits_value ds ≤ most → IsWord ds × (operand_of most ds ≡ Ok (digits_value ds))
+pub digits_number : (ds : List ℕ) (most : ℕ) → 0 < length ds → length ds ≤ 4 → list_all is_ascii_digit ds ≡ true → digits_value ds ≤ most
+    → IsWord ds × (operand_of most ds ≡ Ok (digits_value ds))
 digits_number [] most some few all le = absurd (omega arith)
 digits_number (b ∷ bs) most some few all le =
     let minus = (digit_word b (and_parts (is_ascii_digit b) (list_all is_ascii_digit bs) all).0).1 in
@@ -167,7 +183,8 @@ digits_number (b ∷ bs) most some few all le =
     ((refl, digits_word (b ∷ bs) all), rw (minus, size, low, below) refl)
 
 -- so many digits at the front
-pub digits_front : (text : List ℕ) (count value most : ℕ) → 0 < count → count ≤ 4 → count ≤ length text → list_all is_ascii_digit (take count text) ≡ true → value ≡ digits_value (take count text) → value ≤ most
+pub digits_front : (text : List ℕ) (count value most : ℕ) → 0 < count → count ≤ 4 → count ≤ length text
+    → list_all is_ascii_digit (take count text) ≡ true → value ≡ digits_value (take count text) → value ≤ most
     → IsWord (take count text) × (operand_of most (take count text) ≡ Ok value)
 digits_front text count value most some few within all is le =
     let long : length (take count text) ≡ count = length-take-le count text within in
@@ -183,5 +200,6 @@ stop_shorter text rest count stop e = omega (arith, ap length e, length-drop cou
 
 -- ---- a line that was read has no fault
 
-pub quick_clean : (before : List Step) (m : ℕ) (line : List ℕ) (s : Step) → is_bad line ≡ false → m ≤ TRACE_LINES → said (words line) ≡ Ok (Some s) → step_fault before s.0 s.1 ≡ None → line_fault before m line ≡ None
+pub quick_clean : (before : List Step) (m : ℕ) (line : List ℕ) (s : Step) → is_bad line ≡ false → m ≤ TRACE_LINES → said (words line)
+    ≡ Ok (Some s) → step_fault before s.0 s.1 ≡ None → line_fault before m line ≡ None
 quick_clean before m line s good few says none = rw (good, le-ltb TRACE_LINES m few, says, none) refl

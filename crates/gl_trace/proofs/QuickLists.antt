@@ -83,20 +83,26 @@ pub record IsListed (text kept rest : List ℕ) : Type 0 where
   pub ids : (tail : List ℕ) → ids_of (slice_split is_comma (front ++ tail)) ≡ after kept (ids_of (slice_split is_comma tail))
   pub set : is_set kept ≡ true
 
-module _ (text kept rest w : List ℕ) (stop : ℕ) (more' : List ℕ) (id : ℕ) (new : List ℕ) (l : IsListed text kept rest) (b : Begins rest w stop more') (value : operand_of (VARIABLES - 1) w ≡ Ok id) (digits : list_all is_ascii_digit w ≡ true) (put : Some new ≡ with_last (Some kept) id) where
+module _ (text kept rest w : List ℕ) (stop : ℕ) (more' : List ℕ) (id : ℕ) (new : List ℕ) (l : IsListed text kept rest)
+    (b : Begins rest w stop more') (value : operand_of (VARIABLES - 1) w ≡ Ok id) (digits : list_all is_ascii_digit w ≡ true)
+    (put : Some new
+    ≡ with_last (Some kept) id) where
   is_new : (new ≡ kept ++ id ∷ []) × (is_set (kept ++ id ∷ []) ≡ true)
   is_new = set_new new (kept ++ id ∷ []) put
 
   pub listed_more : stop ≡ 44 → IsListed text new more'
   listed_more comma = record {
     front = l.front ++ (w ++ 44 ∷ []);
-    whole = l.whole ∙ ap (λ r. l.front ++ r) (b.whole ∙ ap (λ s. w ++ s ∷ more') comma ∙ sym (append_assoc w (44 ∷ []) more')) ∙ sym (append_assoc l.front (w ++ 44 ∷ []) more');
+    whole = l.whole ∙ ap (λ r. l.front ++ r) (b.whole ∙ ap (λ s. w ++ s ∷ more') comma ∙ sym (append_assoc w (44 ∷ []) more'))
+        ∙ sym (append_assoc l.front (w ++ 44 ∷ []) more');
     clean = none_in_both is_end l.front (w ++ 44 ∷ []) l.clean (none_in_both is_end w (44 ∷ []) b.is_word.1 refl);
     minus = none_in_both (λ c. c == 45) l.front (w ++ 44 ∷ []) l.minus (none_in_both (λ c. c == 45) w (44 ∷ []) (minus_free w digits) refl);
     ids = λ tail.
-        ap (λ t. ids_of (slice_split is_comma t)) (append_assoc l.front (w ++ 44 ∷ []) tail ∙ ap (λ t. l.front ++ t) (append_assoc w (44 ∷ []) tail))
+        ap (λ t. ids_of (slice_split is_comma t)) (append_assoc l.front (w ++ 44 ∷ []) tail
+        ∙ ap (λ t. l.front ++ t) (append_assoc w (44 ∷ []) tail))
         ∙ l.ids (w ++ 44 ∷ tail) ∙ ap (λ ps. after kept (ids_of ps)) (comma_behind w tail (comma_free w digits))
-        ∙ ap (λ r. after kept (with_first r (ids_of (slice_split is_comma tail)))) value ∙ after_one kept id (ids_of (slice_split is_comma tail))
+        ∙ ap (λ r. after kept (with_first r (ids_of (slice_split is_comma tail)))) value
+        ∙ after_one kept id (ids_of (slice_split is_comma tail))
         ∙ ap (λ xs. after xs (ids_of (slice_split is_comma tail))) (sym is_new.0);
     set = ap is_set is_new.0 ∙ is_new.1;
   }
@@ -112,16 +118,19 @@ module _ (text kept rest w : List ℕ) (stop : ℕ) (more' : List ℕ) (id : ℕ
       whole = l.whole ∙ ap (λ r. l.front ++ r) b.whole ∙ sym (append_assoc l.front w (stop ∷ more'));
       is_word = (some_more l.front b.is_word.0, none_in_both is_end l.front w l.clean b.is_word.1);
     },
-    rw (not_minus (l.front ++ w) (none_in_both (λ c. c == 45) l.front w l.minus (minus_free w digits))) (ap kept_set read ∙ ap (λ o. Ok o) (sym put)),
+    rw (not_minus (l.front ++ w) (none_in_both (λ c. c == 45) l.front w l.minus (minus_free w digits))) (ap kept_set read
+        ∙ ap (λ o. Ok o) (sym put)),
     ap is_set is_new.0 ∙ is_new.1,
   )
     where
       read : ids_of (slice_split is_comma (l.front ++ w)) ≡ Ok (kept ++ id ∷ [])
-      read = l.ids w ∙ ap (λ ps. after kept (ids_of ps)) (comma_none w (comma_free w digits)) ∙ ap (λ r. after kept (with_first r (Ok []))) value
+      read = l.ids w ∙ ap (λ ps. after kept (ids_of ps)) (comma_none w (comma_free w digits))
+          ∙ ap (λ r. after kept (with_first r (Ok []))) value
 
 -- ---- a line of a commit
 
-said_commit : (t a b : List ℕ) (thread : ℕ) (reads writes : List ℕ) → operand_of (THREADS - 1) t ≡ Ok thread → set_of a ≡ Ok (Some reads) → set_of b ≡ Ok (Some writes)
+said_commit : (t a b : List ℕ) (thread : ℕ) (reads writes : List ℕ) → operand_of (THREADS - 1) t ≡ Ok thread → set_of a ≡ Ok (Some reads)
+    → set_of b ≡ Ok (Some writes)
     → said (t ∷ (codes "commit" ∷ (codes "r" ∷ (a ∷ (codes "w" ∷ (b ∷ [])))))) ≡ Ok (Some (thread, Commits reads writes))
 unfolding step_said commit_said lists_of
 said_commit t a b thread reads writes x y z = rw (x, y, z) refl
@@ -129,8 +138,10 @@ said_commit t a b thread reads writes x y z = rw (x, y, z) refl
 spaced_whole : (text w r line rest : List ℕ) → Begins text w 32 r → r ≡ line ++ 10 ∷ rest → text ≡ (w ++ 32 ∷ line) ++ 10 ∷ rest
 spaced_whole text w r line rest b e = b.whole ∙ ap (λ l. w ++ 32 ∷ l) e ∙ sym (append_assoc w (32 ∷ line) (10 ∷ rest))
 
-pub commit_line : (text r1 r2 r3 r4 r5 rest t a b : List ℕ) (thread : ℕ) (reads writes : List ℕ) → Begins text t 32 r1 → r1 ≡ codes "commit" ++ 32 ∷ r2 → r2 ≡ codes "r" ++ 32 ∷ r3 → Begins r3 a 32 r4 → r4 ≡ codes "w" ++ 32 ∷ r5 → Begins r5 b 10 rest
-    → operand_of (THREADS - 1) t ≡ Ok thread → set_of a ≡ Ok (Some reads) → set_of b ≡ Ok (Some writes) → (line : List ℕ) × IsFirstLine text line rest × (said (words line) ≡ Ok (Some (thread, Commits reads writes)))
+pub commit_line : (text r1 r2 r3 r4 r5 rest t a b : List ℕ) (thread : ℕ) (reads writes : List ℕ) → Begins text t 32 r1 → r1
+    ≡ codes "commit" ++ 32 ∷ r2 → r2 ≡ codes "r" ++ 32 ∷ r3 → Begins r3 a 32 r4 → r4 ≡ codes "w" ++ 32 ∷ r5 → Begins r5 b 10 rest
+    → operand_of (THREADS - 1) t ≡ Ok thread → set_of a ≡ Ok (Some reads) → set_of b ≡ Ok (Some writes) → (line : List ℕ)
+    × IsFirstLine text line rest × (said (words line) ≡ Ok (Some (thread, Commits reads writes)))
 commit_line text r1 r2 r3 r4 r5 rest t a b thread reads writes bt ec er ba ew bb x y z =
     let bc : Begins r1 (codes "commit") 32 r2 = record { whole = ec; is_word = (refl, refl) } in
     let br : Begins r2 (codes "r") 32 r3 = record { whole = er; is_word = (refl, refl) } in
@@ -140,9 +151,14 @@ commit_line text r1 r2 r3 r4 r5 rest t a b thread reads writes bt ec er ba ew bb
     let l2 : List ℕ = codes "r" ++ 32 ∷ l3 in
     let l1 : List ℕ = codes "commit" ++ 32 ∷ l2 in
     let ws : words (t ++ 32 ∷ l1) ≡ t ∷ (codes "commit" ∷ (codes "r" ∷ (a ∷ (codes "w" ∷ (b ∷ []))))) =
-    words_behind t l1 bt.is_word ∙ ap (λ l. t ∷ l) (words_behind (codes "commit") l2 bc.is_word ∙ ap (λ l. codes "commit" ∷ l) (words_behind (codes "r") l3 br.is_word
-    ∙ ap (λ l. codes "r" ∷ l) (words_behind a l4 ba.is_word ∙ ap (λ l. a ∷ l) (words_behind (codes "w") b bw.is_word ∙ ap (λ l. codes "w" ∷ l) (words_last b bb.is_word))))) in
+    words_behind t l1 bt.is_word ∙ ap (λ l. t ∷ l) (words_behind (codes "commit") l2 bc.is_word
+    ∙ ap (λ l. codes "commit" ∷ l) (words_behind (codes "r") l3 br.is_word
+    ∙ ap (λ l. codes "r" ∷ l) (words_behind a l4 ba.is_word
+    ∙ ap (λ l. a ∷ l) (words_behind (codes "w") b bw.is_word ∙ ap (λ l. codes "w" ∷ l) (words_last b bb.is_word))))) in
     let whole : text ≡ (t ++ 32 ∷ l1) ++ 10 ∷ rest =
-    spaced_whole text t r1 l1 rest bt (spaced_whole r1 (codes "commit") r2 l2 rest bc (spaced_whole r2 (codes "r") r3 l3 rest br (spaced_whole r3 a r4 l4 rest ba (spaced_whole r4 (codes "w") r5 b rest bw bb.whole)))) in
-    let plain = spaced_plain t l1 bt.is_word (spaced_plain (codes "commit") l2 bc.is_word (spaced_plain (codes "r") l3 br.is_word (spaced_plain a l4 ba.is_word (spaced_plain (codes "w") b bw.is_word (word_plain b bb.is_word))))) in
+    spaced_whole text t r1 l1 rest bt (spaced_whole r1 (codes "commit") r2 l2 rest bc
+    (spaced_whole r2 (codes "r") r3 l3 rest br (spaced_whole r3 a r4 l4 rest ba (spaced_whole r4 (codes "w") r5 b rest bw bb.whole)))) in
+    let plain = spaced_plain t l1 bt.is_word (spaced_plain (codes "commit") l2 bc.is_word
+    (spaced_plain (codes "r") l3 br.is_word (spaced_plain a l4 ba.is_word
+    (spaced_plain (codes "w") b bw.is_word (word_plain b bb.is_word))))) in
     (t ++ 32 ∷ l1, plain_line text (t ++ 32 ∷ l1) rest plain whole, ap said ws ∙ said_commit t a b thread reads writes x y z)

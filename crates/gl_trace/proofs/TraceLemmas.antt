@@ -30,7 +30,8 @@ pub record IsNext (ls : List (List ℕ)) (n : ℕ) (line : List ℕ) (rest : Lis
 pub next_of : (ls : List (List ℕ)) (n : ℕ) (line : List ℕ) (rest : List (List ℕ)) → drop n ls ≡ line ∷ rest → IsNext ls n line rest
 next_of ls n line rest e =
     let there : n < length ls = omega (arith, length-drop n ls, ap length e) in
-    let here : get_or ls n [] ≡ line = ap (λ k. get_or ls k []) (sym (add-zero n)) ∙ sym (get_or-drop n ls 0 []) ∙ ap (λ l. get_or l 0 []) e in
+    let here : get_or ls n [] ≡ line = ap (λ k. get_or ls k []) (sym (add-zero n)) ∙ sym (get_or-drop n ls 0 [])
+    ∙ ap (λ l. get_or l 0 []) e in
     record {
       there = there;
       here = here;
@@ -73,7 +74,8 @@ read_on text line n rest old new before o reads says clean adds =
     ∙ ap (λ l. l ++ made (n + 1) (Ok o)) (sym reads.said)
     ∙ sym adds in
     let here : fault_at (lines text) n ≡ None =
-    ap (λ l. line_fault (steps_of l) (n + 1) (get_or (lines text) n [])) (sym reads.said) ∙ ap (line_fault (steps_of old) (n + 1)) next.here ∙ clean in
+    ap (λ l. line_fault (steps_of l) (n + 1) (get_or (lines text) n [])) (sym reads.said)
+    ∙ ap (line_fault (steps_of old) (n + 1)) next.here ∙ clean in
     record {
       left = sym next.after;
       said = sym same;
@@ -82,7 +84,8 @@ read_on text line n rest old new before o reads says clean adds =
 
 -- a line without words
 pub read_silent : (text line : List ℕ) (n : ℕ) (rest : List (List ℕ)) (old : List TraceLine) (standing : Standing)
-    → Reads text n (line ∷ rest) old standing → n + 1 ≤ TRACE_LINES → said (words line) ≡ Ok None → line_fault (steps_of old) (n + 1) line ≡ None
+    → Reads text n (line ∷ rest) old standing → n + 1 ≤ TRACE_LINES → said (words line) ≡ Ok None → line_fault (steps_of old) (n + 1) line
+    ≡ None
     → Reads text (n + 1) rest old standing
 read_silent text line n rest old standing reads few says clean =
     let read = read_on text line n rest old old standing None reads says clean (sym (append-nil old)) in
@@ -126,7 +129,8 @@ clean_push steps s clean none = λ k r e.
       | inr h ↦
           let within : k < length (steps ++ s ∷ []) = slice_get_within (steps ++ s ∷ []) k r e in
           let last : k ≡ length steps = omega (arith, length-append steps (s ∷ [])) in
-          let before : take k (steps ++ s ∷ []) ≡ steps = ap (λ n. take n (steps ++ s ∷ [])) last ∙ take_at steps (s ∷ []) (length steps) refl in
+          let before : take k (steps ++ s ∷ []) ≡ steps = ap (λ n. take n (steps ++ s ∷ [])) last
+          ∙ take_at steps (s ∷ []) (length steps) refl in
           let here : Some s ≡ Some r = sym (get_seam steps s) ∙ ap (slice_get (steps ++ s ∷ [])) (sym last) ∙ e in
           let same : s ≡ r = cc in
           rw (before, ← same) none
@@ -145,12 +149,14 @@ well_more old new m s well few range kept none adds =
     }
 
 pub read_step : (text line : List ℕ) (n : ℕ) (rest : List (List ℕ)) (old new : List TraceLine) (before after : Standing) (s : Step)
-    → Reads text n (line ∷ rest) old before → n + 1 ≤ TRACE_LINES → said (words line) ≡ Ok (Some s) → line_fault (steps_of old) (n + 1) line ≡ None
+    → Reads text n (line ∷ rest) old before → n + 1 ≤ TRACE_LINES → said (words line) ≡ Ok (Some s)
+    → line_fault (steps_of old) (n + 1) line ≡ None
     → new ≡ old ++ (n + 1, s.0, s.1) ∷ [] → Tracks (steps_of old ++ s ∷ []) after → IsWithin (n + 1) after → IsStep s → IsItemKept s.1
     → Reads text (n + 1) rest new after
 read_step text line n rest old new before after s reads few says clean adds tracks within range kept =
     let read = read_on text line n rest old new before (Some s) reads says clean adds in
-    let none : step_fault (steps_of old) s.0 s.1 ≡ None = chosen (steps_of old) (is_bad line) (nat_lt TRACE_LINES (n + 1)) BAD_BYTE TOO_MANY_LINES (said (words line)) s says clean in
+    let none : step_fault (steps_of old) s.0 s.1
+    ≡ None = chosen (steps_of old) (is_bad line) (nat_lt TRACE_LINES (n + 1)) BAD_BYTE TOO_MANY_LINES (said (words line)) s says clean in
     let steps : steps_of new ≡ steps_of old ++ s ∷ [] = ap steps_of adds ∙ map-append step_of old ((n + 1, s.0, s.1) ∷ []) in
     record {
       left = read.left;
@@ -164,7 +170,8 @@ read_step text line n rest old new before after s reads few says clean adds trac
     }
 
 -- the end of the text
-pub read_all : (text : List ℕ) (n : ℕ) (kept : List TraceLine) (standing : Standing) → Reads text n [] kept standing → length text ≤ TRACE_BYTES → IsTrace text kept
+pub read_all : (text : List ℕ) (n : ℕ) (kept : List TraceLine) (standing : Standing) → Reads text n [] kept standing
+    → length text ≤ TRACE_BYTES → IsTrace text kept
 read_all text n kept standing reads short =
     let past : length (lines text) ≤ n = omega (arith, length-drop n (lines text), ap length reads.left) in
     record {
@@ -180,25 +187,31 @@ read_fault text line n kind rest kept standing reads fault =
     let next = next_of (lines text) n line rest (sym reads.left) in
     record {
       there = next.there;
-      fault = ap (λ l. line_fault (steps_of l) (n + 1) (get_or (lines text) n [])) (sym reads.said) ∙ ap (line_fault (steps_of kept) (n + 1)) next.here ∙ fault;
+      fault = ap (λ l. line_fault (steps_of l) (n + 1) (get_or (lines text) n [])) (sym reads.said)
+          ∙ ap (line_fault (steps_of kept) (n + 1)) next.here ∙ fault;
       before = reads.clean;
     }
 
 -- the same where the line is numbered m, and so many were given
 pub numbered_step : (text line : List ℕ) (n m given : ℕ) (rest : List (List ℕ)) (old : List TraceLine) (before after : Standing) (s : Step)
-    → m ≡ n + 1 → given ≡ m → Reads text n (line ∷ rest) old before → m ≤ TRACE_LINES → said (words line) ≡ Ok (Some s) → line_fault (steps_of old) m line ≡ None
-    → Tracks (steps_of old ++ s ∷ []) after → IsWithin m after → IsStep s → IsItemKept s.1 → Reads text given rest (old ++ (m, s.0, s.1) ∷ []) after
+    → m ≡ n + 1 → given ≡ m → Reads text n (line ∷ rest) old before → m ≤ TRACE_LINES → said (words line) ≡ Ok (Some s)
+    → line_fault (steps_of old) m line ≡ None
+    → Tracks (steps_of old ++ s ∷ []) after → IsWithin m after → IsStep s → IsItemKept s.1
+    → Reads text given rest (old ++ (m, s.0, s.1) ∷ []) after
 numbered_step text line n m given rest old before after s next same reads few says clean tracks within range kept =
     rw (same, next)
-    (read_step text line n rest old (old ++ (n + 1, s.0, s.1) ∷ []) before after s reads (rw next at few) says (rw next at clean) refl tracks (rw next at within) range kept)
+    (read_step text line n rest old (old ++ (n + 1, s.0, s.1) ∷ []) before after s reads (rw next at few) says (rw next at clean) refl
+    tracks (rw next at within) range kept)
 
 pub numbered_silent : (text line : List ℕ) (n m given : ℕ) (rest : List (List ℕ)) (old : List TraceLine) (standing : Standing)
-    → m ≡ n + 1 → given ≡ m → Reads text n (line ∷ rest) old standing → m ≤ TRACE_LINES → said (words line) ≡ Ok None → line_fault (steps_of old) m line ≡ None
+    → m ≡ n + 1 → given ≡ m → Reads text n (line ∷ rest) old standing → m ≤ TRACE_LINES → said (words line) ≡ Ok None
+    → line_fault (steps_of old) m line ≡ None
     → Reads text given rest old standing
 numbered_silent text line n m given rest old standing next same reads few says clean =
     rw (same, next) (read_silent text line n rest old standing reads (rw next at few) says (rw next at clean))
 
 pub numbered_fault : (text line : List ℕ) (n m kind : ℕ) (rest : List (List ℕ)) (old : List TraceLine) (standing : Standing)
-    → m ≡ n + 1 → length text ≤ TRACE_BYTES → Reads text n (line ∷ rest) old standing → line_fault (steps_of old) m line ≡ Some kind → IsFirstFault text m kind
+    → m ≡ n + 1 → length text ≤ TRACE_BYTES → Reads text n (line ∷ rest) old standing → line_fault (steps_of old) m line ≡ Some kind
+    → IsFirstFault text m kind
 numbered_fault text line n m kind rest old standing next short reads fault =
     inr (short, (n, next, read_fault text line n kind rest old standing reads (rw next at fault)))

@@ -40,7 +40,8 @@ pub weaker : (a b : ℕ) → a < b → (xs : List ℕ) → AllByRecursion (λ y.
 weaker a b h [] all = tt
 weaker a b h (x ∷ xs) all = (omega (arith, all.0), weaker a b h xs all.1)
 
-pub one_entry : (t : ℕ) (e : Entry) (ls : List (ℕ × List Entry)) → Rises (map (λ l. l.0) ls) → (u : ℕ) → lists_of (with_last t e ls) u ≡ with_entry (lists_of ls) t e u
+pub one_entry : (t : ℕ) (e : Entry) (ls : List (ℕ × List Entry)) → Rises (map (λ l. l.0) ls) → (u : ℕ) → lists_of (with_last t e ls) u
+    ≡ with_entry (lists_of ls) t e u
 one_entry t e [] rises u =
     elim (cases_eq u t) [
       | inl same ↦ rw (eq-eqb u t same, eq-eqb t u (sym same)) refl
@@ -51,7 +52,13 @@ one_entry t e (l ∷ ls) rises u =
       | inl same ↦
           elim (cases_eq u t) [
             | inl here ↦ rw (eq-eqb l.0 t same, eq-eqb u t here, eq-eqb t u (sym here), eq-eqb l.0 u (same ∙ sym here)) refl
-            | inr apart ↦ rw (eq-eqb l.0 t same, ne_eqb u t apart, ne_eqb t u (λ h. apart (sym h)), ne_eqb l.0 u (λ h. apart (sym h ∙ same))) refl
+            | inr apart ↦ rw (
+              eq-eqb l.0 t same,
+              ne_eqb u t apart,
+              ne_eqb t u (λ h. apart (sym h)),
+              ne_eqb l.0 u
+                  (λ h. apart (sym h ∙ same)),
+            ) refl
           ]
       | inr other ↦
           elim (cases_lt t l.0) [
@@ -91,7 +98,8 @@ part_last key f tells n (x ∷ xs) all =
     let over : nat_lt (key (f n)) (key (f x)) ≡ false = le-ltb (key (f n)) (key (f x)) (omega (arith, all.0, tells n, tells x)) in
     rw (apart, over) (ap (λ l. f x ∷ l) (part_last key f tells n xs all.1))
 
-pub part_next : {A : Type 0} (key : A → ℕ) (f : ℕ → A) → ((x : ℕ) → key (f x) ≡ x) → (items ids : List ℕ) (k : ℕ) → items ≡ ids → Rises ids → k < length items
+pub part_next : {A : Type 0} (key : A → ℕ) (f : ℕ → A) → ((x : ℕ) → key (f x) ≡ x) → (items ids : List ℕ) (k : ℕ) → items ≡ ids → Rises ids
+    → k < length items
     → with_part key (f (get_or items k 0)) (map f (take k ids)) ≡ map f (take (k + 1) ids)
 part_next key f tells items ids k same rises h =
     let there : k < length ids = omega (arith, ap length same) in
@@ -100,7 +108,8 @@ part_next key f tells items ids k same rises h =
     ∙ part_last key f tells (get_or ids k 0) (take k ids) (before ids k rises there)
     ∙ ap (map f) (sym (take_more ids k 0 there))
 
-pub map_same : {A : Type 0} (f g : ℕ → A) (xs : List ℕ) → AllByRecursion (λ x. x < VARIABLES) xs → ((x : ℕ) → x < VARIABLES → f x ≡ g x) → map f xs ≡ map g xs
+pub map_same : {A : Type 0} (f g : ℕ → A) (xs : List ℕ) → AllByRecursion (λ x. x < VARIABLES) xs → ((x : ℕ) → x < VARIABLES → f x ≡ g x)
+    → map f xs ≡ map g xs
 map_same f g [] all same = refl
 map_same f g (x ∷ xs) all same = ap (λ y. y ∷ map f xs) (same x all.0) ∙ ap (λ l. g x ∷ l) (map_same f g xs all.1 same)
 
@@ -119,7 +128,8 @@ pub drawn_none : (items ids : List ℕ) (k : ℕ) → items ≡ ids → Rises id
 drawn_none items ids k same rises h =
     let there : k < length ids = omega (arith, ap length same) in
     let here : get_or items k 0 ≡ get_or ids k 0 = ap (λ l. get_or l k 0) same in
-    let none : is_in (get_or items k 0) (take k ids) ≡ false = ap (λ n. is_in n (take k ids)) here ∙ not_in (get_or ids k 0) (take k ids) (before ids k rises there) in
+    let none : is_in (get_or items k 0) (take k ids) ≡ false = ap (λ n. is_in n (take k ids)) here
+    ∙ not_in (get_or ids k 0) (take k ids) (before ids k rises there) in
     rw none refl
 
 pub drawn_next : (items ids : List ℕ) (k x : ℕ) → items ≡ ids → Rises ids → k < length items
@@ -137,7 +147,8 @@ drawn_next items ids k x same rises h =
     ]
 
 -- one number more on the variable v
-pub one_drawn : (numbers : List ℕ) (old : ℕ → ℕ) (items ids : List ℕ) (k : ℕ) → items ≡ ids → Rises ids → k < length items → get_or items k 0 < length numbers
+pub one_drawn : (numbers : List ℕ) (old : ℕ → ℕ) (items ids : List ℕ) (k : ℕ) → items ≡ ids → Rises ids → k < length items
+    → get_or items k 0 < length numbers
     → ((x : ℕ) → x < VARIABLES → slice_index numbers x ≡ old x + look_count (take k ids) x)
     → (v : ℕ) → v ≡ get_or items k 0
     → (x : ℕ) → x < VARIABLES → slice_index (slice_set numbers v (get_or numbers v 0 + 1)) x ≡ old x + look_count (take (k + 1) ids) x
@@ -146,13 +157,16 @@ one_drawn numbers old items ids k same rises h room inv v is x below =
       | inl here ↦
           let at : x ≡ v = here ∙ sym is in
           let none : look_count (take k ids) x ≡ 0 = ap (look_count (take k ids)) here ∙ drawn_none items ids k same rises h in
-          let one : look_count (take (k + 1) ids) x ≡ 1 = drawn_next items ids k x same rises h ∙ rw (eq-eqb x (get_or items k 0) here) refl in
+          let one : look_count (take (k + 1) ids) x ≡ 1 = drawn_next items ids k x same rises h
+          ∙ rw (eq-eqb x (get_or items k 0) here) refl in
           let set : get_or (slice_set numbers v (get_or numbers v 0 + 1)) x 0 ≡ get_or numbers v 0 + 1 =
-          ap (λ j. get_or (slice_set numbers v (get_or numbers v 0 + 1)) j 0) at ∙ get_or-set_same numbers v (get_or numbers v 0 + 1) 0 (omega arith) in
+          ap (λ j. get_or (slice_set numbers v (get_or numbers v 0 + 1)) j 0) at
+          ∙ get_or-set_same numbers v (get_or numbers v 0 + 1) 0 (omega arith) in
           let was : get_or numbers v 0 ≡ old x + look_count (take k ids) x = ap (λ j. get_or numbers j 0) (sym at) ∙ inv x below in
           set ∙ omega arith
       | inr apart ↦
-          let same_count : look_count (take (k + 1) ids) x ≡ look_count (take k ids) x = drawn_next items ids k x same rises h ∙ rw (ne_eqb x (get_or items k 0) apart) refl in
+          let same_count : look_count (take (k + 1) ids) x ≡ look_count (take k ids) x = drawn_next items ids k x same rises h
+          ∙ rw (ne_eqb x (get_or items k 0) apart) refl in
           get_or-set_other numbers v x (get_or numbers v 0 + 1) 0 (λ e. apart (e ∙ is)) ∙ inv x below ∙ ap (λ n. old x + n) (sym same_count)
     ]
 
@@ -265,7 +279,8 @@ pub record IsLineAt (l : TraceLine) (j : Judged) : Type 0 where
   pub few : is_too_wide l.2 ≡ false
   pub suits : Suits l.2 j
 
-pub line_at : (ls : List TraceLine) (js : List Judged) → AreLines ls → AreJudged ls js → (k : ℕ) (dl : TraceLine) (dj : Judged) → k < length ls
+pub line_at : (ls : List TraceLine) (js : List Judged) → AreLines ls → AreJudged ls js → (k : ℕ) (dl : TraceLine) (dj : Judged)
+    → k < length ls
     → IsLineAt (get_or ls k dl) (get_or js k dj)
 line_at ls js well judged k dl dj h =
     let l : TraceLine = get_or ls k dl in
@@ -304,7 +319,11 @@ up_more tracer a b le up = record {
 -- ## What was recorded is kept
 
 pub grown_more : {A : Type 0} (before between now : List A) → IsGrown before between → IsGrown between now → IsGrown before now
-grown_more before between now first second = (first.0 ++ second.0, second.1 ∙ ap (λ l. l ++ second.0) first.1 ∙ append_assoc before first.0 second.0)
+grown_more before between now first second =
+    (first.0 ++ second.0, second.1 ∙ ap (λ l. l ++ second.0) first.1 ∙ append_assoc before first.0 second.0)
 
 pub entry_kept : (R : Lists) (thread : ℕ) (e : Entry) (t : ℕ) → IsGrown (R t) (with_entry R thread e t)
-entry_kept R thread e t = elim (t == thread) as (λ b. IsGrown (R t) (if b then R t ++ e ∷ [] else R t)) [ true ↦ (e ∷ [], refl) | false ↦ ([], sym (append-nil (R t))) ]
+entry_kept R thread e t = elim (t == thread) as (λ b. IsGrown (R t) (if b then R t ++ e ∷ [] else R t)) [
+  | true ↦ (e ∷ [], refl)
+  | false ↦ ([], sym (append-nil (R t)))
+]

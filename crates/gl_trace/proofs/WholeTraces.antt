@@ -27,7 +27,8 @@ then_ok : {A B E : Type 0} (P : B → Type 0) (r : Result A E) (f : A → Result
 then_ok P (Ok x) f each = each x
 then_ok P (Err e) f each = tt
 
-then_ok_with : {A B E : Type 0} (Q : A → Type 0) (P : B → Type 0) (r : Result A E) (f : A → Result B E) → IfOk r Q → ((x : A) → Q x → IfOk (f x) P) → IfOk (r >>= f) P
+then_ok_with : {A B E : Type 0} (Q : A → Type 0) (P : B → Type 0) (r : Result A E) (f : A → Result B E) → IfOk r Q
+    → ((x : A) → Q x → IfOk (f x) P) → IfOk (r >>= f) P
 then_ok_with Q P (Ok x) f is each = each x is
 then_ok_with Q P (Err e) f is each = tt
 
@@ -41,7 +42,8 @@ number_within most n = within (nat_lt n 0) (nat_lt most n) (ltb-false most n)
     within false true le = tt
     within false false le = le refl
 
-value_within : (most : ℕ) (o : Option ℤ) → IfOk (not_negative (option_and_then (λ z. if not (int_lt z (pos 0)) && not (int_lt (pos most) z) then Some z else None) o)) (λ n. n ≤ most)
+value_within : (most : ℕ) (o : Option ℤ) → IfOk
+    (not_negative (option_and_then (λ z. if not (int_lt z (pos 0)) && not (int_lt (pos most) z) then Some z else None) o)) (λ n. n ≤ most)
 value_within most None = tt
 value_within most (Some (pos n)) = number_within most n
 value_within most (Some (negsuc n)) = tt
@@ -63,7 +65,8 @@ verb_in_range : (verb : Verb) (others : List (List ℕ)) → IfOk (verb_said ver
 unfolding verb_said
 verb_in_range verb others =
     then_ok IsLineItem (only_of others) (λ word. operand_of (most_of verb) word >>= (λ n. Ok (item_of verb n)))
-    (λ word. then_ok_with (λ n. n ≤ most_of verb) IsLineItem (operand_of (most_of verb) word) (λ n. Ok (item_of verb n)) (operand_within (most_of verb) word) (item_in_range verb))
+    (λ word. then_ok_with (λ n. n ≤ most_of verb) IsLineItem (operand_of (most_of verb) word) (λ n. Ok (item_of verb n))
+    (operand_within (most_of verb) word) (item_in_range verb))
 
 sets_in_range : (reads writes : Option (List ℕ)) → IfOk (commit_item reads writes) IsLineItem
 sets_in_range None writes = tt
@@ -90,7 +93,8 @@ step_in_range first others =
     (λ thread le.
     then_ok IsStep (first_of others) (λ word. form_of word >>= (λ form. form_said form (rest_of others) >>= (λ item. Ok (thread, item))))
     (λ word. then_ok IsStep (form_of word) (λ form. form_said form (rest_of others) >>= (λ item. Ok (thread, item)))
-    (λ form. then_ok_with IsLineItem IsStep (form_said form (rest_of others)) (λ item. Ok (thread, item)) (form_in_range form (rest_of others)) (λ item is. (omega arith, is)))))
+    (λ form. then_ok_with IsLineItem IsStep (form_said form (rest_of others)) (λ item. Ok (thread, item))
+    (form_in_range form (rest_of others)) (λ item is. (omega arith, is)))))
 
 some_in_range : (r : Result Step ℕ) → IfOk r IsStep → IfOk (as_some r) (λ o. IfSome o IsStep)
 some_in_range (Ok s) is = is
@@ -110,7 +114,8 @@ pub record AreWell (steps : List Step) : Type 0 where
 none_well : AreWell []
 none_well = record { range = λ k d below. absurd (omega arith); clean = λ k s e. absurd cc }
 
-line_well : (old : List TraceLine) (m : ℕ) (b c : Bool) (j k : ℕ) (r : Result (Option Step) ℕ) → IfOk r (λ o. IfSome o IsStep) → AreWell (steps_of old)
+line_well : (old : List TraceLine) (m : ℕ) (b c : Bool) (j k : ℕ) (r : Result (Option Step) ℕ) → IfOk r (λ o. IfSome o IsStep)
+    → AreWell (steps_of old)
     → (if b then Some j else (if c then Some k else said_fault (steps_of old) r)) ≡ None → AreWell (steps_of (old ++ made m r))
 line_well old m b c j k (Err kind) range before none = subst (λ l. AreWell (steps_of l)) (sym (append-nil old)) before
 line_well old m b c j k (Ok None) range before none = subst (λ l. AreWell (steps_of l)) (sym (append-nil old)) before
@@ -121,7 +126,8 @@ line_well old m b c j k (Ok (Some s)) range before none =
       clean = clean_push (steps_of old) s before.clean (chosen (steps_of old) b c j k (Ok (Some s)) s refl none);
     })
 
-front_well : (ls : List (List ℕ)) → ((i : ℕ) → i < length ls → fault_at ls i ≡ None) → (n : ℕ) → n ≤ length ls → AreWell (steps_of (lines_from 1 (take n ls)))
+front_well : (ls : List (List ℕ)) → ((i : ℕ) → i < length ls → fault_at ls i ≡ None) → (n : ℕ) → n ≤ length ls
+    → AreWell (steps_of (lines_from 1 (take n ls)))
 front_well ls clean zero le = none_well
 front_well ls clean (suc n) le =
     let there : n < length ls = omega arith in
@@ -131,10 +137,12 @@ front_well ls clean (suc n) le =
     let one : n + 1 ≡ suc n = omega arith in
     let taken : take (suc n) ls ≡ take n ls ++ line ∷ [] = ap (λ k. take k ls) (sym one) ∙ take_more ls n [] there in
     subst (λ l. AreWell (steps_of l)) (sym (ap (lines_from 1) taken ∙ lines_from-push 1 (take n ls) line))
-    (line_well (lines_from 1 (take n ls)) (1 + length (take n ls)) (is_bad line) (nat_lt TRACE_LINES (n + 1)) BAD_BYTE TOO_MANY_LINES (said (words line))
+    (line_well (lines_from 1 (take n ls)) (1 + length (take n ls)) (is_bad line) (nat_lt TRACE_LINES (n + 1)) BAD_BYTE TOO_MANY_LINES
+    (said (words line))
     (said_in_range (words line)) before (clean n there))
 
 pub trace_well : (text : List ℕ) (trace : List TraceLine) → IsTrace text trace → AreWell (steps_of trace)
 trace_well text trace is =
     let ls : List (List ℕ) = lines text in
-    subst (λ l. AreWell (steps_of l)) (ap (lines_from 1) (take_all (length ls) ls (omega arith)) ∙ sym is.all) (front_well ls is.clean (length ls) (omega arith))
+    subst (λ l. AreWell (steps_of l)) (ap (lines_from 1) (take_all (length ls) ls (omega arith)) ∙ sym is.all)
+    (front_well ls is.clean (length ls) (omega arith))

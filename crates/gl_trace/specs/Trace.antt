@@ -39,7 +39,8 @@ said_fault before (Ok (Some s)) = option_map kind_of (step_fault before s.0 s.1)
 
 -- the fault of the line of this number, behind these steps
 abbrev pub line_fault : List Step → ℕ → List ℕ → Option ℕ
-line_fault before n line = if is_bad line then Some BAD_BYTE else (if nat_lt TRACE_LINES n then Some TOO_MANY_LINES else said_fault before (said (words line)))
+line_fault before n line = if is_bad line then Some BAD_BYTE
+    else (if nat_lt TRACE_LINES n then Some TOO_MANY_LINES else said_fault before (said (words line)))
 
 -- the fault of the line at place i, behind the steps of the lines before it
 abbrev pub fault_at : List (List ℕ) → ℕ → Option ℕ

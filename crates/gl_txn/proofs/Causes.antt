@@ -15,9 +15,15 @@ use Rattle.gl_txn.specs.declared.stops.TxWait.{TxWait}
 use Rattle.gl_txn.specs.declared.stops.TxWait.TheVariants as wait
 
 -- the list was reached and the commit published
-pub reached_done : (z : TableView) (l : ListView) (tx : Tx) (at : ℕ) (p q r : PassView) → HasReached z p l q → HasPublished tx at q r → at ≡ q.seen → ReachedDone z at p r
+pub reached_done : (z : TableView) (l : ListView) (tx : Tx) (at : ℕ) (p q r : PassView) → HasReached z p l q → HasPublished tx at q r → at
+    ≡ q.seen → ReachedDone z at p r
 reached_done z l tx at p q r h u here =
-    let e = u.is ∙ ap (λ (v : PassView). record (with_entry v (Commit at u.ended)) { seen = suc at; known = v.known ++ (at, commit_stamp v.own.id u.ended) ∷ []; stored = [] }) h.is in
+    let e = u.is ∙ ap (λ (v : PassView). record (with_entry v (Commit at u.ended)) {
+      seen = suc at;
+      known = v.known
+          ++ (at, commit_stamp v.own.id u.ended) ∷ [];
+      stored = [];
+    }) h.is in
     record {
       list = l;
       low = h.low;
@@ -31,10 +37,16 @@ reached_done z l tx at p q r h u here =
       known = ap (λ (v : PassView). v.known) e;
     }
 
-pub reached_wait : (z : TableView) (w : TxWait) (p q r : PassView) → IsReachStop z w p q → r ≡ record q { own = record q.own { held = [] } } → ReachedWait z w p r
+pub reached_wait : (z : TableView) (w : TxWait) (p q r : PassView) → IsReachStop z w p q → r
+    ≡ record q { own = record q.own { held = [] } } → ReachedWait z w p r
 reached_wait z (wait.Busy by) p q r s put =
     let e = put ∙ ap (λ (u : PassView). record u { own = record u.own { held = [] } }) s.1 in
-    record { near = s.0; reads = ap (λ (u : PassView). u.reads) e; seen = ap (λ (u : PassView). u.seen) e; known = ap (λ (u : PassView). u.known) e }
+    record {
+      near = s.0;
+      reads = ap (λ (u : PassView). u.reads) e;
+      seen = ap (λ (u : PassView). u.seen) e;
+      known = ap (λ (u : PassView). u.known) e;
+    }
 reached_wait z (wait.RingFull low tail) p q r s put =
     let e = put ∙ ap (λ (u : PassView). record u { own = record u.own { held = [] } }) s.3 in
     record {

@@ -20,27 +20,35 @@ at_item (x ∷ xs) (suc i) r near e = at_item xs i r (omega arith) e
 some_one : (a b : TakenRow) → Some a ≡ Some b → a ≡ b
 some_one a b e = cc
 
-pub first_here : (looks : List Look) (rows : List TakenRow) (i : ℕ) (r : TakenRow) (change : Option Change) → is_some change ≡ true → IsChangeOf looks r change → slice_get rows i ≡ Some r → AreUnchangedBefore i looks rows → MatchOption change (AreUnchangedIn looks rows) (IsFirstChange looks rows)
+pub first_here : (looks : List Look) (rows : List TakenRow) (i : ℕ) (r : TakenRow) (change : Option Change) → is_some change ≡ true
+    → IsChangeOf looks r change → slice_get rows i ≡ Some r → AreUnchangedBefore i looks rows
+    → MatchOption change (AreUnchangedIn looks rows) (IsFirstChange looks rows)
 first_here looks rows i r None some is there before = absurd (cc)
 first_here looks rows i r (Some c) some is there before = record { place = i; row = r; there = there; is = is; before = before }
 
-no_change : (looks : List Look) (r : TakenRow) (change : Option Change) → is_some change ≡ false → IsChangeOf looks r change → IsUnchanged looks r
+no_change : (looks : List Look) (r : TakenRow) (change : Option Change) → is_some change ≡ false → IsChangeOf looks r change
+    → IsUnchanged looks r
 no_change looks r None none is = is
 no_change looks r (Some c) none is = absurd (cc)
 
-pub unchanged_next : (looks : List Look) (rows : List TakenRow) (i : ℕ) (r : TakenRow) (change : Option Change) → is_some change ≡ false → IsChangeOf looks r change → slice_get rows i ≡ Some r → AreUnchangedBefore i looks rows → AreUnchangedBefore (i + 1) looks rows
+pub unchanged_next : (looks : List Look) (rows : List TakenRow) (i : ℕ) (r : TakenRow) (change : Option Change) → is_some change ≡ false
+    → IsChangeOf looks r change → slice_get rows i ≡ Some r → AreUnchangedBefore i looks rows → AreUnchangedBefore (i + 1) looks rows
 unchanged_next looks rows i r change none is there before k q near at = elim (cases_lt k i) [
   | inl low ↦ before k q low at
-  | inr ge ↦ (let same : k ≡ i = omega arith in subst (λ (u : TakenRow). IsUnchanged looks u) (some_one r q (sym there ∙ ap (slice_get rows) (sym same) ∙ at)) (no_change looks r change none is))
+  | inr ge ↦ (let same : k ≡ i = omega arith
+      in subst (λ (u : TakenRow). IsUnchanged looks u) (some_one r q (sym there ∙ ap (slice_get rows) (sym same) ∙ at))
+      (no_change looks r change none is))
 ]
 
-pub unchanged_all : (looks : List Look) (rows : List TakenRow) (i : ℕ) → length rows ≤ i → AreUnchangedBefore i looks rows → AreUnchangedIn looks rows
+pub unchanged_all : (looks : List Look) (rows : List TakenRow) (i : ℕ) → length rows ≤ i → AreUnchangedBefore i looks rows
+    → AreUnchangedIn looks rows
 unchanged_all looks rows i past before k r at = before k r (let near = slice_get_within rows k r at in omega arith) at
 
 -- the only look of a variable is found
 pub look_found : (looks : List Look) → Rises (map (λ l. l.var) looks) → (l : Look) → Contains looks l → look_in looks l.var ≡ Some l
 look_found [] r l c = absurd (let n = c.1 in omega arith)
-look_found (k ∷ ls) r l (zero, n, e) = let b : (k.var == l.var) ≡ true = eq-eqb k.var l.var (ap (λ (z : Look). z.var) e) in rw b (ap (λ (z : Look). Some z) e)
+look_found (k ∷ ls) r l (zero, n, e) = let b : (k.var == l.var) ≡ true = eq-eqb k.var l.var (ap (λ (z : Look). z.var) e)
+    in rw b (ap (λ (z : Look). Some z) e)
 look_found (k ∷ ls) r l (suc i, n, e) =
     let far = above_in k.var (map (λ l. l.var) ls) l.var r.0 (among ls (i, omega arith, e)) in
     let b : (k.var == l.var) ≡ false = ne_eqb k.var l.var (λ z. absurd (omega arith)) in

@@ -25,7 +25,8 @@ use Rattle.gl_txn.proofs.Holdings.{row_among}
 use Rattle.gl_txn.proofs.LookSteps.{block_is}
 
 -- something was drawn on the row of x
-module _ (held : List Held) (list : Option Held) (rows : List TakenRow) (tails : List ℕ) (drew drew' : ℕ → Option Draw) (a : AreHeld held list rows tails drew) (x : ℕ) (r : TakenRow) (there : row_at rows x ≡ Some r) (d : Draw)
+module _ (held : List Held) (list : Option Held) (rows : List TakenRow) (tails : List ℕ) (drew drew' : ℕ → Option Draw)
+    (a : AreHeld held list rows tails drew) (x : ℕ) (r : TakenRow) (there : row_at rows x ≡ Some r) (d : Draw)
     (now : drew' x ≡ Some d) (others : (y : ℕ) → y ≢ x → drew' y ≡ drew y) where
   at_var : r.var ≡ x
   at_var = (row_among rows x r there).1
@@ -35,7 +36,8 @@ module _ (held : List Held) (list : Option Held) (rows : List TakenRow) (tails :
 
   by_row : (y : ℕ) → y ≢ x → (o : Option TakenRow) → row_at rows y ≡ o → held_by tails drew o ≡ held_by tails drew' o
   by_row y ne None e = refl
-  by_row y ne (Some q) e = let at : q.var ≡ y = (row_among rows y q e).1 in ap (λ (z : Option Draw). Some (record (row_held tails drew q) { drew = z })) (sym (others q.var (λ s. ne (sym at ∙ s))))
+  by_row y ne (Some q) e = let at : q.var ≡ y = (row_among rows y q e).1
+      in ap (λ (z : Option Draw). Some (record (row_held tails drew q) { drew = z })) (sym (others q.var (λ s. ne (sym at ∙ s))))
 
   here : held_by tails drew' (Some r) ≡ Some (record (row_held tails drew r) { drew = Some d })
   here = ap (λ (z : Option Draw). Some (record (row_held tails drew r) { drew = z })) (ap drew' at_var ∙ now)
@@ -43,25 +45,34 @@ module _ (held : List Held) (list : Option Held) (rows : List TakenRow) (tails :
   pub held_marked : AreHeld (record (row_held tails drew r) { drew = Some d } ∷ without (suc x) held) list rows tails drew'
   held_marked = record {
     at = at;
-    once = once_more (record (row_held tails drew r) { drew = Some d }) (without (suc x) held) (once_without (suc x) held a.once) (ap (λ z. found (suc z) (without (suc x) held)) at_var ∙ found_gone (suc x) held);
+    once = once_more (record (row_held tails drew r) { drew = Some d }) (without (suc x) held) (once_without (suc x) held a.once)
+        (ap (λ z. found (suc z) (without (suc x) held)) at_var ∙ found_gone (suc x) held);
     are = a.are;
   }
     where
       at : (k : ℕ) → found k (record (row_held tails drew r) { drew = Some d } ∷ without (suc x) held) ≡ held_of list rows tails drew' k
-      at zero = found_past (record (row_held tails drew r) { drew = Some d }) (without (suc x) held) 0 (λ e. absurd (omega arith)) ∙ found_still (suc x) 0 held (λ e. absurd (omega arith)) ∙ a.at 0
+      at zero = found_past (record (row_held tails drew r) { drew = Some d }) (without (suc x) held) 0 (λ e. absurd (omega arith))
+          ∙ found_still (suc x) 0 held (λ e. absurd (omega arith)) ∙ a.at 0
       at (suc y) = elim (ℕ_discrete y x) [
-        | yes same ↦ found_here (record (row_held tails drew r) { drew = Some d }) (without (suc x) held) (suc y) (ap suc (at_var ∙ sym same)) ∙ sym here ∙ ap (held_by tails drew') (sym there ∙ ap (row_at rows) (sym same))
-        | no other ↦ found_past (record (row_held tails drew r) { drew = Some d }) (without (suc x) held) (suc y) (λ e. other (let z = at_var in omega arith)) ∙ found_still (suc x) (suc y) held (λ e. other (omega arith)) ∙ a.at (suc y) ∙ by_row y other (row_at rows y) refl
+        | yes same ↦ found_here (record (row_held tails drew r) { drew = Some d }) (without (suc x) held) (suc y)
+            (ap suc (at_var ∙ sym same)) ∙ sym here ∙ ap (held_by tails drew') (sym there ∙ ap (row_at rows) (sym same))
+        | no other ↦ found_past (record (row_held tails drew r) { drew = Some d }) (without (suc x) held) (suc y)
+            (λ e. other (let z = at_var in omega arith)) ∙ found_still (suc x) (suc y) held (λ e. other (omega arith)) ∙ a.at (suc y)
+            ∙ by_row y other (row_at rows y) refl
       ]
 
 -- no number of an end of x is among those of others
-count_ends : (x : ℕ) (drawn : List Drawn) (numbers : List Number) → (Contains (numbered numbers) x → ⊥) → count_on x (drawn ++ map end_of numbers) ≡ count_on x drawn
+count_ends : (x : ℕ) (drawn : List Drawn) (numbers : List Number) → (Contains (numbered numbers) x → ⊥)
+    → count_on x (drawn ++ map end_of numbers) ≡ count_on x drawn
 count_ends x [] [] out = refl
-count_ends x [] (n ∷ ns) out = let b : (n.var == x) ≡ false = ne_eqb n.var x (λ e. out (0, omega arith, e)) in rw b (count_ends x [] ns (λ c. out (suc c.0, (let l = c.1 in omega arith), c.2)))
+count_ends x [] (n ∷ ns) out = let b : (n.var == x) ≡ false = ne_eqb n.var x (λ e. out (0, omega arith, e))
+    in rw b (count_ends x [] ns (λ c. out (suc c.0, (let l = c.1 in omega arith), c.2)))
 count_ends x (o ∷ os) numbers out = ap (λ n. if o.var == x then suc n else n) (count_ends x os numbers out)
 
 -- a row on which nothing was drawn may be marked for the end
-module _ (p q : PassView) (list : Option Held) (rows : List TakenRow) (tails : List ℕ) (numbers : List Number) (m : MayNumber p rows) (drawn : HasDrawn p q list rows tails numbers) (x : ℕ) (r : TakenRow) (there : row_at rows x ≡ Some r) (out : Contains (numbered numbers) x → ⊥) where
+module _ (p q : PassView) (list : Option Held) (rows : List TakenRow) (tails : List ℕ) (numbers : List Number) (m : MayNumber p rows)
+    (drawn : HasDrawn p q list rows tails numbers) (x : ℕ) (r : TakenRow) (there : row_at rows x ≡ Some r)
+    (out : Contains (numbered numbers) x → ⊥) where
   p' : PassView
   p' = record p { own = record p.own { held = q.own.held; drawn = p.own.drawn ++ map end_of numbers } }
 
@@ -83,31 +94,54 @@ module _ (p q : PassView) (list : Option Held) (rows : List TakenRow) (tails : L
   pub may_number : MayOpenOn q x None
   may_number = subst (λ (q : PassView). MayOpenOn q x None) (sym drawn.is) (record {
     taken = r.row;
-    may = subst (λ (h : Held). MayOpen (shelf_of p) (view_of (record p { own = record p.own { held = q.own.held; drawn = p.own.drawn ++ map end_of numbers } })) h x r.row (block_of p.own.mine) None) (sym at_is) (record {
-      draws = record {
-        held = (found_held (suc x) q.own.held (row_held tails (drew_on p (numbered numbers)) r) held_is).0;
-        object = ap suc of;
-        is = refl;
-        first = ap (drew_on p (numbered numbers)) of ∙ none;
-        block = block_is p.own.mine m.runs;
-        goes_on = no_end p.own.mine m.runs;
-        few = m.few;
-        paid = λ o c e. (let z = subst (λ (l : List (ℕ × ℤ)). Contains l o) m.owed c in let l = z.1 in absurd (omega arith));
-      };
-      word = λ v e. absurd (cc);
-      room = (let e = count_ends x p.own.drawn numbers out in let few = m.each x in omega arith);
-    });
+    may = subst (λ (h : Held). MayOpen (shelf_of p)
+        (view_of (record p { own = record p.own { held = q.own.held; drawn = p.own.drawn ++ map end_of numbers } })) h x r.row
+        (block_of p.own.mine) None) (sym at_is) (record {
+          draws = record {
+            held = (found_held (suc x) q.own.held (row_held tails (drew_on p (numbered numbers)) r) held_is).0;
+            object = ap suc of;
+            is = refl;
+            first = ap (drew_on p (numbered numbers)) of ∙ none;
+            block = block_is p.own.mine m.runs;
+            goes_on = no_end p.own.mine m.runs;
+            few = m.few;
+            paid = λ o c e. (let z = subst (λ (l : List (ℕ × ℤ)). Contains l o) m.owed c in let l = z.1 in absurd (omega arith));
+          };
+          word = λ v e. absurd (cc);
+          room = (let e = count_ends x p.own.drawn numbers out in let few = m.each x in omega arith);
+        });
   })
 
   -- the pass after it drew n on it
-  after_is : (r' : PassView) (n : ℕ) → r' ≡ opened q x n None → r' ≡ record p { own = record p.own { held = r'.own.held; drawn = (p.own.drawn ++ map end_of numbers) ++ record { var = x; nth = n; look = None } ∷ [] } }
+  after_is : (r' : PassView) (n : ℕ) → r' ≡ opened q x n None → r'
+      ≡ record p {
+        own = record p.own {
+          held = r'.own.held;
+          drawn = (p.own.drawn ++ map end_of numbers)
+              ++ record { var = x; nth = n; look = None } ∷ [];
+        };
+      }
   after_is r' n is =
       let h = r'.own.held in
       let o : List Drawn = record { var = x; nth = n; look = None } ∷ [] in
       let held : r'.own.held ≡ (opened q x n None).own.held = ap (λ (z : PassView). z.own.held) is in
-      let start : r' ≡ record q { own = record q.own { held = (opened q x n None).own.held; drawn = q.own.drawn ++ record { var = x; nth = n; look = None } ∷ [] } } = is in
-      start ∙ ap (λ (l : List Held). record q { own = record q.own { held = l; drawn = q.own.drawn ++ record { var = x; nth = n; look = None } ∷ [] } }) (sym held)
-      ∙ ap (λ (z : PassView). record z { own = record z.own { held = r'.own.held; drawn = z.own.drawn ++ record { var = x; nth = n; look = None } ∷ [] } }) drawn.is
+      let start : r' ≡ record q {
+        own = record q.own {
+          held = (opened q x n None).own.held;
+          drawn = q.own.drawn
+              ++ record { var = x; nth = n; look = None } ∷ [];
+        };
+      } = is in
+      start ∙ ap (λ (l : List Held). record q {
+        own = record q.own { held = l; drawn = q.own.drawn ++ record { var = x; nth = n; look = None } ∷ [] };
+      }) (sym held)
+      ∙ ap (λ (z : PassView). record z {
+        own = record z.own {
+          held = r'.own.held;
+          drawn = z.own.drawn
+              ++ record { var = x; nth = n; look = None } ∷ [];
+        };
+      }) drawn.is
 
   ends_pushed : (ns : List Number) (n : Number) → map end_of (ns ++ n ∷ []) ≡ map end_of ns ++ end_of n ∷ []
   ends_pushed [] n = refl
@@ -118,7 +152,8 @@ module _ (p q : PassView) (list : Option Held) (rows : List TakenRow) (tails : L
   keys_pushed (k ∷ ns) n = ap (λ (l : List ℕ). k.var ∷ l) (keys_pushed ns n)
 
   in_last : (ys : List ℕ) (y : ℕ) → is_in y (ys ++ y ∷ []) ≡ true
-  in_last ys y = contains-is_in y (ys ++ y ∷ []) (Rattle.std.proofs.lemmas.List.Elements.Contains-append_right ys (y ∷ []) y (0, omega arith, refl))
+  in_last ys y = contains-is_in y (ys ++ y ∷ [])
+      (Rattle.std.proofs.lemmas.List.Elements.Contains-append_right ys (y ∷ []) y (0, omega arith, refl))
 
   in_other : (ys : List ℕ) (y z : ℕ) → z ≢ y → is_in z (ys ++ y ∷ []) ≡ is_in z ys
   in_other [] y z ne = let b : (z == y) ≡ false = ne_eqb z y ne in rw b refl
@@ -127,16 +162,22 @@ module _ (p q : PassView) (list : Option Held) (rows : List TakenRow) (tails : L
   number_same : (a b : Number) → a ≡ b → (a.var ≡ b.var) × (a.nth ≡ b.nth)
   number_same a b e = (ap (λ (k : Number). k.var) e, ap (λ (k : Number). k.nth) e)
 
-  pub number_more : (r' : PassView) (n : ℕ) → r' ≡ opened q x n None → IsAboveDrawn x n q.own.drawn → HasDrawn p r' list rows tails (numbers ++ record { var = x; nth = n } ∷ [])
+  pub number_more : (r' : PassView) (n : ℕ) → r' ≡ opened q x n None → IsAboveDrawn x n q.own.drawn
+      → HasDrawn p r' list rows tails (numbers ++ record { var = x; nth = n } ∷ [])
   number_more r' n is above = record {
-    is = after_is r' n is ∙ ap (λ (l : List Drawn). record p { own = record p.own { held = r'.own.held; drawn = l } }) (append_assoc p.own.drawn (map end_of numbers) (record { var = x; nth = n; look = None } ∷ []) ∙ ap (λ (l : List Drawn). p.own.drawn ++ l) (sym (ends_pushed numbers (record { var = x; nth = n }))));
+    is = after_is r' n is ∙ ap (λ (l : List Drawn). record p { own = record p.own { held = r'.own.held; drawn = l } })
+        (append_assoc p.own.drawn (map end_of numbers) (record { var = x; nth = n; look = None } ∷ [])
+        ∙ ap (λ (l : List Drawn). p.own.drawn ++ l) (sym (ends_pushed numbers (record { var = x; nth = n }))));
     held = subst (λ (l : List Held). AreHeld l list rows tails drew') (sym held_then) marked;
     above = λ y k m look c d. elim (Contains-push_cases numbers (record { var = x; nth = n }) (record { var = y; nth = m }) d) [
       | inl old ↦ drawn.above y k m look c old
       | inr new ↦ (let s = number_same (record { var = x; nth = n }) (record { var = y; nth = m }) new in
           let among : Contains q.own.drawn (record { var = x; nth = k; look = look }) =
-          subst (λ (l : List Drawn). Contains l (record { var = x; nth = k; look = look })) (sym (ap (λ (z : PassView). z.own.drawn) drawn.is))
-          (Rattle.std.proofs.lemmas.List.Elements.Contains-append_left p.own.drawn (map end_of numbers) (record { var = x; nth = k; look = look }) (subst (λ v. Contains p.own.drawn (record { var = v; nth = k; look = look })) (sym s.0) c)) in
+          subst (λ (l : List Drawn). Contains l (record { var = x; nth = k; look = look }))
+          (sym (ap (λ (z : PassView). z.own.drawn) drawn.is))
+          (Rattle.std.proofs.lemmas.List.Elements.Contains-append_left p.own.drawn (map end_of numbers)
+          (record { var = x; nth = k; look = look })
+          (subst (λ v. Contains p.own.drawn (record { var = v; nth = k; look = look })) (sym s.0) c)) in
           let l = above k look among in let e = s.1 in omega arith)
     ];
   }
@@ -151,20 +192,28 @@ module _ (p q : PassView) (list : Option Held) (rows : List TakenRow) (tails : L
       h = row_held tails (drew_on p (numbered numbers)) r
 
       now : drew_on p (numbered (numbers ++ record { var = x; nth = n } ∷ [])) x ≡ Some (draw p.own.id (block_of p.own.mine) Open)
-      now = ap (λ ys. drew_on p ys x) (keys_pushed numbers (record { var = x; nth = n })) ∙ (let b = in_last (numbered numbers) x in rw b refl)
+      now = ap (λ ys. drew_on p ys x) (keys_pushed numbers (record { var = x; nth = n }))
+          ∙ (let b = in_last (numbered numbers) x in rw b refl)
 
       others : (y : ℕ) → y ≢ x → drew_on p (numbered (numbers ++ record { var = x; nth = n } ∷ [])) y ≡ drew_on p (numbered numbers) y
-      others y ne = ap (λ ys. drew_on p ys y) (keys_pushed numbers (record { var = x; nth = n })) ∙ ap (λ b. if b then Some (draw p.own.id (block_of p.own.mine) Open) else None) (in_other (numbered numbers) x y ne)
+      others y ne = ap (λ ys. drew_on p ys y) (keys_pushed numbers (record { var = x; nth = n }))
+          ∙ ap (λ b. if b then Some (draw p.own.id (block_of p.own.mine) Open) else None) (in_other (numbered numbers) x y ne)
 
       by_q : draw q.own.id (block_of q.own.mine) Open ≡ draw p.own.id (block_of p.own.mine) Open
       by_q = ap (λ (z : PassView). draw z.own.id (block_of z.own.mine) Open) drawn.is
 
-      held_then : r'.own.held ≡ record (row_held tails (drew_on p (numbered numbers)) r) { drew = Some (draw p.own.id (block_of p.own.mine) Open) } ∷ without (suc x) q.own.held
+      held_then : r'.own.held ≡ record (row_held tails (drew_on p (numbered numbers)) r)
+          { drew = Some (draw p.own.id (block_of p.own.mine) Open) } ∷ without (suc x) q.own.held
       held_then =
           ap (λ (z : PassView). z.own.held) is
           ∙ ap (λ (g : Held). record g { drew = Some (draw q.own.id (block_of q.own.mine) Open) } ∷ without g.object q.own.held) at_is
-          ∙ ap (λ (e : Draw). record (row_held tails (drew_on p (numbered numbers)) r) { drew = Some e } ∷ without (suc r.var) q.own.held) by_q
-          ∙ ap (λ k. record (row_held tails (drew_on p (numbered numbers)) r) { drew = Some (draw p.own.id (block_of p.own.mine) Open) } ∷ without (suc k) q.own.held) of
+          ∙ ap (λ (e : Draw). record (row_held tails (drew_on p (numbered numbers)) r) { drew = Some e } ∷ without (suc r.var) q.own.held)
+          by_q
+          ∙ ap (λ k. record (row_held tails (drew_on p (numbered numbers)) r) { drew = Some (draw p.own.id (block_of p.own.mine) Open) }
+          ∷ without (suc k) q.own.held) of
 
-      marked : AreHeld (record (row_held tails (drew_on p (numbered numbers)) r) { drew = Some (draw p.own.id (block_of p.own.mine) Open) } ∷ without (suc x) q.own.held) list rows tails (drew_on p (numbered (numbers ++ record { var = x; nth = n } ∷ [])))
-      marked = held_marked q.own.held list rows tails (drew_on p (numbered numbers)) (drew_on p (numbered (numbers ++ record { var = x; nth = n } ∷ []))) drawn.held x r there (draw p.own.id (block_of p.own.mine) Open) now others
+      marked : AreHeld (record (row_held tails (drew_on p (numbered numbers)) r) { drew = Some (draw p.own.id (block_of p.own.mine) Open) }
+          ∷ without (suc x) q.own.held) list rows tails (drew_on p (numbered (numbers ++ record { var = x; nth = n } ∷ [])))
+      marked = held_marked q.own.held list rows tails (drew_on p (numbered numbers))
+          (drew_on p (numbered (numbers ++ record { var = x; nth = n } ∷ []))) drawn.held x r there
+          (draw p.own.id (block_of p.own.mine) Open) now others

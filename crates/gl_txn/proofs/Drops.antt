@@ -43,7 +43,8 @@ one_only y x b = elim (ℕ_discrete y x) [
 ]
 
 -- the attempt whose word was changed, with the number n of its end
-module _ (a : Attempting) (writes : List Pair) (p : PassView) (rows : List TakenRow) (c : Change) (m : MayNumber p rows) (held : AreHeld p.own.held None rows [] undrawn) (draws : Draws a p.own) (f : IsFirstChange a.looks rows c) where
+module _ (a : Attempting) (writes : List Pair) (p : PassView) (rows : List TakenRow) (c : Change) (m : MayNumber p rows)
+    (held : AreHeld p.own.held None rows [] undrawn) (draws : Draws a p.own) (f : IsFirstChange a.looks rows c) where
   there : row_at rows c.var ≡ Some f.row
   there = ap (row_at rows) f.is.var ∙ row_found rows f.place f.row held.are.1 f.there
 
@@ -51,18 +52,25 @@ module _ (a : Attempting) (writes : List Pair) (p : PassView) (rows : List Taken
   number_of n = record { var = c.var; nth = n }
 
   pub change_near : c.var < Rattle.gl_model.specs.declared.limits.TheConstants.VARIABLES
-  change_near = subst (λ k. k < Rattle.gl_model.specs.declared.limits.TheConstants.VARIABLES) (sym f.is.var) (row_near rows f.place f.row held.are f.there)
+  change_near = subst (λ k. k < Rattle.gl_model.specs.declared.limits.TheConstants.VARIABLES) (sym f.is.var)
+      (row_near rows f.place f.row held.are f.there)
 
   pub change_open : Rattle.gl_table.specs.Putting.MayOpenOn p c.var None
-  change_open = may_number p p None rows [] [] m (drawn_none p None rows [] held) c.var f.row there (λ z. absurd (let l = z.1 in omega arith))
+  change_open = may_number p p None rows [] [] m (drawn_none p None rows [] held) c.var f.row there
+      (λ z. absurd (let l = z.1 in omega arith))
 
-  pub change_drawn : (q : PassView) (n : ℕ) → q ≡ opened p c.var n None → IsAboveDrawn c.var n p.own.drawn → HasDrawn p q None rows [] (record { var = c.var; nth = n } ∷ [])
-  change_drawn q n is above = number_more p p None rows [] [] m (drawn_none p None rows [] held) c.var f.row there (λ z. absurd (let l = z.1 in omega arith)) q n is above
+  pub change_drawn : (q : PassView) (n : ℕ) → q ≡ opened p c.var n None → IsAboveDrawn c.var n p.own.drawn
+      → HasDrawn p q None rows [] (record { var = c.var; nth = n } ∷ [])
+  change_drawn q n is above = number_more p p None rows [] [] m (drawn_none p None rows [] held) c.var f.row there
+      (λ z. absurd (let l = z.1 in omega arith)) q n is above
 
   abbrev in_rows : (y : ℕ) → is_in y (c.var ∷ []) ≡ true → (r : TakenRow) × (row_at rows y ≡ Some r)
   in_rows y b = (f.row, ap (row_at rows) (one_only y c.var b) ∙ there)
 
-  formed : (n : ℕ) → Rattle.gl_model.specs.Form.NumbersName (record { looks = a.looks; writes = writes; numbers = record { var = c.var; nth = n } ∷ [] }) (c.var ∷ []) → Rattle.gl_model.specs.Form.EntryForm p.own.id (Abort (record { looks = a.looks; writes = writes; numbers = record { var = c.var; nth = n } ∷ [] }) (Changed c.var c.read c.found))
+  formed : (n : ℕ) → Rattle.gl_model.specs.Form.NumbersName
+      (record { looks = a.looks; writes = writes; numbers = record { var = c.var; nth = n } ∷ [] }) (c.var ∷ [])
+      → Rattle.gl_model.specs.Form.EntryForm p.own.id
+      (Abort (record { looks = a.looks; writes = writes; numbers = record { var = c.var; nth = n } ∷ [] }) (Changed c.var c.read c.found))
   formed n names =
       let l = found_part of_look f.row.var a.looks f.is.look f.is.looked in
       (names, (f.is.look.nth, subst (Contains a.looks) (look_is f.is.look (l.1 ∙ sym f.is.var) (sym f.is.read)) l.0), f.is.other)
@@ -70,10 +78,20 @@ module _ (a : Attempting) (writes : List Pair) (p : PassView) (rows : List Taken
       look_is : (k : Look) → k.var ≡ c.var → k.value ≡ c.read → k ≡ record { var = c.var; value = c.read; nth = k.nth }
       look_is k e g = ap (λ v. record k { var = v }) e ∙ ap (λ v. record k { var = c.var; value = v }) g
 
-  unchanged : vars_of rows ≡ with_all (map (λ w. w.var) writes) (map (λ l. l.var) a.looks) → AreVariables (map (λ l. l.var) a.looks) → (q : PassView) (n : ℕ) → HasDrawn p q None rows [] (record { var = c.var; nth = n } ∷ []) → (l : Look) → Contains a.looks l → l.var < c.var
-      → IsUnchanged (view_of (record p { own = record p.own { held = q.own.held; drawn = p.own.drawn ++ map end_of (record { var = c.var; nth = n } ∷ []) } })) l
+  unchanged : vars_of rows ≡ with_all (map (λ w. w.var) writes) (map (λ l. l.var) a.looks) → AreVariables (map (λ l. l.var) a.looks)
+      → (q : PassView) (n : ℕ) → HasDrawn p q None rows [] (record { var = c.var; nth = n } ∷ []) → (l : Look) → Contains a.looks l
+      → l.var < c.var
+      → IsUnchanged (view_of (record p {
+        own = record p.own {
+          held = q.own.held;
+          drawn = p.own.drawn
+              ++ map end_of (record { var = c.var; nth = n } ∷ []);
+        };
+      })) l
   unchanged of looks q n d l has less =
-      let b : is_in l.var (vars_of rows) ≡ true = contains-is_in l.var (vars_of rows) (subst (λ ys. Contains ys l.var) (sym of) (all_right (map (λ w. w.var) writes) (map (λ l. l.var) a.looks) l.var (among a.looks l has))) in
+      let b : is_in l.var (vars_of rows) ≡ true =
+      contains-is_in l.var (vars_of rows) (subst (λ ys. Contains ys l.var) (sym of)
+      (all_right (map (λ w. w.var) writes) (map (λ l. l.var) a.looks) l.var (among a.looks l has))) in
       let r = row_of rows l.var b in
       let at : r.0.var ≡ l.var = (row_among rows l.var r.0 r.1).1 in
       let k = place_at rows l.var r.0 r.1 in
@@ -94,44 +112,66 @@ module _ (a : Attempting) (writes : List Pair) (p : PassView) (rows : List Taken
       among (x ∷ xs) l (zero, n, e) = (0, omega arith, ap (λ (z : Look). z.var) e)
       among (x ∷ xs) l (suc k, n, e) = let f = among xs l (k, omega arith, e) in (suc f.0, (let n = f.1 in omega arith), f.2)
 
-  pub may_change : vars_of rows ≡ with_all (map (λ w. w.var) writes) (map (λ l. l.var) a.looks) → AreVariables (map (λ l. l.var) a.looks) → (q : PassView) (n : ℕ) → HasDrawn p q None rows [] (record { var = c.var; nth = n } ∷ []) → MayAbort q (record { looks = a.looks; writes = writes; numbers = record { var = c.var; nth = n } ∷ [] }) (Changed c.var c.read c.found)
+  pub may_change : vars_of rows ≡ with_all (map (λ w. w.var) writes) (map (λ l. l.var) a.looks) → AreVariables (map (λ l. l.var) a.looks)
+      → (q : PassView) (n : ℕ) → HasDrawn p q None rows [] (record { var = c.var; nth = n } ∷ [])
+      → MayAbort q (record { looks = a.looks; writes = writes; numbers = record { var = c.var; nth = n } ∷ [] })
+      (Changed c.var c.read c.found)
   may_change of looks q n d =
       let ns : List Number = record { var = c.var; nth = n } ∷ [] in
-      let names = Rattle.gl_txn.proofs.EndFacts.names_one a writes p q.own.held None rows [] ns (c.var ∷ []) draws refl (tt, tt) d.held d.above in_rows m.runs in
-      subst (λ (z : PassView). MayAbort z (record { looks = a.looks; writes = writes; numbers = record { var = c.var; nth = n } ∷ [] }) (Changed c.var c.read c.found)) (sym d.is) (
+      let names = Rattle.gl_txn.proofs.EndFacts.names_one a writes p q.own.held None rows [] ns (c.var ∷ []) draws refl (tt, tt) d.held
+      d.above in_rows m.runs in
+      subst (λ (z : PassView). MayAbort z (record { looks = a.looks; writes = writes; numbers = record { var = c.var; nth = n } ∷ [] })
+      (Changed c.var c.read c.found)) (sym d.is) (
         block_of p.own.mine,
         record {
-          drop = may_drop a writes p q.own.held None rows [] ns (c.var ∷ []) draws refl (tt, tt) d.held d.above in_rows m.runs (Changed c.var c.read c.found) (formed n names);
+          drop = may_drop a writes p q.own.held None rows [] ns (c.var ∷ []) draws refl (tt, tt) d.held d.above in_rows m.runs
+              (Changed c.var c.read c.found) (formed n names);
           word = λ b. f.is.found;
           least = λ l has less. unchanged of looks q n d l has less;
         },
       )
 
 -- once the entry is stored, no access was drawn on the rows, and they may go back
-module _ (p q : PassView) (rows : List TakenRow) (tails : List ℕ) (numbers : List Number) (zs : List ℕ) (are : numbered numbers ≡ zs) (d : HasDrawn p q None rows tails numbers) (tx : Tx) where
+module _ (p q : PassView) (rows : List TakenRow) (tails : List ℕ) (numbers : List Number) (zs : List ℕ) (are : numbered numbers ≡ zs)
+    (d : HasDrawn p q None rows tails numbers) (tx : Tx) where
   held_on : AreHeld q.own.held None rows tails (drew_on p zs)
   held_on = subst (λ ys. AreHeld q.own.held None rows tails (drew_on p ys)) are d.held
 
-  pub change_unused : (var : ℕ) (read found : ℤ) → zs ≡ var ∷ [] → (r : PassView) → r ≡ after_adding q (Abort tx (Changed var read found)) → AreUnused r.own.held rows
+  pub change_unused : (var : ℕ) (read found : ℤ) → zs ≡ var ∷ [] → (r : PassView) → r ≡ after_adding q (Abort tx (Changed var read found))
+      → AreUnused r.own.held rows
   change_unused var read found is r added =
-      subst (λ (l : List Held). AreUnused l rows) (sym (ap (λ (z : PassView). z.own.held) added ∙ ap (λ ys. map (with_drew ys (draw q.own.id (block_of q.own.mine) (Looked found))) q.own.held) (sym is)))
+      subst (λ (l : List Held). AreUnused l rows)
+      (sym (ap (λ (z : PassView). z.own.held) added
+      ∙ ap (λ ys. map (with_drew ys (draw q.own.id (block_of q.own.mine) (Looked found))) q.own.held) (sym is)))
       (unused_dropped p q.own.held rows tails zs held_on (draw q.own.id (block_of q.own.mine) (Looked found)) (λ y. refl) (λ y. refl))
 
-  pub raise_unused : (var : ℕ) → zs ≡ Rattle.gl_model.specs.Records.variables_of tx → (r : PassView) → r ≡ after_adding q (Abort tx (Raised var)) → AreUnused r.own.held rows
+  pub raise_unused : (var : ℕ) → zs ≡ Rattle.gl_model.specs.Records.variables_of tx → (r : PassView) → r
+      ≡ after_adding q (Abort tx (Raised var)) → AreUnused r.own.held rows
   raise_unused var is r added =
-      subst (λ (l : List Held). AreUnused l rows) (sym (ap (λ (z : PassView). z.own.held) added ∙ ap (λ ys. map (with_drew ys (draw q.own.id (block_of q.own.mine) (Entered (Abort tx (Raised var))))) q.own.held) (sym is)))
-      (unused_dropped p q.own.held rows tails zs held_on (draw q.own.id (block_of q.own.mine) (Entered (Abort tx (Raised var)))) (λ y. refl) (λ y. refl))
+      subst (λ (l : List Held). AreUnused l rows)
+      (sym (ap (λ (z : PassView). z.own.held) added
+      ∙ ap (λ ys. map (with_drew ys (draw q.own.id (block_of q.own.mine) (Entered (Abort tx (Raised var))))) q.own.held) (sym is)))
+      (unused_dropped p q.own.held rows tails zs held_on (draw q.own.id (block_of q.own.mine) (Entered (Abort tx (Raised var))))
+      (λ y. refl) (λ y. refl))
 
-  pub change_stored : (var : ℕ) (read found : ℤ) (r s : PassView) → r ≡ after_adding q (Abort tx (Changed var read found)) → s ≡ record r { own = record r.own { held = [] } } → s ≡ with_entry p (Abort tx (Changed var read found))
+  pub change_stored : (var : ℕ) (read found : ℤ) (r s : PassView) → r ≡ after_adding q (Abort tx (Changed var read found)) → s
+      ≡ record r { own = record r.own { held = [] } } → s ≡ with_entry p (Abort tx (Changed var read found))
   change_stored var read found r s added put =
-      put ∙ ap (λ (z : PassView). record z { own = record z.own { held = [] } }) added ∙ ap (λ (z : PassView). record (after_adding z (Abort tx (Changed var read found))) { own = record (after_adding z (Abort tx (Changed var read found))).own { held = [] } }) d.is
+      put ∙ ap (λ (z : PassView). record z { own = record z.own { held = [] } }) added
+      ∙ ap (λ (z : PassView). record (after_adding z (Abort tx (Changed var read found)))
+      { own = record (after_adding z (Abort tx (Changed var read found))).own { held = [] } }) d.is
 
-  pub raise_stored : (var : ℕ) (r s : PassView) → r ≡ after_adding q (Abort tx (Raised var)) → s ≡ record r { own = record r.own { held = [] } } → s ≡ with_entry p (Abort tx (Raised var))
+  pub raise_stored : (var : ℕ) (r s : PassView) → r ≡ after_adding q (Abort tx (Raised var)) → s
+      ≡ record r { own = record r.own { held = [] } } → s ≡ with_entry p (Abort tx (Raised var))
   raise_stored var r s added put =
-      put ∙ ap (λ (z : PassView). record z { own = record z.own { held = [] } }) added ∙ ap (λ (z : PassView). record (after_adding z (Abort tx (Raised var))) { own = record (after_adding z (Abort tx (Raised var))).own { held = [] } }) d.is
+      put ∙ ap (λ (z : PassView). record z { own = record z.own { held = [] } }) added
+      ∙ ap (λ (z : PassView). record (after_adding z (Abort tx (Raised var)))
+      { own = record (after_adding z (Abort tx (Raised var))).own { held = [] } }) d.is
 
 -- the transaction with its one number
-pub tx_is : (t d : Tx) (ns : List Number) (n : Number) → d ≡ t → t.numbers ≡ [] → ns ≡ d.numbers ++ n ∷ [] → ◌≡◌ {A = Tx} (record { looks = d.looks; writes = d.writes; numbers = ns }) (record { looks = t.looks; writes = t.writes; numbers = n ∷ [] })
+pub tx_is : (t d : Tx) (ns : List Number) (n : Number) → d ≡ t → t.numbers ≡ [] → ns ≡ d.numbers ++ n ∷ []
+    → ◌≡◌ {A = Tx} (record { looks = d.looks; writes = d.writes; numbers = ns })
+    (record { looks = t.looks; writes = t.writes; numbers = n ∷ [] })
 tx_is t d ns n is none more =
     ap (λ (l : List Number). record d { numbers = l }) more ∙ ap (λ (t : Tx). record t { numbers = t.numbers ++ n ∷ [] }) is
     ∙ ap (λ (l : List Number). record t { numbers = l ++ n ∷ [] }) none

@@ -32,7 +32,8 @@ use Rattle.gl_txn.proofs.LookSteps.{block_is}
 in_either : {A : Type 0} (xs ys : List A) (x : A) → Contains (xs ++ ys) x → Contains xs x ⊎ Contains ys x
 in_either [] ys x c = inr c
 in_either (z ∷ xs) ys x (zero, l, e) = inl (0, omega arith, e)
-in_either (z ∷ xs) ys x (suc k, l, e) = elim (in_either xs ys x (k, omega arith, e)) [ inl a ↦ inl (suc a.0, (let l = a.1 in omega arith), a.2) | inr b ↦ inr b ]
+in_either (z ∷ xs) ys x (suc k, l, e) = elim (in_either xs ys x (k, omega arith, e))
+    [ inl a ↦ inl (suc a.0, (let l = a.1 in omega arith), a.2) | inr b ↦ inr b ]
 
 -- of numbers that wait for an end none is a look's, and each is one of them
 ends_none : (ns : List Number) (y k : ℕ) (value : ℤ) → Contains (map end_of ns) (record { var = y; nth = k; look = Some value }) → ⊥
@@ -43,7 +44,8 @@ ends_none (n ∷ ns) y k value (suc i, l, e) = ends_none ns y k value (i, omega 
 number_is : (n : Number) (y k : ℕ) → n.var ≡ y → n.nth ≡ k → n ≡ record { var = y; nth = k }
 number_is n y k e f = ap (λ v. record n { var = v }) e ∙ ap (λ (m : ℕ). record { var = y; nth = m }) f
 
-ends_from : (ns : List Number) (y k : ℕ) → Contains (map end_of ns) (record { var = y; nth = k; look = None }) → Contains ns (record { var = y; nth = k })
+ends_from : (ns : List Number) (y k : ℕ) → Contains (map end_of ns) (record { var = y; nth = k; look = None })
+    → Contains ns (record { var = y; nth = k })
 ends_from [] y k c = absurd (let l = c.1 in omega arith)
 ends_from (n ∷ ns) y k (zero, l, e) = (0, omega arith, number_is n y k (ap (λ (o : Drawn). o.var) e) (ap (λ (o : Drawn). o.nth) e))
 ends_from (n ∷ ns) y k (suc i, l, e) = let r = ends_from ns y k (i, omega arith, e) in (suc r.0, (let l = r.1 in omega arith), r.2)
@@ -62,15 +64,19 @@ above_number x (m ∷ ns) n all (suc i, l, e) = above_number x ns n all.1 (i, om
 number_once : (ns : List Number) → Rises (numbered ns) → (a b : Number) → Contains ns a → Contains ns b → a.var ≡ b.var → a.nth ≡ b.nth
 number_once [] r a b c d same = absurd (let l = c.1 in omega arith)
 number_once (n ∷ ns) r a b (zero, l, e) (zero, m, f) same = ap (λ (k : Number). k.nth) (sym e ∙ f)
-number_once (n ∷ ns) r a b (zero, l, e) (suc j, m, f) same = let near = above_number n.var ns b r.0 (j, omega arith, f) in let z = ap (λ (k : Number). k.var) e in absurd (omega arith)
-number_once (n ∷ ns) r a b (suc i, l, e) (zero, m, f) same = let near = above_number n.var ns a r.0 (i, omega arith, e) in let z = ap (λ (k : Number). k.var) f in absurd (omega arith)
+number_once (n ∷ ns) r a b (zero, l, e) (suc j, m, f) same = let near = above_number n.var ns b r.0 (j, omega arith, f)
+    in let z = ap (λ (k : Number). k.var) e in absurd (omega arith)
+number_once (n ∷ ns) r a b (suc i, l, e) (zero, m, f) same = let near = above_number n.var ns a r.0 (i, omega arith, e)
+    in let z = ap (λ (k : Number). k.var) f in absurd (omega arith)
 number_once (n ∷ ns) r a b (suc i, l, e) (suc j, m, f) same = number_once ns r.1 a b (i, omega arith, e) (j, omega arith, f) same
 
 some_held : (a b : Held) → Some a ≡ Some b → a ≡ b
 some_held a b e = cc
 
-module _ (a : Attempting) (writes : List Pair) (p : PassView) (H : List Held) (list : Option Held) (rows : List TakenRow) (tails : List ℕ) (numbers : List Number) (zs : List ℕ) (draws : Draws a p.own) (are : numbered numbers ≡ zs) (rises : Rises zs)
-    (held : AreHeld H list rows tails (drew_on p zs)) (above : (y k m : ℕ) (look : Option ℤ) → Contains p.own.drawn (record { var = y; nth = k; look = look }) → Contains numbers (record { var = y; nth = m }) → k < m)
+module _ (a : Attempting) (writes : List Pair) (p : PassView) (H : List Held) (list : Option Held) (rows : List TakenRow) (tails : List ℕ)
+    (numbers : List Number) (zs : List ℕ) (draws : Draws a p.own) (are : numbered numbers ≡ zs) (rises : Rises zs)
+    (held : AreHeld H list rows tails (drew_on p zs)) (above : (y k m : ℕ) (look : Option ℤ)
+    → Contains p.own.drawn (record { var = y; nth = k; look = look }) → Contains numbers (record { var = y; nth = m }) → k < m)
     (in_rows : (y : ℕ) → is_in y zs ≡ true → (r : TakenRow) × (row_at rows y ≡ Some r)) (runs : life_of p.own.mine ≡ Running) where
   abbrev pub after_numbers : PassView
   after_numbers = record p { own = record p.own { held = H; drawn = p.own.drawn ++ map end_of numbers } }
@@ -100,28 +106,39 @@ module _ (a : Attempting) (writes : List Pair) (p : PassView) (H : List Held) (l
     drew = drew_one y b;
   }
 
-  pub each_one : (g : Held) (y : ℕ) → Contains H g → g.object ≡ suc y → is_in y zs ≡ true → g.drew ≡ Some (draw p.own.id (block_of p.own.mine) Open)
-  each_one g y c e b = let same : one_of y b ≡ g = some_held (one_of y b) g (sym (found_one y b) ∙ ap (λ k. found k H) (sym e) ∙ held.once g c) in ap (λ (h : Held). h.drew) (sym same) ∙ drew_one y b
+  pub each_one : (g : Held) (y : ℕ) → Contains H g → g.object ≡ suc y → is_in y zs ≡ true → g.drew
+      ≡ Some (draw p.own.id (block_of p.own.mine) Open)
+  each_one g y c e b = let same : one_of y b
+      ≡ g = some_held (one_of y b) g (sym (found_one y b) ∙ ap (λ k. found k H) (sym e) ∙ held.once g c)
+      in ap (λ (h : Held). h.drew) (sym same) ∙ drew_one y b
 
-  pub looks_one : (y k : ℕ) (value : ℤ) → Contains (p.own.drawn ++ map end_of numbers) (record { var = y; nth = k; look = Some value }) ↔ Contains a.looks (record { var = y; value = value; nth = k })
+  pub looks_one : (y k : ℕ) (value : ℤ) → Contains (p.own.drawn ++ map end_of numbers) (record { var = y; nth = k; look = Some value }) ↔
+      Contains a.looks (record { var = y; value = value; nth = k })
   looks_one y k value = (
-    (λ c. elim (in_either p.own.drawn (map end_of numbers) (record { var = y; nth = k; look = Some value }) c) [ inl d ↦ (draws.looks y k value).0 d | inr d ↦ absurd (ends_none numbers y k value d) ]),
-    (λ c. Contains-append_left p.own.drawn (map end_of numbers) (record { var = y; nth = k; look = Some value }) ((draws.looks y k value).1 c)),
+    (λ c. elim (in_either p.own.drawn (map end_of numbers) (record { var = y; nth = k; look = Some value }) c)
+        [ inl d ↦ (draws.looks y k value).0 d | inr d ↦ absurd (ends_none numbers y k value d) ]),
+    (λ c. Contains-append_left p.own.drawn (map end_of numbers) (record { var = y; nth = k; look = Some value })
+        ((draws.looks y k value).1 c)),
   )
 
-  pub owns_one : (y k : ℕ) → Contains (p.own.drawn ++ map end_of numbers) (record { var = y; nth = k; look = None }) ↔ Contains numbers (record { var = y; nth = k })
+  pub owns_one : (y k : ℕ) → Contains (p.own.drawn ++ map end_of numbers) (record { var = y; nth = k; look = None }) ↔ Contains numbers
+      (record { var = y; nth = k })
   owns_one y k = (
-    (λ c. elim (in_either p.own.drawn (map end_of numbers) (record { var = y; nth = k; look = None }) c) [ inl d ↦ absurd (draws.ends y k d) | inr d ↦ ends_from numbers y k d ]),
-    (λ c. Contains-append_right p.own.drawn (map end_of numbers) (record { var = y; nth = k; look = None }) (ends_to numbers (record { var = y; nth = k }) c)),
+    (λ c. elim (in_either p.own.drawn (map end_of numbers) (record { var = y; nth = k; look = None }) c)
+        [ inl d ↦ absurd (draws.ends y k d) | inr d ↦ ends_from numbers y k d ]),
+    (λ c. Contains-append_right p.own.drawn (map end_of numbers) (record { var = y; nth = k; look = None })
+        (ends_to numbers (record { var = y; nth = k }) c)),
   )
 
   pub once_one : (y k i : ℕ) → Contains numbers (record { var = y; nth = k }) → Contains numbers (record { var = y; nth = i }) → k ≡ i
-  once_one y k i c d = number_once numbers (subst Rises (sym are) rises) (record { var = y; nth = k }) (record { var = y; nth = i }) c d refl
+  once_one y k i c d = number_once numbers (subst Rises (sym are) rises) (record { var = y; nth = k }) (record { var = y; nth = i }) c d
+      refl
 
   pub names_one : NumbersName end_tx zs
   names_one = record { variables = are; after_looks = λ y k m value l n. above y k m (Some value) ((draws.looks y k value).1 l) n }
 
-  abbrev pub may_drop : (why : Why) → EntryForm p.own.id (Abort end_tx why) → MayDrop (shelf p.own.id p.own.mine) (view_of after_numbers) end_tx why zs (block_of p.own.mine)
+  abbrev pub may_drop : (why : Why) → EntryForm p.own.id (Abort end_tx why)
+      → MayDrop (shelf p.own.id p.own.mine) (view_of after_numbers) end_tx why zs (block_of p.own.mine)
   may_drop why formed = record {
     block = block_is p.own.mine runs;
     goes_on = no_end p.own.mine runs;
@@ -135,7 +152,9 @@ module _ (a : Attempting) (writes : List Pair) (p : PassView) (H : List Held) (l
   }
 
 -- after an attempt was dropped no access was drawn on its rows
-module _ (p : PassView) (H : List Held) (rows : List TakenRow) (tails : List ℕ) (zs : List ℕ) (held : AreHeld H None rows tails (drew_on p zs)) (d : Draw) (unwritten : (y : ℕ) → is_write y d.what ≡ false) (unread : (y : ℕ) → is_read y d.what ≡ false) where
+module _ (p : PassView) (H : List Held) (rows : List TakenRow) (tails : List ℕ) (zs : List ℕ)
+    (held : AreHeld H None rows tails (drew_on p zs)) (d : Draw) (unwritten : (y : ℕ) → is_write y d.what ≡ false) (unread : (y : ℕ)
+    → is_read y d.what ≡ false) where
   abbrev dropped_drew : ℕ → Option Draw
   dropped_drew y = if is_in y zs then Some d else drew_on p zs y
 
@@ -152,7 +171,8 @@ module _ (p : PassView) (H : List Held) (rows : List TakenRow) (tails : List ℕ
     where
       at : (k : ℕ) → found k (map (with_drew zs d) H) ≡ held_of None rows tails dropped_drew k
       at zero = found_mapped (with_drew zs d) (λ h. refl) 0 H ∙ ap (changed (with_drew zs d)) (held.at 0)
-      at (suc y) = found_mapped (with_drew zs d) (λ h. refl) (suc y) H ∙ ap (changed (with_drew zs d)) (held.at (suc y)) ∙ at_dropped y (row_at rows y)
+      at (suc y) = found_mapped (with_drew zs d) (λ h. refl) (suc y) H ∙ ap (changed (with_drew zs d)) (held.at (suc y))
+          ∙ at_dropped y (row_at rows y)
 
   some_draw : (u w : Draw) → Some u ≡ Some w → u ≡ w
   some_draw u w e = cc
@@ -162,6 +182,11 @@ module _ (p : PassView) (H : List Held) (rows : List TakenRow) (tails : List ℕ
     where
       unused : (y : ℕ) (c : Draw) → dropped_drew y ≡ Some c → (is_write y c.what ≡ false) × (is_read y c.what ≡ false)
       unused y c e = elim (cases_Bool (is_in y zs)) [
-        | inl b ↦ (let same = some_draw d c (rw b at e) in (subst (λ (u : Draw). is_write y u.what ≡ false) same (unwritten y), subst (λ (u : Draw). is_read y u.what ≡ false) same (unread y)))
+        | inl b ↦ (let same = some_draw d c (rw b at e)
+            in (
+              subst (λ (u : Draw). is_write y u.what ≡ false) same (unwritten y),
+              subst (λ (u : Draw). is_read y u.what ≡ false) same
+                  (unread y),
+            ))
         | inr b ↦ absurd (let z = rw b at e in cc)
       ]

@@ -20,15 +20,18 @@ found_past h hs k ne = let b : (h.object == k) ≡ false = ne_eqb h.object k ne 
 pub found_held : (k : ℕ) (held : List Held) (h : Held) → found k held ≡ Some h → Contains held h × (h.object ≡ k)
 found_held k [] h e = absurd (cc)
 found_held k (g ∷ gs) h e = elim (ℕ_discrete g.object k) [
-  | yes same ↦ (let is : g ≡ h = some_same g h (sym (found_here g gs k same) ∙ e) in ((0, omega arith, is), ap (λ (u : Held). u.object) (sym is) ∙ same))
-  | no other ↦ (let r = found_held k gs h (sym (found_past g gs k other) ∙ e) in let c = r.0 in ((suc c.0, (let l = c.1 in omega arith), c.2), r.1))
+  | yes same ↦ (let is : g ≡ h = some_same g h (sym (found_here g gs k same) ∙ e)
+      in ((0, omega arith, is), ap (λ (u : Held). u.object) (sym is) ∙ same))
+  | no other ↦ (let r = found_held k gs h (sym (found_past g gs k other) ∙ e) in let c = r.0
+      in ((suc c.0, (let l = c.1 in omega arith), c.2), r.1))
 ]
 
 -- and it is the one that the table's calls speak of
 pub found_at : (k : ℕ) (held : List Held) (h : Held) → found k held ≡ Some h → held_at k held ≡ h
 found_at k [] h e = absurd (cc)
 found_at k (g ∷ gs) h e = elim (ℕ_discrete g.object k) [
-  | yes same ↦ (let is : g ≡ h = some_same g h (sym (found_here g gs k same) ∙ e) in let b : (g.object == k) ≡ true = eq-eqb g.object k same in rw b is)
+  | yes same ↦ (let is : g ≡ h = some_same g h (sym (found_here g gs k same) ∙ e) in let b : (g.object == k)
+      ≡ true = eq-eqb g.object k same in rw b is)
   | no other ↦ (let b : (g.object == k) ≡ false = ne_eqb g.object k other in rw b (found_at k gs h (sym (found_past g gs k other) ∙ e)))
 ]
 
@@ -37,11 +40,13 @@ abbrev pub changed : (Held → Held) → Option Held → Option Held
 changed f None = None
 changed f (Some h) = Some (f h)
 
-pub found_mapped : (f : Held → Held) → ((h : Held) → (f h).object ≡ h.object) → (k : ℕ) (held : List Held) → found k (map f held) ≡ changed f (found k held)
+pub found_mapped : (f : Held → Held) → ((h : Held) → (f h).object ≡ h.object) → (k : ℕ) (held : List Held) → found k (map f held)
+    ≡ changed f (found k held)
 found_mapped f same k [] = refl
 found_mapped f same k (h ∷ hs) = elim (ℕ_discrete h.object k) [
   | yes e ↦ found_here (f h) (map f hs) k (same h ∙ e) ∙ ap (changed f) (sym (found_here h hs k e))
-  | no ne ↦ found_past (f h) (map f hs) k (λ e. ne (sym (same h) ∙ e)) ∙ found_mapped f same k hs ∙ ap (changed f) (sym (found_past h hs k ne))
+  | no ne ↦ found_past (f h) (map f hs) k (λ e. ne (sym (same h) ∙ e)) ∙ found_mapped f same k hs
+      ∙ ap (changed f) (sym (found_past h hs k ne))
 ]
 
 -- without one of them
@@ -79,13 +84,15 @@ in_first h hs g (suc k, l, e) = inr (k, omega arith, e)
 pub once_more : (h : Held) (hs : List Held) → IsOnce hs → found h.object hs ≡ None → IsOnce (h ∷ hs)
 once_more h hs once none g c = elim (in_first h hs g c) [
   | inl e ↦ (let is : h.object ≡ g.object = ap (λ (u : Held). u.object) e in found_here h hs g.object is ∙ ap (λ (u : Held). Some u) e)
-  | inr there ↦ found_past h hs g.object (λ e. (let z : Some g ≡ None = sym (once g there) ∙ ap (λ k. found k hs) (sym e) ∙ none in cc)) ∙ once g there
+  | inr there ↦ found_past h hs g.object (λ e. (let z : Some g ≡ None = sym (once g there) ∙ ap (λ k. found k hs) (sym e) ∙ none in cc))
+      ∙ once g there
 ]
 
 in_mapped_from : (f : Held → Held) (held : List Held) (g : Held) → Contains (map f held) g → (h : Held) × Contains held h × (f h ≡ g)
 in_mapped_from f [] g c = absurd (let l = c.1 in omega arith)
 in_mapped_from f (h ∷ hs) g (zero, l, e) = (h, (0, omega arith, refl), e)
-in_mapped_from f (h ∷ hs) g (suc k, l, e) = let r = in_mapped_from f hs g (k, omega arith, e) in let c = r.1 in (r.0, (suc c.0, (let l = c.1 in omega arith), c.2), r.2)
+in_mapped_from f (h ∷ hs) g (suc k, l, e) = let r = in_mapped_from f hs g (k, omega arith, e) in let c = r.1
+    in (r.0, (suc c.0, (let l = c.1 in omega arith), c.2), r.2)
 
 pub once_mapped : (f : Held → Held) → ((h : Held) → (f h).object ≡ h.object) → (held : List Held) → IsOnce held → IsOnce (map f held)
 once_mapped f same held once g c =
@@ -96,7 +103,8 @@ once_mapped f same held once g c =
 in_without_from : (j : ℕ) (held : List Held) (g : Held) → Contains (without j held) g → Contains held g × (g.object ≢ j)
 in_without_from j [] g c = absurd (let l = c.1 in omega arith)
 in_without_from j (h ∷ hs) g c = elim (ℕ_discrete h.object j) [
-  | yes e ↦ (let r = in_without_from j hs g (subst (λ l. Contains l g) (without_here h hs j e) c) in let d = r.0 in ((suc d.0, (let l = d.1 in omega arith), d.2), r.1))
+  | yes e ↦ (let r = in_without_from j hs g (subst (λ l. Contains l g) (without_here h hs j e) c) in let d = r.0
+      in ((suc d.0, (let l = d.1 in omega arith), d.2), r.1))
   | no ne ↦ elim (in_first h (without j hs) g (subst (λ l. Contains l g) (without_past h hs j ne) c)) [
     | inl is ↦ ((0, omega arith, is), λ z. ne (ap (λ (u : Held). u.object) is ∙ z))
     | inr there ↦ (let r = in_without_from j hs g there in let d = r.0 in ((suc d.0, (let l = d.1 in omega arith), d.2), r.1))

@@ -33,8 +33,10 @@ some_row a b e = cc
 pub row_among : (rows : List TakenRow) (y : ℕ) (r : TakenRow) → row_at rows y ≡ Some r → Contains rows r × (r.var ≡ y)
 row_among [] y r e = absurd (cc)
 row_among (q ∷ rs) y r e = elim (ℕ_discrete q.var y) [
-  | yes same ↦ (let is = some_row q r (sym (row_here q rs y same) ∙ e) in ((0, omega arith, is), ap (λ (u : TakenRow). u.var) (sym is) ∙ same))
-  | no other ↦ (let f = row_among rs y r (sym (row_past q rs y other) ∙ e) in let c = f.0 in ((suc c.0, (let l = c.1 in omega arith), c.2), f.1))
+  | yes same ↦ (let is = some_row q r (sym (row_here q rs y same) ∙ e)
+      in ((0, omega arith, is), ap (λ (u : TakenRow). u.var) (sym is) ∙ same))
+  | no other ↦ (let f = row_among rs y r (sym (row_past q rs y other) ∙ e) in let c = f.0
+      in ((suc c.0, (let l = c.1 in omega arith), c.2), f.1))
 ]
 
 -- and what is not found is not
@@ -48,7 +50,8 @@ row_none (q ∷ rs) y e (suc k, l, is) = elim (ℕ_discrete q.var y) [
 
 pub row_absent : (rows : List TakenRow) (y : ℕ) → (Contains (vars_of rows) y → ⊥) → row_at rows y ≡ None
 row_absent [] y out = refl
-row_absent (q ∷ rs) y out = row_past q rs y (λ e. out (0, omega arith, e)) ∙ row_absent rs y (λ c. out (suc c.0, (let l = c.1 in omega arith), c.2))
+row_absent (q ∷ rs) y out = row_past q rs y (λ e. out (0, omega arith, e))
+    ∙ row_absent rs y (λ c. out (suc c.0, (let l = c.1 in omega arith), c.2))
 
 -- with one behind them
 row_pushed : (rows : List TakenRow) (r : TakenRow) (y : ℕ) → r.var ≢ y → row_at (rows ++ r ∷ []) y ≡ row_at rows y
@@ -58,9 +61,11 @@ row_pushed (q ∷ rs) r y ne = elim (ℕ_discrete q.var y) [
   | no other ↦ row_past q (rs ++ r ∷ []) y other ∙ row_pushed rs r y ne ∙ sym (row_past q rs y other)
 ]
 
-pub row_last : (rows : List TakenRow) (r : TakenRow) (y : ℕ) → r.var ≡ y → (Contains (vars_of rows) y → ⊥) → row_at (rows ++ r ∷ []) y ≡ Some r
+pub row_last : (rows : List TakenRow) (r : TakenRow) (y : ℕ) → r.var ≡ y → (Contains (vars_of rows) y → ⊥) → row_at (rows ++ r ∷ []) y
+    ≡ Some r
 row_last [] r y e out = row_here r [] y e
-row_last (q ∷ rs) r y e out = row_past q (rs ++ r ∷ []) y (λ z. out (0, omega arith, z)) ∙ row_last rs r y e (λ c. out (suc c.0, (let l = c.1 in omega arith), c.2))
+row_last (q ∷ rs) r y e out = row_past q (rs ++ r ∷ []) y (λ z. out (0, omega arith, z))
+    ∙ row_last rs r y e (λ c. out (suc c.0, (let l = c.1 in omega arith), c.2))
 
 -- the variables of rows with one behind them
 pub vars_pushed : (rows : List TakenRow) (r : TakenRow) → vars_of (rows ++ r ∷ []) ≡ vars_of rows ++ r.var ∷ []
@@ -79,7 +84,8 @@ last_in (x ∷ xs) y = let r = last_in xs y in (suc r.0, (let l = r.1 in omega a
 
 pub last_once : (xs : List ℕ) (y : ℕ) → Rises (xs ++ y ∷ []) → Contains xs y → ⊥
 last_once [] y r c = absurd (let l = c.1 in omega arith)
-last_once (x ∷ xs) y r (zero, l, e) = let near = above_in x (xs ++ y ∷ []) y r.0 (last_in xs y) in absurd (let same : x ≡ y = e in omega arith)
+last_once (x ∷ xs) y r (zero, l, e) = let near = above_in x (xs ++ y ∷ []) y r.0 (last_in xs y)
+    in absurd (let same : x ≡ y = e in omega arith)
 last_once (x ∷ xs) y r (suc k, l, e) = last_once xs y r.1 (k, omega arith, e)
 
 front_all : (P : ℕ → Type 0) (xs : List ℕ) (y : ℕ) → AllByRecursion P (xs ++ y ∷ []) → AllByRecursion P xs × P y
@@ -95,15 +101,18 @@ length_last [] y = refl
 length_last (x ∷ xs) y = ap suc (length_last xs y)
 
 pub front_are : (xs : List ℕ) (y : ℕ) → AreVariables (xs ++ y ∷ []) → AreVariables xs × (y < VARIABLES)
-front_are xs y a = let e = length_last xs y in let few = a.0 in let f = front_all (λ z. z < VARIABLES) xs y a.2 in ((omega arith, front_rises xs y a.1, f.0), f.1)
+front_are xs y a = let e = length_last xs y in let few = a.0 in let f = front_all (λ z. z < VARIABLES) xs y a.2
+    in ((omega arith, front_rises xs y a.1, f.0), f.1)
 
 -- ---- what is held
 
 -- one row more
-pub held_more : (held : List Held) (rows : List TakenRow) (r : TakenRow) → AreHeld held None rows [] undrawn → AreVariables (vars_of rows ++ r.var ∷ []) → AreHeld (new_held (suc r.var) (slot.Row r.row) ∷ held) None (rows ++ r ∷ []) [] undrawn
+pub held_more : (held : List Held) (rows : List TakenRow) (r : TakenRow) → AreHeld held None rows [] undrawn
+    → AreVariables (vars_of rows ++ r.var ∷ []) → AreHeld (new_held (suc r.var) (slot.Row r.row) ∷ held) None (rows ++ r ∷ []) [] undrawn
 held_more held rows r a are = record {
   at = at;
-  once = once_more (new_held (suc r.var) (slot.Row r.row)) held a.once (a.at (suc r.var) ∙ ap (held_by [] undrawn) (row_absent rows r.var out));
+  once = once_more (new_held (suc r.var) (slot.Row r.row)) held a.once (a.at (suc r.var)
+      ∙ ap (held_by [] undrawn) (row_absent rows r.var out));
   are = subst AreVariables (sym (vars_pushed rows r)) are;
 }
   where
@@ -116,18 +125,24 @@ held_more held rows r a are = record {
     at : (k : ℕ) → found k (new_held (suc r.var) (slot.Row r.row) ∷ held) ≡ held_of None (rows ++ r ∷ []) [] undrawn k
     at zero = found_past (new_held (suc r.var) (slot.Row r.row)) held 0 (λ e. absurd (omega arith)) ∙ a.at 0
     at (suc y) = elim (ℕ_discrete r.var y) [
-      | yes same ↦ found_here (new_held (suc r.var) (slot.Row r.row)) held (suc y) (ap suc same) ∙ ap (held_by [] undrawn) (sym (row_last rows r y same (λ c. out (subst (Contains (vars_of rows)) (sym same) c))))
-      | no other ↦ found_past (new_held (suc r.var) (slot.Row r.row)) held (suc y) (λ e. other (omega arith)) ∙ a.at (suc y) ∙ ap (held_by [] undrawn) (sym (row_pushed rows r y other))
+      | yes same ↦ found_here (new_held (suc r.var) (slot.Row r.row)) held (suc y) (ap suc same)
+          ∙ ap (held_by [] undrawn) (sym (row_last rows r y same (λ c. out (subst (Contains (vars_of rows)) (sym same) c))))
+      | no other ↦ found_past (new_held (suc r.var) (slot.Row r.row)) held (suc y) (λ e. other (omega arith)) ∙ a.at (suc y)
+          ∙ ap (held_by [] undrawn) (sym (row_pushed rows r y other))
     ]
 
 -- the last row is held
-pub held_last : (held : List Held) (list : Option Held) (rows : List TakenRow) (r : TakenRow) (tails : List ℕ) (drew : ℕ → Option Draw) → AreHeld held list (rows ++ r ∷ []) tails drew → found (suc r.var) held ≡ Some (row_held tails drew r)
+pub held_last : (held : List Held) (list : Option Held) (rows : List TakenRow) (r : TakenRow) (tails : List ℕ) (drew : ℕ → Option Draw)
+    → AreHeld held list (rows ++ r ∷ []) tails drew → found (suc r.var) held ≡ Some (row_held tails drew r)
 held_last held list rows r tails drew a =
-    a.at (suc r.var) ∙ ap (held_by tails drew) (row_last rows r r.var refl (last_once (vars_of rows) r.var (subst AreVariables (vars_pushed rows r) a.are).1))
+    a.at (suc r.var) ∙ ap (held_by tails drew)
+    (row_last rows r r.var refl (last_once (vars_of rows) r.var (subst AreVariables (vars_pushed rows r) a.are).1))
 
 -- it was put back
-pub held_fewer : (held : List Held) (list : Option Held) (rows : List TakenRow) (r : TakenRow) (tails : List ℕ) (drew : ℕ → Option Draw) → AreHeld held list (rows ++ r ∷ []) tails drew → AreHeld (without (suc r.var) held) list rows tails drew
-held_fewer held list rows r tails drew a = record { at = at; once = once_without (suc r.var) held a.once; are = (front_are (vars_of rows) r.var were).0 }
+pub held_fewer : (held : List Held) (list : Option Held) (rows : List TakenRow) (r : TakenRow) (tails : List ℕ) (drew : ℕ → Option Draw)
+    → AreHeld held list (rows ++ r ∷ []) tails drew → AreHeld (without (suc r.var) held) list rows tails drew
+held_fewer held list rows r tails drew a =
+    record { at = at; once = once_without (suc r.var) held a.once; are = (front_are (vars_of rows) r.var were).0 }
   where
     were : AreVariables (vars_of rows ++ r.var ∷ [])
     were = subst AreVariables (vars_pushed rows r) a.are
@@ -135,8 +150,11 @@ held_fewer held list rows r tails drew a = record { at = at; once = once_without
     at : (k : ℕ) → found k (without (suc r.var) held) ≡ held_of list rows tails drew k
     at zero = found_still (suc r.var) 0 held (λ e. absurd (omega arith)) ∙ a.at 0
     at (suc y) = elim (ℕ_discrete r.var y) [
-      | yes same ↦ ap (λ z. found (suc z) (without (suc r.var) held)) (sym same) ∙ found_gone (suc r.var) held ∙ ap (held_by tails drew) (sym (row_absent rows y (λ c. last_once (vars_of rows) r.var were.1 (subst (Contains (vars_of rows)) (sym same) c))))
-      | no other ↦ found_still (suc r.var) (suc y) held (λ e. other (omega arith)) ∙ a.at (suc y) ∙ ap (held_by tails drew) (row_pushed rows r y other)
+      | yes same ↦ ap (λ z. found (suc z) (without (suc r.var) held)) (sym same) ∙ found_gone (suc r.var) held
+          ∙ ap (held_by tails drew) (sym (row_absent rows y
+          (λ c. last_once (vars_of rows) r.var were.1 (subst (Contains (vars_of rows)) (sym same) c))))
+      | no other ↦ found_still (suc r.var) (suc y) held (λ e. other (omega arith)) ∙ a.at (suc y)
+          ∙ ap (held_by tails drew) (row_pushed rows r y other)
     ]
 
 -- nothing is held where no row is left
@@ -148,30 +166,43 @@ held_none held tails drew a = none_held held none
     none (suc y) = a.at (suc y)
 
 pub held_nothing : (held : List Held) → held ≡ [] → AreHeld held None [] [] undrawn
-held_nothing held e = subst (λ (l : List Held). AreHeld l None [] [] undrawn) (sym e) (record { at = at; once = λ h c. absurd (let l = c.1 in omega arith); are = (omega arith, tt, tt) })
+held_nothing held e = subst (λ (l : List Held). AreHeld l None [] [] undrawn) (sym e)
+    (record { at = at; once = λ h c. absurd (let l = c.1 in omega arith); are = (omega arith, tt, tt) })
   where
     at : (k : ℕ) → found k [] ≡ held_of None [] [] undrawn k
     at zero = refl
     at (suc y) = refl
 
 -- a row on which no access was drawn goes back as it was taken
-drawn_stays : (setting : Setting) (x : ℕ) (row : Row) (drew : Option Draw) → ((d : Draw) → drew ≡ Some d → (is_write x d.what ≡ false) × (is_read x d.what ≡ false)) → (l : List _) (ds : List Draw) → RowStands setting l x ds row → RowStands setting l x (with_draw drew ds) row
+drawn_stays : (setting : Setting) (x : ℕ) (row : Row) (drew : Option Draw)
+    → ((d : Draw) → drew ≡ Some d → (is_write x d.what ≡ false) × (is_read x d.what ≡ false)) → (l : List _) (ds : List Draw)
+    → RowStands setting l x ds row → RowStands setting l x (with_draw drew ds) row
 drawn_stays setting x row None unused l ds s = s
 drawn_stays setting x row (Some d) unused l ds s = let u = unused d refl in row_stays setting l x ds row s d u.0 u.1
 
-pub may_put_unused : (setting : Setting) (s : Shelf) (v : View) (rows : List TakenRow) (r : TakenRow) → (u : AreUnused v.held (rows ++ r ∷ [])) → MayPutBack setting s v (suc r.var) (slot.Row r.row) false
+pub may_put_unused : (setting : Setting) (s : Shelf) (v : View) (rows : List TakenRow) (r : TakenRow)
+    → (u : AreUnused v.held (rows ++ r ∷ [])) → MayPutBack setting s v (suc r.var) (slot.Row r.row) false
 may_put_unused setting s v rows r u =
     let f = held_last v.held None rows r u.tails u.drew u.holds in
     record {
       held = row_held u.tails u.drew r;
       has = (found_held (suc r.var) v.held (row_held u.tails u.drew r) f).0;
       object = refl;
-      may = record { right = inr (record { stays = drawn_stays setting r.var r.row (u.drew r.var) (u.unused r.var) }); above = λ i has. inr (i, has, omega arith) };
+      may = record {
+        right = inr (record { stays = drawn_stays setting r.var r.row (u.drew r.var) (u.unused r.var) });
+        above = λ i has. inr (i, has, omega arith);
+      };
       quiet = λ e. absurd (cc);
     }
 
-pub unused_fewer : (held : List Held) (rows : List TakenRow) (r : TakenRow) → AreUnused held (rows ++ r ∷ []) → AreUnused (without (suc r.var) held) rows
-unused_fewer held rows r u = record { tails = u.tails; drew = u.drew; holds = held_fewer held None rows r u.tails u.drew u.holds; unused = u.unused }
+pub unused_fewer : (held : List Held) (rows : List TakenRow) (r : TakenRow) → AreUnused held (rows ++ r ∷ [])
+    → AreUnused (without (suc r.var) held) rows
+unused_fewer held rows r u = record {
+  tails = u.tails;
+  drew = u.drew;
+  holds = held_fewer held None rows r u.tails u.drew u.holds;
+  unused = u.unused;
+}
 
 pub unused_none : (held : List Held) → AreUnused held [] → held ≡ []
 unused_none held u = held_none held u.tails u.drew u.holds
@@ -184,10 +215,13 @@ pub last_near : (held : List Held) (rows : List TakenRow) (r : TakenRow) → Are
 last_near held rows r u = (front_are (vars_of rows) r.var (subst AreVariables (vars_pushed rows r) u.holds.are)).1
 
 -- a variable behind those of the rows is not held, nor is the list where it is none of what is held
-pub lacks_next : (held : List Held) (rows : List TakenRow) (y : ℕ) → AreHeld held None rows [] undrawn → AreVariables (vars_of rows ++ y ∷ []) → DoesNotHold held (suc y)
+pub lacks_next : (held : List Held) (rows : List TakenRow) (y : ℕ) → AreHeld held None rows [] undrawn
+    → AreVariables (vars_of rows ++ y ∷ []) → DoesNotHold held (suc y)
 lacks_next held rows y a are h c e =
-    let z : None ≡ Some h = sym (a.at (suc y) ∙ ap (held_by [] undrawn) (row_absent rows y (last_once (vars_of rows) y are.1))) ∙ ap (λ k. found k held) (sym e) ∙ a.once h c in
+    let z : None ≡ Some h = sym (a.at (suc y) ∙ ap (held_by [] undrawn) (row_absent rows y (last_once (vars_of rows) y are.1)))
+    ∙ ap (λ k. found k held) (sym e) ∙ a.once h c in
     absurd (cc)
 
-pub lacks_list : (held : List Held) (rows : List TakenRow) (tails : List ℕ) (drew : ℕ → Option Draw) → AreHeld held None rows tails drew → DoesNotHold held 0
+pub lacks_list : (held : List Held) (rows : List TakenRow) (tails : List ℕ) (drew : ℕ → Option Draw) → AreHeld held None rows tails drew
+    → DoesNotHold held 0
 lacks_list held rows tails drew a h c e = let z : None ≡ Some h = sym (a.at 0) ∙ ap (λ k. found k held) (sym e) ∙ a.once h c in absurd (cc)

@@ -46,23 +46,29 @@ none_at (suc n) (suc k) = none_at n k
 written_by : (x : ℕ) (ws : List Pair) (v : ℤ) → write_in ws x ≡ Some v → (is_in x (map (λ w. w.var) ws) ≡ true) × (value_in x ws ≡ v)
 written_by x [] v e = absurd (cc)
 written_by x (w ∷ ws) v e = elim (ℕ_discrete x w.var) [
-  | yes same ↦ (let a : (w.var == x) ≡ true = eq-eqb w.var x (sym same) in let b : (x == w.var) ≡ true = eq-eqb x w.var same in let z : Some w.value ≡ Some v = rw a at e in (rw b refl, rw b (let is : w.value ≡ v = cc in is)))
-  | no other ↦ (let a : (w.var == x) ≡ false = ne_eqb w.var x (λ z. other (sym z)) in let b : (x == w.var) ≡ false = ne_eqb x w.var other in let r = written_by x ws v (rw a at e) in (rw b r.0, rw b r.1))
+  | yes same ↦ (let a : (w.var == x) ≡ true = eq-eqb w.var x (sym same) in let b : (x == w.var) ≡ true = eq-eqb x w.var same
+      in let z : Some w.value ≡ Some v = rw a at e in (rw b refl, rw b (let is : w.value ≡ v = cc in is)))
+  | no other ↦ (let a : (w.var == x) ≡ false = ne_eqb w.var x (λ z. other (sym z)) in let b : (x == w.var) ≡ false = ne_eqb x w.var other
+      in let r = written_by x ws v (rw a at e) in (rw b r.0, rw b r.1))
 ]
 
 unwritten_by : (x : ℕ) (ws : List Pair) → write_in ws x ≡ None → is_in x (map (λ w. w.var) ws) ≡ false
 unwritten_by x [] e = refl
 unwritten_by x (w ∷ ws) e = elim (ℕ_discrete x w.var) [
   | yes same ↦ absurd (let a : (w.var == x) ≡ true = eq-eqb w.var x (sym same) in let z : Some w.value ≡ None = rw a at e in cc)
-  | no other ↦ (let a : (w.var == x) ≡ false = ne_eqb w.var x (λ z. other (sym z)) in let b : (x == w.var) ≡ false = ne_eqb x w.var other in rw b (unwritten_by x ws (rw a at e)))
+  | no other ↦ (let a : (w.var == x) ≡ false = ne_eqb w.var x (λ z. other (sym z)) in let b : (x == w.var) ≡ false = ne_eqb x w.var other
+      in rw b (unwritten_by x ws (rw a at e)))
 ]
 
-module _ (setting : Setting) (l : List Stamp) (x t n : ℕ) (near : t < THREADS) (tx : Tx) (ds : List Draw) (old : Row) (s : RowStands setting l x ds old) (i : Info) where
+module _ (setting : Setting) (l : List Stamp) (x t n : ℕ) (near : t < THREADS) (tx : Tx) (ds : List Draw) (old : Row)
+    (s : RowStands setting l x ds old) (i : Info) where
   abbrev d : Draw
   d = draw t n (Entered (Commit n tx))
 
   -- a write is the last write, and drops the reads
-  pub wrote_stands : (v : ℤ) → write_in tx.writes x ≡ Some v → (new : Row) → new.value ≡ v → new.last_write ≡ Some i → new.reads ≡ replicate THREADS None → InfoFor setting l i (access_of (draw t n (Entered (Commit n tx)))) true → RowStands setting l x (draw t n (Entered (Commit n tx)) ∷ ds) new
+  pub wrote_stands : (v : ℤ) → write_in tx.writes x ≡ Some v → (new : Row) → new.value ≡ v → new.last_write ≡ Some i → new.reads
+      ≡ replicate THREADS None → InfoFor setting l i (access_of (draw t n (Entered (Commit n tx)))) true
+      → RowStands setting l x (draw t n (Entered (Commit n tx)) ∷ ds) new
   wrote_stands v w new value last reads f =
       let b = written_by x tx.writes v w in
       let iw : is_in x (map (λ w. w.var) tx.writes) ≡ true = b.0 in
@@ -76,20 +82,26 @@ module _ (setting : Setting) (l : List Stamp) (x t n : ℕ) (near : t < THREADS)
   there : t < length old.reads
   there = let k = s.threads in omega arith
 
-  by_read : (new : Row) (u : ℕ) → new.reads ≡ slice_set old.reads t (Some i) → InfoFor setting l i (access_of (draw t n (Entered (Commit n tx)))) false → InfoOf setting l false (read_of new.reads u) (if t == u then Some (draw t n (Entered (Commit n tx))) else last_read x u ds)
+  by_read : (new : Row) (u : ℕ) → new.reads ≡ slice_set old.reads t (Some i)
+      → InfoFor setting l i (access_of (draw t n (Entered (Commit n tx)))) false
+      → InfoOf setting l false (read_of new.reads u) (if t == u then Some (draw t n (Entered (Commit n tx))) else last_read x u ds)
   by_read new u e g = elim (ℕ_discrete t u) [
     | yes same ↦
         (let b : (t == u) ≡ true = eq-eqb t u same in
-        let r : read_of new.reads u ≡ Some i = ap (λ xs. read_of xs u) e ∙ ap (read_of (set old.reads t (Some i))) (sym same) ∙ get_or-set_same old.reads t (Some i) None there in
+        let r : read_of new.reads u ≡ Some i = ap (λ xs. read_of xs u) e ∙ ap (read_of (set old.reads t (Some i))) (sym same)
+        ∙ get_or-set_same old.reads t (Some i) None there in
         rw (b, r) g)
     | no other ↦
         (let b : (t == u) ≡ false = ne_eqb t u other in
-        let r : read_of new.reads u ≡ read_of old.reads u = ap (λ xs. read_of xs u) e ∙ get_or-set_other old.reads t u (Some i) None (λ z. other (sym z)) in
+        let r : read_of new.reads u ≡ read_of old.reads u = ap (λ xs. read_of xs u) e
+        ∙ get_or-set_other old.reads t u (Some i) None (λ z. other (sym z)) in
         rw (b, r) (s.reads u))
   ]
 
   -- a read is its thread's
-  pub read_stands : write_in tx.writes x ≡ None → (new : Row) → new.value ≡ old.value → new.last_write ≡ old.last_write → new.reads ≡ slice_set old.reads t (Some i) → InfoFor setting l i (access_of (draw t n (Entered (Commit n tx)))) false → RowStands setting l x (draw t n (Entered (Commit n tx)) ∷ ds) new
+  pub read_stands : write_in tx.writes x ≡ None → (new : Row) → new.value ≡ old.value → new.last_write ≡ old.last_write → new.reads
+      ≡ slice_set old.reads t (Some i) → InfoFor setting l i (access_of (draw t n (Entered (Commit n tx)))) false
+      → RowStands setting l x (draw t n (Entered (Commit n tx)) ∷ ds) new
   read_stands w new value last reads f =
       let iw : is_in x (map (λ w. w.var) tx.writes) ≡ false = unwritten_by x tx.writes w in
       record {
@@ -100,8 +112,10 @@ module _ (setting : Setting) (l : List Stamp) (x t n : ℕ) (near : t < THREADS)
       }
 
 -- the Info of an own commit, directly behind it, stands for it over each fitting list
-module _ (p : PassView) (rows : List TakenRow) (base : Question) (at : ℕ) (c : AreCommitted p rows base at) (write : Bool) (i : Info) (is : IsNewInfo (record base { write = write }) at i) where
-  pub info_stands : (setting : Setting) (l : List Stamp) → IsFitting setting (shelf_of p) p.seen p.known l → InfoFor setting l i (access_of (draw p.own.id c.position (Entered (Commit c.position c.tx)))) write
+module _ (p : PassView) (rows : List TakenRow) (base : Question) (at : ℕ) (c : AreCommitted p rows base at) (write : Bool) (i : Info)
+    (is : IsNewInfo (record base { write = write }) at i) where
+  pub info_stands : (setting : Setting) (l : List Stamp) → IsFitting setting (shelf_of p) p.seen p.known l
+      → InfoFor setting l i (access_of (draw p.own.id c.position (Entered (Commit c.position c.tx)))) write
   info_stands setting l fits = commit_stands setting (shelf_of p) p.seen p.known c.position c.tx write i (record {
     index = c.index;
     there = c.there;
@@ -109,15 +123,19 @@ module _ (p : PassView) (rows : List TakenRow) (base : Question) (at : ℕ) (c :
     writes = is.write;
     commit = is.commit ∙ ap is_some c.commit;
     at = is.pos ∙ c.behind;
-    starts = λ y. subst (λ (t : ℕ). Has i.set y ↔ InitialLockset t (Some (variables_of c.tx)) y) c.thread (subst (λ (o : Option (List ℕ)). Has i.set y ↔ InitialLockset base.thread o y) c.commit (is.set y));
-    held = λ k owner f allowed. (let whole : take (c.position + 1) k ≡ k = take_all (c.position + 1) k (let a = f.long in let b = c.seen in let e = c.behind in omega arith) in
-        subst (AreLeastOwned owner p.own.id) (sym is.held) (c.owned setting k owner f.own (subst (λ z. Allows setting z owner) whole allowed)));
+    starts = λ y. subst (λ (t : ℕ). Has i.set y ↔ InitialLockset t (Some (variables_of c.tx)) y) c.thread
+        (subst (λ (o : Option (List ℕ)). Has i.set y ↔ InitialLockset base.thread o y) c.commit (is.set y));
+    held = λ k owner f allowed. (let whole : take (c.position + 1) k
+        ≡ k = take_all (c.position + 1) k (let a = f.long in let b = c.seen in let e = c.behind in omega arith) in
+        subst (AreLeastOwned owner p.own.id) (sym is.held)
+        (c.owned setting k owner f.own (subst (λ z. Allows setting z owner) whole allowed)));
   }) l fits
 
 some_info : (i j : Info) → Some i ≡ Some j → i ≡ j
 some_info i j e = cc
 
-module _ (setting : Setting) (p : PassView) (rows : List TakenRow) (base : Question) (at : ℕ) (r : TakenRow) (c : AreCommitted p (rows ++ r ∷ []) base at) (new : Row) where
+module _ (setting : Setting) (p : PassView) (rows : List TakenRow) (base : Question) (at : ℕ) (r : TakenRow)
+    (c : AreCommitted p (rows ++ r ∷ []) base at) (new : Row) where
   last : found (suc r.var) p.own.held ≡ Some (row_held c.tails (drew_commit_at p c.tx c.position) r)
   last = held_last p.own.held None rows r c.tails (drew_commit_at p c.tx c.position) c.held
 
@@ -127,15 +145,19 @@ module _ (setting : Setting) (p : PassView) (rows : List TakenRow) (base : Quest
   t_near : p.own.id < THREADS
   t_near = subst (λ k. k < THREADS) c.thread c.near
 
-  follows_by : (w : Option ℤ) → r.write ≡ w → IsNotedRow base at w r.row new → (l : List Stamp) → IsFitting setting (shelf_of p) p.seen p.known l → (ds : List Draw) → RowStands setting l r.var ds r.row
+  follows_by : (w : Option ℤ) → r.write ≡ w → IsNotedRow base at w r.row new → (l : List Stamp)
+      → IsFitting setting (shelf_of p) p.seen p.known l → (ds : List Draw) → RowStands setting l r.var ds r.row
       → RowStands setting l r.var (draw p.own.id c.position (Entered (Commit c.position c.tx)) ∷ ds) new
   follows_by None w noted l fits ds s =
       let k = noted.read refl in
-      read_stands setting l r.var p.own.id c.position t_near c.tx ds r.row s noted.info (sym word ∙ w) new noted.value k.0 (k.1 ∙ ap (λ (u : ℕ). slice_set r.row.reads u (Some noted.info)) c.thread) (info_stands p (rows ++ r ∷ []) base at c false noted.info noted.is setting l fits)
+      read_stands setting l r.var p.own.id c.position t_near c.tx ds r.row s noted.info (sym word ∙ w) new noted.value k.0 (k.1
+      ∙ ap (λ (u : ℕ). slice_set r.row.reads u (Some noted.info)) c.thread)
+      (info_stands p (rows ++ r ∷ []) base at c false noted.info noted.is setting l fits)
   follows_by (Some v) w noted l fits ds s =
       let mid = noted.1 in
       let k = mid.write refl in
-      wrote_stands setting l r.var p.own.id c.position t_near c.tx ds r.row s mid.info v (sym word ∙ w) new (ap (λ (z : Row). z.value) noted.2) (ap (λ (z : Row). z.last_write) noted.2 ∙ k.0) (ap (λ (z : Row). z.reads) noted.2 ∙ k.1)
+      wrote_stands setting l r.var p.own.id c.position t_near c.tx ds r.row s mid.info v (sym word ∙ w) new
+      (ap (λ (z : Row). z.value) noted.2) (ap (λ (z : Row). z.last_write) noted.2 ∙ k.0) (ap (λ (z : Row). z.reads) noted.2 ∙ k.1)
       (info_stands p (rows ++ r ∷ []) base at c true mid.info mid.is setting l fits)
 
   abbrev Above : Info → Type 0
@@ -151,22 +173,31 @@ module _ (setting : Setting) (p : PassView) (rows : List TakenRow) (base : Quest
       let is : read_of (set r.row.reads base.thread (Some noted.info)) u ≡ Some i = sym (ap (λ xs. read_of xs u) k.1) ∙ e in
       elim (ℕ_discrete u base.thread) [
         | yes same ↦ elim (cases_lt u (length r.row.reads)) [
-          | inl near ↦ above_new i noted.info (some_info noted.info i (sym (get_or-set_same r.row.reads base.thread (Some noted.info) None (let z = same in omega arith)) ∙ ap (read_of (set r.row.reads base.thread (Some noted.info))) (sym same) ∙ is)) noted.is.pos
-          | inr past ↦ absurd (let none : read_of (set r.row.reads base.thread (Some noted.info)) u ≡ None = get_or_past (set r.row.reads base.thread (Some noted.info)) u None (let z = length-set r.row.reads base.thread (Some noted.info) in omega arith) in let z : None ≡ Some i = sym none ∙ is in cc)
+          | inl near ↦ above_new i noted.info (some_info noted.info i
+              (sym (get_or-set_same r.row.reads base.thread (Some noted.info) None (let z = same in omega arith))
+              ∙ ap (read_of (set r.row.reads base.thread (Some noted.info))) (sym same) ∙ is)) noted.is.pos
+          | inr past ↦ absurd (let none : read_of (set r.row.reads base.thread (Some noted.info)) u
+              ≡ None = get_or_past (set r.row.reads base.thread (Some noted.info)) u None
+              (let z = length-set r.row.reads base.thread (Some noted.info) in omega arith) in let z : None ≡ Some i = sym none ∙ is in cc)
         ]
         | no other ↦ inr (i, inr (u, sym (get_or-set_other r.row.reads base.thread u (Some noted.info) None other) ∙ is), omega arith)
       ]
-  above_by (Some v) noted i (inl e) = let mid = noted.1 in let k = mid.write refl in above_new i mid.info (some_info mid.info i (sym k.0 ∙ sym (ap (λ (z : Row). z.last_write) noted.2) ∙ e)) mid.is.pos
+  above_by (Some v) noted i (inl e) = let mid = noted.1 in let k = mid.write refl
+      in above_new i mid.info (some_info mid.info i (sym k.0 ∙ sym (ap (λ (z : Row). z.last_write) noted.2) ∙ e)) mid.is.pos
   above_by (Some v) noted i (inr (u, e)) =
       let mid = noted.1 in let k = mid.write refl in
-      absurd (let z : None ≡ Some i = sym (none_at THREADS u) ∙ ap (λ xs. read_of xs u) (sym k.1) ∙ sym (ap (λ (z : Row). read_of z.reads u) noted.2) ∙ e in cc)
+      absurd (let z : None ≡ Some i = sym (none_at THREADS u) ∙ ap (λ xs. read_of xs u) (sym k.1)
+      ∙ sym (ap (λ (z : Row). read_of z.reads u) noted.2) ∙ e in cc)
 
   pub may_put_noted : IsNotedRow base at r.write r.row new → MayPutBack setting (shelf_of p) (view_of p) (suc r.var) (slot.Row new) false
   may_put_noted noted = record {
     held = row_held c.tails (drew_commit_at p c.tx c.position) r;
     has = (found_held (suc r.var) p.own.held (row_held c.tails (drew_commit_at p c.tx c.position) r) last).0;
     object = refl;
-    may = record { right = inl (record { fresh = (at, c.fresh); follows = follows_by r.write refl noted }); above = above_by r.write noted };
+    may = record {
+      right = inl (record { fresh = (at, c.fresh); follows = follows_by r.write refl noted });
+      above = above_by r.write noted;
+    };
     quiet = λ e. absurd (cc);
   }
 
@@ -183,7 +214,8 @@ module _ (setting : Setting) (p : PassView) (rows : List TakenRow) (base : Quest
     there = c.there;
     tails = c.tails;
     fresh = c.fresh;
-    held = subst (λ (h : List Held). AreHeld h None rows c.tails (drew_commit_at p c.tx c.position)) (sym (put_held p q r.var is)) (held_fewer p.own.held None rows r c.tails (drew_commit_at p c.tx c.position) c.held);
+    held = subst (λ (h : List Held). AreHeld h None rows c.tails (drew_commit_at p c.tx c.position)) (sym (put_held p q r.var is))
+        (held_fewer p.own.held None rows r c.tails (drew_commit_at p c.tx c.position) c.held);
     writes = λ u d. c.writes u (Contains-append_left rows (r ∷ []) u d);
     thread = c.thread;
     near = c.near;
@@ -191,5 +223,7 @@ module _ (setting : Setting) (p : PassView) (rows : List TakenRow) (base : Quest
     owned = c.owned;
   })
 
-pub noted_all : (p q : PassView) (base : Question) (at : ℕ) → q ≡ record p { own = record p.own { held = q.own.held } } → AreCommitted q [] base at → q ≡ record p { own = record p.own { held = [] } }
-noted_all p q base at is c = is ∙ ap (λ (h : List Held). record p { own = record p.own { held = h } }) (held_none q.own.held c.tails (drew_commit_at q c.tx c.position) c.held)
+pub noted_all : (p q : PassView) (base : Question) (at : ℕ) → q ≡ record p { own = record p.own { held = q.own.held } }
+    → AreCommitted q [] base at → q ≡ record p { own = record p.own { held = [] } }
+noted_all p q base at is c = is ∙ ap (λ (h : List Held). record p { own = record p.own { held = h } })
+    (held_none q.own.held c.tails (drew_commit_at q c.tx c.position) c.held)

@@ -23,14 +23,16 @@ of_number n = n.var
 -- a number above all others stands last
 pub part_last : (n : Number) (ns : List Number) → Rises (numbered ns ++ n.var ∷ []) → with_part of_number n ns ≡ ns ++ n ∷ []
 part_last n [] r = refl
-part_last n (m ∷ ns) r = part_below of_number n m ns (above_in m.var (numbered ns ++ n.var ∷ []) n.var r.0 (last_in (numbered ns) n.var)) ∙ ap (λ (l : List Number). m ∷ l) (part_last n ns r.1)
+part_last n (m ∷ ns) r = part_below of_number n m ns (above_in m.var (numbered ns ++ n.var ∷ []) n.var r.0 (last_in (numbered ns) n.var))
+    ∙ ap (λ (l : List Number). m ∷ l) (part_last n ns r.1)
 
 pub keys_last : (ns : List Number) (n : Number) → numbered (ns ++ n ∷ []) ≡ numbered ns ++ n.var ∷ []
 keys_last [] n = refl
 keys_last (k ∷ ns) n = ap (λ (l : List ℕ). k.var ∷ l) (keys_last ns n)
 
 -- the variable of the row at a place
-pub var_at : (rows : List TakenRow) (i : ℕ) (r : TakenRow) → slice_get rows i ≡ Some r → (i < length (vars_of rows)) × (get_or (vars_of rows) i 0 ≡ r.var)
+pub var_at : (rows : List TakenRow) (i : ℕ) (r : TakenRow) → slice_get rows i ≡ Some r → (i < length (vars_of rows))
+    × (get_or (vars_of rows) i 0 ≡ r.var)
 var_at [] i r e = absurd (cc)
 var_at (q ∷ rs) zero r e = (omega arith, (let same : q ≡ r = cc in ap (λ (z : TakenRow). z.var) same))
 var_at (q ∷ rs) (suc i) r e = let s = var_at rs i r e in ((let l = s.0 in omega arith), s.1)
@@ -41,10 +43,13 @@ in_vars (q ∷ rs) zero r e = (0, omega arith, (let same : q ≡ r = cc in ap (�
 in_vars (q ∷ rs) (suc i) r e = let c = in_vars rs i r e in (suc c.0, (let l = c.1 in omega arith), c.2)
 
 -- each row is found by its variable, where these rise
-pub row_found : (rows : List TakenRow) (i : ℕ) (r : TakenRow) → Rises (vars_of rows) → slice_get rows i ≡ Some r → row_at rows r.var ≡ Some r
+pub row_found : (rows : List TakenRow) (i : ℕ) (r : TakenRow) → Rises (vars_of rows) → slice_get rows i ≡ Some r → row_at rows r.var
+    ≡ Some r
 row_found [] i r rises e = absurd (cc)
-row_found (q ∷ rs) zero r rises e = let same : q ≡ r = cc in row_here q rs r.var (ap (λ (z : TakenRow). z.var) same) ∙ ap (λ (z : TakenRow). Some z) same
-row_found (q ∷ rs) (suc i) r rises e = let far = above_in q.var (vars_of rs) r.var rises.0 (in_vars rs i r e) in row_past q rs r.var (λ z. absurd (omega arith)) ∙ row_found rs i r rises.1 e
+row_found (q ∷ rs) zero r rises e = let same : q ≡ r = cc in row_here q rs r.var (ap (λ (z : TakenRow). z.var) same)
+    ∙ ap (λ (z : TakenRow). Some z) same
+row_found (q ∷ rs) (suc i) r rises e = let far = above_in q.var (vars_of rs) r.var rises.0 (in_vars rs i r e)
+    in row_past q rs r.var (λ z. absurd (omega arith)) ∙ row_found rs i r rises.1 e
 
 near_in : (xs : List ℕ) (i : ℕ) → AllByRecursion (λ x. x < VARIABLES) xs → i < length xs → get_or xs i 0 < VARIABLES
 near_in [] i all near = absurd (omega arith)
@@ -52,12 +57,14 @@ near_in (x ∷ xs) zero all near = all.0
 near_in (x ∷ xs) (suc i) all near = near_in xs i all.1 (omega arith)
 
 -- the row at place i, where those before it have their number
-module _ (rows : List TakenRow) (i : ℕ) (r : TakenRow) (there : slice_get rows i ≡ Some r) (are : AreVariables (vars_of rows)) (numbers : List Number) (done : numbered numbers ≡ take i (vars_of rows)) where
+module _ (rows : List TakenRow) (i : ℕ) (r : TakenRow) (there : slice_get rows i ≡ Some r) (are : AreVariables (vars_of rows))
+    (numbers : List Number) (done : numbered numbers ≡ take i (vars_of rows)) where
   pub near_var : r.var < VARIABLES
   near_var = let v = var_at rows i r there in subst (λ k. k < VARIABLES) v.1 (near_in (vars_of rows) i are.2 v.0)
 
   pub rises_on : Rises (numbered numbers ++ r.var ∷ [])
-  rises_on = let v = var_at rows i r there in subst (λ l. Rises (l ++ r.var ∷ [])) (sym done) (subst (λ k. Rises (take i (vars_of rows) ++ k ∷ [])) v.1 (take_are (vars_of rows) i are v.0).1)
+  rises_on = let v = var_at rows i r there in subst (λ l. Rises (l ++ r.var ∷ [])) (sym done)
+      (subst (λ k. Rises (take i (vars_of rows) ++ k ∷ [])) v.1 (take_are (vars_of rows) i are v.0).1)
 
   pub not_numbered : Contains (numbered numbers) r.var → ⊥
   not_numbered = last_once (numbered numbers) r.var rises_on
@@ -68,11 +75,17 @@ module _ (rows : List TakenRow) (i : ℕ) (r : TakenRow) (there : slice_get rows
   pub numbered_on : (nth : ℕ) → numbered (numbers ++ record { var = r.var; nth = nth } ∷ []) ≡ take (i + 1) (vars_of rows)
   numbered_on nth =
       let v = var_at rows i r there in
-      keys_last numbers (record { var = r.var; nth = nth }) ∙ ap (λ l. l ++ r.var ∷ []) done ∙ ap (λ k. take i (vars_of rows) ++ k ∷ []) (sym v.1) ∙ sym (take_more (vars_of rows) i 0 v.0)
+      keys_last numbers (record { var = r.var; nth = nth }) ∙ ap (λ l. l ++ r.var ∷ []) done
+      ∙ ap (λ k. take i (vars_of rows) ++ k ∷ []) (sym v.1) ∙ sym (take_more (vars_of rows) i 0 v.0)
 
 -- no number is drawn yet
-pub drawn_none : (p : PassView) (list : Option Held) (rows : List TakenRow) (tails : List ℕ) → AreHeld p.own.held list rows tails undrawn → HasDrawn p p list rows tails []
-drawn_none p list rows tails a = record { is = ap (λ (l : List Drawn). record p { own = record p.own { drawn = l } }) (sym (append-nil p.own.drawn)); held = a; above = λ y k m look c d. absurd (let l = d.1 in omega arith) }
+pub drawn_none : (p : PassView) (list : Option Held) (rows : List TakenRow) (tails : List ℕ) → AreHeld p.own.held list rows tails undrawn
+    → HasDrawn p p list rows tails []
+drawn_none p list rows tails a = record {
+  is = ap (λ (l : List Drawn). record p { own = record p.own { drawn = l } }) (sym (append-nil p.own.drawn));
+  held = a;
+  above = λ y k m look c d. absurd (let l = d.1 in omega arith);
+}
 
 pub length_vars : (rows : List TakenRow) → length (vars_of rows) ≡ length rows
 length_vars [] = refl

@@ -35,31 +35,38 @@ module _ (held : List Held) (rows : List TakenRow) (tails : List ℕ) (a : AreHe
     are = a.are;
   }
     where
-      at : (k : ℕ) → found k (map (with_tail n) (new_held 0 y ∷ held)) ≡ held_of (Some (with_tail n (new_held 0 y))) rows (n ∷ tails) undrawn k
+      at : (k : ℕ) → found k (map (with_tail n) (new_held 0 y ∷ held))
+          ≡ held_of (Some (with_tail n (new_held 0 y))) rows (n ∷ tails) undrawn k
       at zero = found_here (with_tail n (new_held 0 y)) (map (with_tail n) held) 0 refl
-      at (suc z) = found_past (with_tail n (new_held 0 y)) (map (with_tail n) held) (suc z) (λ e. absurd (omega arith)) ∙ found_mapped (with_tail n) (λ h. refl) (suc z) held ∙ ap (changed (with_tail n)) (a.at (suc z)) ∙ at_tail (row_at rows z)
+      at (suc z) = found_past (with_tail n (new_held 0 y)) (map (with_tail n) held) (suc z) (λ e. absurd (omega arith))
+          ∙ found_mapped (with_tail n) (λ h. refl) (suc z) held ∙ ap (changed (with_tail n)) (a.at (suc z)) ∙ at_tail (row_at rows z)
 
 -- after the commit d of the rows' variables was published at n, and the list put back
-module _ (held : List Held) (l : Held) (l0 : l.object ≡ 0) (rows : List TakenRow) (tails : List ℕ) (drew : ℕ → Option Draw) (a : AreHeld held (Some l) rows tails drew) (n : ℕ) (y : Slot) (ys : List ℕ) (are : vars_of rows ≡ ys) (d : Draw) where
+module _ (held : List Held) (l : Held) (l0 : l.object ≡ 0) (rows : List TakenRow) (tails : List ℕ) (drew : ℕ → Option Draw)
+    (a : AreHeld held (Some l) rows tails drew) (n : ℕ) (y : Slot) (ys : List ℕ) (are : vars_of rows ≡ ys) (d : Draw) where
   abbrev pub changes : Held → Held
   changes h = after_publish n y (drew_commit ys d) h
 
   same_object : (h : Held) → (after_publish n y (drew_commit ys d) h).object ≡ h.object
   same_object h = by_bool (h.object == 0)
     where
-      by_bool : (b : Bool) → (if b then record h { taken = y; tails = suc n ∷ [] } else record h { tails = suc n ∷ h.tails; drew = drew_commit ys d h }).object ≡ h.object
+      by_bool : (b : Bool) → (if b then record h { taken = y; tails = suc n ∷ [] }
+          else record h { tails = suc n ∷ h.tails; drew = drew_commit ys d h }).object ≡ h.object
       by_bool true = refl
       by_bool false = refl
 
-  changes_row : (r : TakenRow) → Contains ys r.var → after_publish n y (drew_commit ys d) (row_held tails drew r) ≡ row_held (suc n ∷ tails) (λ z. Some d) r
+  changes_row : (r : TakenRow) → Contains ys r.var → after_publish n y (drew_commit ys d) (row_held tails drew r)
+      ≡ row_held (suc n ∷ tails) (λ z. Some d) r
   changes_row r c =
       let f : (suc r.var == 0) ≡ false = ne_eqb (suc r.var) 0 (λ e. absurd (omega arith)) in
       let b : is_in r.var ys ≡ true = contains-is_in r.var ys c in
       rw (f, b) refl
 
-  at_row : (z : ℕ) (o : Option TakenRow) → row_at rows z ≡ o → changed (after_publish n y (drew_commit ys d)) (held_by tails drew o) ≡ held_by (suc n ∷ tails) (λ z. Some d) o
+  at_row : (z : ℕ) (o : Option TakenRow) → row_at rows z ≡ o → changed (after_publish n y (drew_commit ys d)) (held_by tails drew o)
+      ≡ held_by (suc n ∷ tails) (λ z. Some d) o
   at_row z None e = refl
-  at_row z (Some r) e = ap (λ (h : Held). Some h) (changes_row r (subst (λ l. Contains l r.var) are (in_vars_of rows r (row_among rows z r e).0)))
+  at_row z (Some r) e = ap (λ (h : Held). Some h)
+      (changes_row r (subst (λ l. Contains l r.var) are (in_vars_of rows r (row_among rows z r e).0)))
     where
       in_vars_of : (rows : List TakenRow) (r : TakenRow) → Contains rows r → Contains (vars_of rows) r.var
       in_vars_of [] r c = absurd (let l = c.1 in omega arith)
@@ -69,16 +76,21 @@ module _ (held : List Held) (l : Held) (l0 : l.object ≡ 0) (rows : List TakenR
   pub held_published : AreHeld (without 0 (map (after_publish n y (drew_commit ys d)) held)) None rows (suc n ∷ tails) (λ z. Some d)
   held_published = record {
     at = at;
-    once = once_without 0 (map (after_publish n y (drew_commit ys d)) held) (once_mapped (after_publish n y (drew_commit ys d)) same_object held a.once);
+    once = once_without 0 (map (after_publish n y (drew_commit ys d)) held)
+        (once_mapped (after_publish n y (drew_commit ys d)) same_object held a.once);
     are = a.are;
   }
     where
-      at : (k : ℕ) → found k (without 0 (map (after_publish n y (drew_commit ys d)) held)) ≡ held_of None rows (suc n ∷ tails) (λ z. Some d) k
+      at : (k : ℕ) → found k (without 0 (map (after_publish n y (drew_commit ys d)) held))
+          ≡ held_of None rows (suc n ∷ tails) (λ z. Some d) k
       at zero = found_gone 0 (map (after_publish n y (drew_commit ys d)) held)
-      at (suc z) = found_still 0 (suc z) (map (after_publish n y (drew_commit ys d)) held) (λ e. absurd (omega arith)) ∙ found_mapped (after_publish n y (drew_commit ys d)) same_object (suc z) held ∙ ap (changed (after_publish n y (drew_commit ys d))) (a.at (suc z)) ∙ at_row z (row_at rows z) refl
+      at (suc z) = found_still 0 (suc z) (map (after_publish n y (drew_commit ys d)) held) (λ e. absurd (omega arith))
+          ∙ found_mapped (after_publish n y (drew_commit ys d)) same_object (suc z) held
+          ∙ ap (changed (after_publish n y (drew_commit ys d))) (a.at (suc z)) ∙ at_row z (row_at rows z) refl
 
 -- the entry of a commit may be stored by a thread that runs
-pub may_store_commit : (t : ℕ) (es : List Entry) (n : ℕ) (tx : Tx) → life_of es ≡ Running → NumbersName tx (variables_of tx) → MayStore t es (Commit n tx)
+pub may_store_commit : (t : ℕ) (es : List Entry) (n : ℕ) (tx : Tx) → life_of es ≡ Running → NumbersName tx (variables_of tx)
+    → MayStore t es (Commit n tx)
 may_store_commit t es n tx runs form = record {
   well_formed = form;
   begins = λ _ all. absurd (let b = has_begun es runs in b.1.2 (all b.0 b.1.0 b.1.1));

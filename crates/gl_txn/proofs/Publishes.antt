@@ -54,29 +54,46 @@ use Rattle.gl_txn.proofs.Published.{held_reached, held_published, may_store_comm
 use Rattle.gl_txn.proofs.Refusals.{row_of, row_is}
 
 taken_after : (n : ℕ) (y : Slot) (drew : Held → Option Draw) (h : Held) → h.object ≡ 0 → (after_publish n y drew h).taken ≡ y
-taken_after n y drew h e = ap (λ b. (if b then record h { taken = y; tails = suc n ∷ [] } else record h { tails = suc n ∷ h.tails; drew = drew h }).taken) (eq-eqb h.object 0 e)
+taken_after n y drew h e = ap (λ b. (if b then record h { taken = y; tails = suc n ∷ [] }
+    else record h { tails = suc n ∷ h.tails; drew = drew h }).taken) (eq-eqb h.object 0 e)
 
 last_read : (xs : List Read) (x : Read) → Contains (xs ++ x ∷ []) x
 last_read [] x = (0, omega arith, refl)
 last_read (y ∷ xs) x = let r = last_read xs x in let near = r.1 in (suc r.0, omega arith, r.2)
 
-module _ (z : TableView) (o : PassView) (rows : List TakenRow) (tx : Tx) (l : ListView) (R : IsReady o rows tx) (told : StateTold z.key.setting (view_of o) l) (low tail : ℕ) (later : o.seen ≤ tail) (room : HasRoomAt z low tail) where
+module _ (z : TableView) (o : PassView) (rows : List TakenRow) (tx : Tx) (l : ListView) (R : IsReady o rows tx)
+    (told : StateTold z.key.setting (view_of o) l) (low tail : ℕ) (later : o.seen ≤ tail) (room : HasRoomAt z low tail) where
   abbrev P : PassView
   P = with_room o l low tail
 
   abbrev pub the_list : Held
   the_list = with_tail tail (new_held 0 (slot.List l))
 
-  pub held_there : AreHeld (with_room o l low tail).own.held (Some (with_tail tail (new_held 0 (slot.List l)))) rows (tail ∷ o.seen ∷ []) undrawn
+  pub held_there : AreHeld (with_room o l low tail).own.held (Some (with_tail tail (new_held 0 (slot.List l)))) rows (tail ∷ o.seen ∷ [])
+      undrawn
   held_there = held_reached o.own.held rows (o.seen ∷ []) R.held (slot.List l) tail
 
   pub numbers_there : MayNumber (with_room o l low tail) rows
-  numbers_there = record { list = Some (with_tail tail (new_held 0 (slot.List l))); tails = tail ∷ o.seen ∷ []; held = held_there; owed = R.owed; few = R.few; runs = R.runs; each = R.draws.each }
+  numbers_there = record {
+    list = Some (with_tail tail (new_held 0 (slot.List l)));
+    tails = tail ∷ o.seen
+        ∷ [];
+    held = held_there;
+    owed = R.owed;
+    few = R.few;
+    runs = R.runs;
+    each = R.draws.each;
+  }
 
-  module _ (H : List Held) (numbers : List Number) (drawn_held : AreHeld H (Some (with_tail tail (new_held 0 (slot.List l)))) rows (tail ∷ o.seen ∷ []) (drew_on (with_room o l low tail) (numbered numbers)))
-      (above : (y k m : ℕ) (look : Option ℤ) → Contains o.own.drawn (record { var = y; nth = k; look = look }) → Contains numbers (record { var = y; nth = m }) → k < m) (all : numbered numbers ≡ vars_of rows) where
+  module _ (H : List Held) (numbers : List Number)
+      (drawn_held : AreHeld H (Some (with_tail tail (new_held 0 (slot.List l)))) rows (tail ∷ o.seen ∷ [])
+      (drew_on (with_room o l low tail) (numbered numbers)))
+      (above : (y k m : ℕ) (look : Option ℤ) → Contains o.own.drawn (record { var = y; nth = k; look = look })
+      → Contains numbers (record { var = y; nth = m }) → k < m) (all : numbered numbers ≡ vars_of rows) where
     abbrev Q : PassView
-    Q = record (with_room o l low tail) { own = record (with_room o l low tail).own { held = H; drawn = o.own.drawn ++ map end_of numbers } }
+    Q = record (with_room o l low tail) {
+      own = record (with_room o l low tail).own { held = H; drawn = o.own.drawn ++ map end_of numbers };
+    }
 
     abbrev end : Tx
     end = record { looks = tx.looks; writes = tx.writes; numbers = numbers }
@@ -87,8 +104,10 @@ module _ (z : TableView) (o : PassView) (rows : List TakenRow) (tx : Tx) (l : Li
     rises : Rises (variables_of tx)
     rises = subst Rises R.of R.held.are.1
 
-    held : AreHeld H (Some (with_tail tail (new_held 0 (slot.List l)))) rows (tail ∷ o.seen ∷ []) (drew_on (with_room o l low tail) (variables_of tx))
-    held = subst (λ ys. AreHeld H (Some (with_tail tail (new_held 0 (slot.List l)))) rows (tail ∷ o.seen ∷ []) (drew_on (with_room o l low tail) ys)) are drawn_held
+    held : AreHeld H (Some (with_tail tail (new_held 0 (slot.List l)))) rows (tail ∷ o.seen ∷ [])
+        (drew_on (with_room o l low tail) (variables_of tx))
+    held = subst (λ ys. AreHeld H (Some (with_tail tail (new_held 0 (slot.List l)))) rows (tail ∷ o.seen ∷ [])
+        (drew_on (with_room o l low tail) ys)) are drawn_held
 
     draws : Draws (attempt_in tx) (with_room o l low tail).own
     draws = record { looks = R.draws.looks; ends = R.draws.ends; each = R.draws.each }
@@ -104,26 +123,37 @@ module _ (z : TableView) (o : PassView) (rows : List TakenRow) (tx : Tx) (l : Li
     among (x ∷ xs) r (zero, n, e) = (0, omega arith, ap (λ (z : TakenRow). z.var) e)
     among (x ∷ xs) r (suc k, n, e) = let f = among xs r (k, omega arith, e) in (suc f.0, (let n = f.1 in omega arith), f.2)
 
-    stand_all : (setting : Setting) (k : List Stamp) → ((y : ℕ) (b : is_in y (variables_of tx) ≡ true) → InfosStand setting k (in_rows y b).0.row) → (r : TakenRow) → Contains rows r → InfosStand setting k r.row
+    stand_all : (setting : Setting) (k : List Stamp)
+        → ((y : ℕ) (b : is_in y (variables_of tx) ≡ true) → InfosStand setting k (in_rows y b).0.row) → (r : TakenRow) → Contains rows r
+        → InfosStand setting k r.row
     stand_all setting k stand r c =
         let b : is_in r.var (vars_of rows) ≡ true = contains-is_in r.var (vars_of rows) (among rows r c) in
         let d : is_in r.var (variables_of tx) ≡ true = subst (λ ys. is_in r.var ys ≡ true) R.of b in
         subst (λ (u : TakenRow). InfosStand setting k u.row) (row_is rows R.held.are.1 r c (in_by r.var d)) (stand r.var d)
 
     names : NumbersName (record { looks = tx.looks; writes = tx.writes; numbers = numbers }) (variables_of tx)
-    names = names_one (attempt_in tx) tx.writes (with_room o l low tail) H (Some (with_tail tail (new_held 0 (slot.List l)))) rows (tail ∷ o.seen ∷ []) numbers (variables_of tx) draws are rises held above in_rows R.runs
+    names = names_one (attempt_in tx) tx.writes (with_room o l low tail) H (Some (with_tail tail (new_held 0 (slot.List l)))) rows (tail
+        ∷ o.seen ∷ []) numbers (variables_of tx) draws are rises held above in_rows R.runs
 
-    commits : MayCommit z.key.setting (shelf_of o) (view_of (record (with_room o l low tail) { own = record (with_room o l low tail).own { held = H; drawn = o.own.drawn ++ map end_of numbers } })) (record { looks = tx.looks; writes = tx.writes; numbers = numbers }) (block_of o.own.mine) o.seen (asked_of o.own.id tx)
+    commits : MayCommit z.key.setting (shelf_of o)
+        (view_of (record (with_room o l low tail)
+        { own = record (with_room o l low tail).own { held = H; drawn = o.own.drawn ++ map end_of numbers } }))
+        (record { looks = tx.looks; writes = tx.writes; numbers = numbers }) (block_of o.own.mine) o.seen (asked_of o.own.id tx)
     commits = record {
       block = block_is o.own.mine R.runs;
       goes_on = no_end o.own.mine R.runs;
       below = R.below;
-      rows = row_one (attempt_in tx) tx.writes (with_room o l low tail) H (Some (with_tail tail (new_held 0 (slot.List l)))) rows (tail ∷ o.seen ∷ []) numbers (variables_of tx) draws are rises held above in_rows R.runs;
+      rows = row_one (attempt_in tx) tx.writes (with_room o l low tail) H (Some (with_tail tail (new_held 0 (slot.List l)))) rows (tail
+          ∷ o.seen ∷ []) numbers (variables_of tx) draws are rises held above in_rows R.runs;
       saw = λ y b. (1, omega arith, refl);
-      each = each_one (attempt_in tx) tx.writes (with_room o l low tail) H (Some (with_tail tail (new_held 0 (slot.List l)))) rows (tail ∷ o.seen ∷ []) numbers (variables_of tx) draws are rises held above in_rows R.runs;
-      looks = looks_one (attempt_in tx) tx.writes (with_room o l low tail) H (Some (with_tail tail (new_held 0 (slot.List l)))) rows (tail ∷ o.seen ∷ []) numbers (variables_of tx) draws are rises held above in_rows R.runs;
-      owns = owns_one (attempt_in tx) tx.writes (with_room o l low tail) H (Some (with_tail tail (new_held 0 (slot.List l)))) rows (tail ∷ o.seen ∷ []) numbers (variables_of tx) draws are rises held above in_rows R.runs;
-      once = once_one (attempt_in tx) tx.writes (with_room o l low tail) H (Some (with_tail tail (new_held 0 (slot.List l)))) rows (tail ∷ o.seen ∷ []) numbers (variables_of tx) draws are rises held above in_rows R.runs;
+      each = each_one (attempt_in tx) tx.writes (with_room o l low tail) H (Some (with_tail tail (new_held 0 (slot.List l)))) rows (tail
+          ∷ o.seen ∷ []) numbers (variables_of tx) draws are rises held above in_rows R.runs;
+      looks = looks_one (attempt_in tx) tx.writes (with_room o l low tail) H (Some (with_tail tail (new_held 0 (slot.List l)))) rows (tail
+          ∷ o.seen ∷ []) numbers (variables_of tx) draws are rises held above in_rows R.runs;
+      owns = owns_one (attempt_in tx) tx.writes (with_room o l low tail) H (Some (with_tail tail (new_held 0 (slot.List l)))) rows (tail
+          ∷ o.seen ∷ []) numbers (variables_of tx) draws are rises held above in_rows R.runs;
+      once = once_one (attempt_in tx) tx.writes (with_room o l low tail) H (Some (with_tail tail (new_held 0 (slot.List l)))) rows (tail
+          ∷ o.seen ∷ []) numbers (variables_of tx) draws are rises held above in_rows R.runs;
       names = names;
       words = λ y b value nth c.
           (let r = (in_rows y b).0 in
@@ -136,13 +166,18 @@ module _ (z : TableView) (o : PassView) (rows : List TakenRow) (tx : Tx) (l : Li
           (let r = (in_rows y b).0 in
           let at = (row_among rows y r (in_rows y b).1).1 in
           let place = place_at rows y r (in_rows y b).1 in
-          R.clear place.0 r place.1 z.key.setting k fits (stand_all z.key.setting k stand) (subst (λ n. SomeFails k r.row (asked_of o.own.id tx n)) (sym at) fails));
+          R.clear place.0 r place.1 z.key.setting k fits (stand_all z.key.setting k stand)
+          (subst (λ n. SomeFails k r.row (asked_of o.own.id tx n)) (sym at) fails));
     }
 
-    steps : (now : State) → IsStateOf l now → (new : State) × Step z.key.setting now (commit_stamp o.own.id (record { looks = tx.looks; writes = tx.writes; numbers = numbers })) (pos 0) new × IsStateOf l new
+    steps : (now : State) → IsStateOf l now → (new : State)
+        × Step z.key.setting now (commit_stamp o.own.id (record { looks = tx.looks; writes = tx.writes; numbers = numbers })) (pos 0) new
+        × IsStateOf l new
     steps now is = (now, record { may = state_runs z.key.setting o l told R.runs now is; effect = refl }, is)
 
-    pub may_publish : MayPublishTx z.key (record (with_room o l low tail) { own = record (with_room o l low tail).own { held = H; drawn = o.own.drawn ++ map end_of numbers } }) (record { looks = tx.looks; writes = tx.writes; numbers = numbers }) l
+    pub may_publish : MayPublishTx z.key (record (with_room o l low tail)
+        { own = record (with_room o l low tail).own { held = H; drawn = o.own.drawn ++ map end_of numbers } })
+        (record { looks = tx.looks; writes = tx.writes; numbers = numbers }) l
     may_publish = record {
       held = with_tail tail (new_held 0 (slot.List l));
       old = l;
@@ -174,7 +209,9 @@ module _ (z : TableView) (o : PassView) (rows : List TakenRow) (tx : Tx) (l : Li
     }
 
 -- after it was published at n the list goes back
-module _ (setting : Setting) (q r : PassView) (l : ListView) (t : Held) (object : t.object ≡ 0) (rows : List TakenRow) (tails : List ℕ) (drew : ℕ → Option Draw) (held : AreHeld q.own.held (Some t) rows tails drew) (tx : Tx) (n : ℕ) (are : vars_of rows ≡ variables_of tx) (is : r ≡ published_tx q tx n l) where
+module _ (setting : Setting) (q r : PassView) (l : ListView) (t : Held) (object : t.object ≡ 0) (rows : List TakenRow) (tails : List ℕ)
+    (drew : ℕ → Option Draw) (held : AreHeld q.own.held (Some t) rows tails drew) (tx : Tx) (n : ℕ) (are : vars_of rows ≡ variables_of tx)
+    (is : r ≡ published_tx q tx n l) where
   abbrev d : Draw
   d = draw q.own.id n (Entered (Commit n tx))
 
@@ -193,7 +230,8 @@ module _ (setting : Setting) (q r : PassView) (l : ListView) (t : Held) (object 
         held = h;
         has = in_mapped (after_publish n (slot.List l) drew) q.own.held t (found_held 0 q.own.held t (held.at 0)).0;
         object = zero_object;
-        may = leave_list (shelf_of (published_tx q tx n l)) (view_of (published_tx q tx n l)) h h.object h.taken (slot.List l) zero_object (sym (taken_after n (slot.List l) drew t object));
+        may = leave_list (shelf_of (published_tx q tx n l)) (view_of (published_tx q tx n l)) h h.object h.taken (slot.List l) zero_object
+            (sym (taken_after n (slot.List l) drew t object));
         quiet = λ e. absurd (cc);
       })
 
@@ -201,18 +239,23 @@ module _ (setting : Setting) (q r : PassView) (l : ListView) (t : Held) (object 
     whole : s ≡ after (published_tx q tx n l) (left (view_of (published_tx q tx n l)) 0 false)
     whole = put ∙ ap (λ (r : PassView). after r (left (view_of r) 0 false)) is
 
-    pub committed : (rows_written : Rattle.gl_txn.specs.Holding.HaveWrites tx.writes rows) (base : Question) → base.thread ≡ s.own.id → base.thread < THREADS → base.commit ≡ Some (variables_of tx)
-        → ((setting : Setting) (k : List Stamp) (now : State) → AreEvents k s.own.id s.own.mine → Allows setting k now → AreLeastOwned now s.own.id base.held) → AreCommitted s rows base (n + 1)
+    pub committed : (rows_written : Rattle.gl_txn.specs.Holding.HaveWrites tx.writes rows) (base : Question) → base.thread ≡ s.own.id
+        → base.thread < THREADS → base.commit ≡ Some (variables_of tx)
+        → ((setting : Setting) (k : List Stamp) (now : State) → AreEvents k s.own.id s.own.mine → Allows setting k now
+        → AreLeastOwned now s.own.id base.held) → AreCommitted s rows base (n + 1)
     committed rows_written base thread near commit owned = record {
       tx = tx;
       position = n;
       behind = refl;
       seen = ap (λ (z : PassView). z.seen) whole ∙ sym (add-one n);
       index = length q.own.mine;
-      there = subst (λ (es : List Entry). At es (length q.own.mine) (Commit n tx)) (sym (ap (λ (z : PassView). z.own.mine) whole)) (at_new q.own.mine (Commit n tx));
+      there = subst (λ (es : List Entry). At es (length q.own.mine) (Commit n tx)) (sym (ap (λ (z : PassView). z.own.mine) whole))
+          (at_new q.own.mine (Commit n tx));
       tails = suc n ∷ tails;
       fresh = (0, omega arith, sym (add-one n));
-      held = subst (λ (u : PassView). AreHeld u.own.held None rows (suc n ∷ tails) (drew_commit_at u tx n)) (sym whole) (held_published q.own.held t object rows tails drew held n (slot.List l) (variables_of tx) are (draw q.own.id n (Entered (Commit n tx))));
+      held = subst (λ (u : PassView). AreHeld u.own.held None rows (suc n ∷ tails) (drew_commit_at u tx n)) (sym whole)
+          (held_published q.own.held t object rows tails drew held n (slot.List l) (variables_of tx) are
+          (draw q.own.id n (Entered (Commit n tx))));
       writes = rows_written;
       thread = thread;
       near = near;
@@ -220,9 +263,18 @@ module _ (setting : Setting) (q r : PassView) (l : ListView) (t : Held) (object 
       owned = owned;
     }
 
-    pub published_is : (p u : PassView) (numbers : List Number) → q ≡ record p { own = record p.own { held = q.own.held; drawn = p.own.drawn ++ map end_of numbers } } → u ≡ record s { own = record s.own { held = [] } }
+    pub published_is : (p u : PassView) (numbers : List Number) → q
+        ≡ record p { own = record p.own { held = q.own.held; drawn = p.own.drawn ++ map end_of numbers } } → u
+        ≡ record s { own = record s.own { held = [] } }
         → u ≡ record (with_entry p (Commit n tx)) { seen = suc n; known = p.known ++ (n, commit_stamp p.own.id tx) ∷ []; stored = [] }
     published_is p u numbers drawn back =
         back ∙ ap (λ (s : PassView). record s { own = record s.own { held = [] } }) whole
-        ∙ ap (λ (q : PassView). record (after (published_tx q tx n l) (left (view_of (published_tx q tx n l)) 0 false)) { own = record (after (published_tx q tx n l) (left (view_of (published_tx q tx n l)) 0 false)).own { held = [] } }) drawn
-        ∙ ap (λ b. record (with_entry p (Commit n tx)) { seen = suc n; known = p.known ++ (n, commit_stamp p.own.id tx) ∷ []; stored = []; quiet = b }) (or_no p.quiet)
+        ∙ ap (λ (q : PassView). record (after (published_tx q tx n l) (left (view_of (published_tx q tx n l)) 0 false))
+        { own = record (after (published_tx q tx n l) (left (view_of (published_tx q tx n l)) 0 false)).own { held = [] } }) drawn
+        ∙ ap (λ b. record (with_entry p (Commit n tx)) {
+          seen = suc n;
+          known = p.known ++ (n, commit_stamp p.own.id tx)
+              ∷ [];
+          stored = [];
+          quiet = b;
+        }) (or_no p.quiet)

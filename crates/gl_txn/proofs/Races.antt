@@ -33,7 +33,8 @@ pub is_written : (x : ℕ) (ws : List Pair) → is_some (find (λ p. p.var == x)
 is_written x [] = refl
 is_written x (w ∷ ws) = elim (ℕ_discrete x w.var) [
   | yes e ↦ (let a : (w.var == x) ≡ true = eq-eqb w.var x (sym e) in let b : (x == w.var) ≡ true = eq-eqb x w.var e in rw (a, b) refl)
-  | no ne ↦ (let a : (w.var == x) ≡ false = ne_eqb w.var x (λ e. ne (sym e)) in let b : (x == w.var) ≡ false = ne_eqb x w.var ne in rw (a, b) (is_written x ws))
+  | no ne ↦ (let a : (w.var == x) ≡ false = ne_eqb w.var x (λ e. ne (sym e)) in let b : (x == w.var) ≡ false = ne_eqb x w.var ne
+      in rw (a, b) (is_written x ws))
 ]
 
 -- the pass after walks
@@ -45,36 +46,48 @@ knows_more row p q r k w =
     let new = Rattle.gl_rows.specs.Walks.placed_from w.from w.events in
     record {
       more = k.more ++ new;
-      is = w.is ∙ ap (λ (z : PassView). record z { known = z.known ++ new; loaded = r.loaded }) k.is ∙ ap (λ (l : List (ℕ × Stamp)). record p { known = l; loaded = r.loaded }) (append_assoc p.known k.more new);
+      is = w.is ∙ ap (λ (z : PassView). record z { known = z.known ++ new; loaded = r.loaded }) k.is
+          ∙ ap (λ (l : List (ℕ × Stamp)). record p { known = l; loaded = r.loaded }) (append_assoc p.known k.more new);
     }
 
 -- what is said over each list that fits a pass is said over each that fits it when it knows more
-pub over_more : (row : _) (q r : PassView) (rows : List TakenRow) (P : List Stamp → Type 0) → HasWalked row q r → Over q rows P → Over r rows P
+pub over_more : (row : _) (q r : PassView) (rows : List TakenRow) (P : List Stamp → Type 0) → HasWalked row q r → Over q rows P
+    → Over r rows P
 over_more row q r rows P w over setting l fits stand =
     let new = Rattle.gl_rows.specs.Walks.placed_from w.from w.events in
-    over setting l (fits_before setting (shelf_of q) q.seen q.known new l (subst (λ (z : PassView). IsFitting setting (shelf_of z) z.seen z.known l) w.is fits)) stand
+    over setting l (fits_before setting (shelf_of q) q.seen q.known new l
+    (subst (λ (z : PassView). IsFitting setting (shelf_of z) z.seen z.known l) w.is fits)) stand
 
 -- what a check answers
 abbrev pub Says : PassView → Row → Question → Verdict → Type 0
-Says s row q verdict = (setting : Setting) (l : List Stamp) → IsFitting setting (shelf_of s) s.seen s.known l → IsOfNext setting l q → judging.InfosStand setting l row → (verdict ≡ Race) ↔ SomeFails l row q
+Says s row q verdict = (setting : Setting) (l : List Stamp) → IsFitting setting (shelf_of s) s.seen s.known l → IsOfNext setting l q
+    → judging.InfosStand setting l row → (verdict ≡ Race) ↔ SomeFails l row q
 
 pub says_same : (s : PassView) (a b : Row) (q u : Question) (verdict : Verdict) → a ≡ b → q ≡ u → Says s a q verdict → Says s b u verdict
 says_same s a b q u verdict e f says = subst (λ (u : Question). Says s b u verdict) f (subst (λ (b : Row). Says s b q verdict) e says)
 
-module _ (p q : PassView) (rows : List TakenRow) (base : Question) (writes : List Pair) (m : MayJudge p rows base) (k : KnowsOn p q) (i : ℕ) (r : TakenRow) (there : slice_get rows i ≡ Some r) where
+module _ (p q : PassView) (rows : List TakenRow) (base : Question) (writes : List Pair) (m : MayJudge p rows base) (k : KnowsOn p q)
+    (i : ℕ) (r : TakenRow) (there : slice_get rows i ≡ Some r) where
   in_place : (xs : List TakenRow) (j : ℕ) → slice_get xs j ≡ Some r → Contains xs r
   in_place [] j e = absurd (cc)
   in_place (x ∷ xs) zero e = (0, omega arith, (let same : x ≡ r = cc in same))
   in_place (x ∷ xs) (suc j) e = let c = in_place xs j e in (suc c.0, (let l = c.1 in omega arith), c.2)
 
   pub holds_it : HoldsRow q r.row
-  holds_it = subst (λ (z : PassView). HoldsRow z r.row) (sym k.is) (row_held m.tails m.drew r, (found_held (suc r.var) p.own.held (row_held m.tails m.drew r) (m.held.at (suc r.var) ∙ ap (held_by m.tails m.drew) (row_found rows i r m.held.are.1 there))).0, (r.var, refl), refl)
+  holds_it = subst (λ (z : PassView). HoldsRow z r.row) (sym k.is) (
+    row_held m.tails m.drew r,
+    (found_held (suc r.var) p.own.held (row_held m.tails m.drew r) (m.held.at (suc r.var)
+        ∙ ap (held_by m.tails m.drew) (row_found rows i r m.held.are.1 there))).0,
+    (r.var, refl),
+    refl,
+  )
 
   pub within_it : Rattle.gl_draws.specs.RowFacts.IsWithin r.row q.seen
   within_it = subst (λ (z : PassView). Rattle.gl_draws.specs.RowFacts.IsWithin r.row z.seen) (sym k.is) (m.within r (in_place rows i there))
 
   -- the question is of a next access behind each fitting list
-  next : (z : PassView) → KnowsOn p z → (setting : Setting) (l : List Stamp) → IsFitting setting (shelf_of z) z.seen z.known l → IsOfNext setting l (asked_on base writes r.var)
+  next : (z : PassView) → KnowsOn p z → (setting : Setting) (l : List Stamp) → IsFitting setting (shelf_of z) z.seen z.known l
+      → IsOfNext setting l (asked_on base writes r.var)
   next z e setting l fits =
       let f = subst (λ (z : PassView). IsFitting setting (shelf_of z) z.seen z.known l) e.is fits in
       let b = has_block p.own.mine m.runs in
@@ -84,15 +97,20 @@ module _ (p q : PassView) (rows : List TakenRow) (base : Question) (writes : Lis
         commit = refl;
         now = f.now;
         allowed = f.allowed;
-        runs = subst (λ t. f.now.threads t ≡ Rattle.gl_model.specs.Machine.Running) (sym m.thread) (running_law setting l f.now p.own.id b.0 p.own.mine f.allowed f.own b.1 (no_end p.own.mine m.runs));
-        held = subst (λ t. Rattle.gl_model.specs.Infos.AreLeastOwned f.now t base.held) (sym m.thread) (m.owned setting l f.now f.own f.allowed);
+        runs = subst (λ t. f.now.threads t ≡ Rattle.gl_model.specs.Machine.Running) (sym m.thread)
+            (running_law setting l f.now p.own.id b.0 p.own.mine f.allowed f.own b.1 (no_end p.own.mine m.runs));
+        held = subst (λ t. Rattle.gl_model.specs.Infos.AreLeastOwned f.now t base.held) (sym m.thread)
+            (m.owned setting l f.now f.own f.allowed);
       }
 
   -- what a check answered
   module _ (s : PassView) (w : HasWalked r.row q s) (verdict : Verdict)
       (says : Says s r.row (asked_on base writes r.var) verdict) where
-    pub says_on : (setting : Setting) (l : List Stamp) → IsFitting setting (shelf_of s) s.seen s.known l → ((u : TakenRow) → Contains rows u → InfosStand setting l u.row) → (verdict ≡ Race) ↔ SomeFails l r.row (asked_on base writes r.var)
-    says_on setting l fits stand = says setting l fits (next s (knows_more r.row p q s k w) setting l fits) (stand_judged setting l r.row (stand r (in_place rows i there)))
+    pub says_on : (setting : Setting) (l : List Stamp) → IsFitting setting (shelf_of s) s.seen s.known l
+        → ((u : TakenRow) → Contains rows u → InfosStand setting l u.row)
+        → (verdict ≡ Race) ↔ SomeFails l r.row (asked_on base writes r.var)
+    says_on setting l fits stand = says setting l fits (next s (knows_more r.row p q s k w) setting l fits)
+        (stand_judged setting l r.row (stand r (in_place rows i there)))
 
     some_is : (u v : TakenRow) → Some u ≡ Some v → u ≡ v
     some_is u v e = cc
@@ -104,11 +122,20 @@ module _ (p q : PassView) (rows : List TakenRow) (base : Question) (writes : Lis
     clear_next clear before j u near at = elim (cases_lt j i) [
       | inl low ↦ before_on before j u low at
       | inr ge ↦ (let same : j ≡ i = omega arith in let is = some_is r u (sym there ∙ ap (slice_get rows) (sym same) ∙ at) in
-          subst (λ (v : TakenRow). IsClearOn s base writes rows v) is (λ setting l fits stand fails. clear ((says_on setting l fits stand).1 fails)))
+          subst (λ (v : TakenRow). IsClearOn s base writes rows v) is
+          (λ setting l fits stand fails. clear ((says_on setting l fits stand).1 fails)))
     ]
 
     pub race_here : verdict ≡ Race → AreClearBefore i q base writes rows → IsFirstRace s base writes rows r.var
-    race_here race before = record { place = i; row = r; there = there; var = refl; races = λ setting l fits stand. (says_on setting l fits stand).0 race; before = before_on before }
+    race_here race before = record {
+      place = i;
+      row = r;
+      there = there;
+      var = refl;
+      races = λ setting l fits stand. (says_on setting l fits stand).0 race;
+      before = before_on before;
+    }
 
-pub clear_all : (q : PassView) (base : Question) (writes : List Pair) (rows : List TakenRow) (i : ℕ) → length rows ≤ i → AreClearBefore i q base writes rows → AreClear q base writes rows
+pub clear_all : (q : PassView) (base : Question) (writes : List Pair) (rows : List TakenRow) (i : ℕ) → length rows ≤ i
+    → AreClearBefore i q base writes rows → AreClear q base writes rows
 clear_all q base writes rows i past before k r at = before k r (let near = slice_get_within rows k r at in omega arith) at

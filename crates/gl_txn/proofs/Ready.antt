@@ -46,7 +46,8 @@ use Rattle.gl_txn.proofs.Finding.{found_held, found_mapped, changed, once_mapped
 use Rattle.gl_txn.proofs.Refusals.{row_of, row_is, lower_before}
 
 -- a tail was seen while the rows are held
-held_tail : (held : List Held) (rows : List TakenRow) (tails : List ℕ) → AreHeld held None rows tails undrawn → (n : ℕ) → AreHeld (map (with_tail n) held) None rows (n ∷ tails) undrawn
+held_tail : (held : List Held) (rows : List TakenRow) (tails : List ℕ) → AreHeld held None rows tails undrawn → (n : ℕ)
+    → AreHeld (map (with_tail n) held) None rows (n ∷ tails) undrawn
 held_tail held rows tails a n = record { at = at; once = once_mapped (with_tail n) (λ h. refl) held a.once; are = a.are }
   where
     by_row : (o : Option TakenRow) → changed (with_tail n) (held_by tails undrawn o) ≡ held_by (n ∷ tails) undrawn o
@@ -58,11 +59,16 @@ held_tail held rows tails a n = record { at = at; once = once_mapped (with_tail 
     at (suc y) = found_mapped (with_tail n) (λ h. refl) (suc y) held ∙ ap (changed (with_tail n)) (a.at (suc y)) ∙ by_row (row_at rows y)
 
 -- the test of a row speaks of the thread, the kind and the variables of a question
-same_test : (l : List Stamp) (row : Row) (q u : Question) → q.thread ≡ u.thread → q.write ≡ u.write → q.commit ≡ u.commit → SomeFails l row q → SomeFails l row u
+same_test : (l : List Stamp) (row : Row) (q u : Question) → q.thread ≡ u.thread → q.write ≡ u.write → q.commit ≡ u.commit
+    → SomeFails l row q → SomeFails l row u
 same_test l row q u a b c f =
-    subst (λ (v : Question). SomeFails l row v) (ap (λ t. record q { thread = t }) a ∙ ap (λ w. record q { thread = u.thread; write = w }) b ∙ ap (λ o. record q { thread = u.thread; write = u.write; commit = o }) c ∙ refl) f
+    subst (λ (v : Question). SomeFails l row v) (ap (λ t. record q { thread = t }) a
+    ∙ ap (λ w. record q { thread = u.thread; write = w }) b ∙ ap (λ o. record q { thread = u.thread; write = u.write; commit = o }) c
+    ∙ refl) f
 
-module _ (p q r : PassView) (rows : List TakenRow) (tx : Tx) (h : HoldsRows p rows tx) (n : ℕ) (saw : q ≡ after p (saw_tail (view_of p) n)) (below : AreBelow n (shelf_of p)) (k : KnowsOn q r) (base : Question) (thread : base.thread ≡ p.own.id) (commit : base.commit ≡ Some (variables_of tx)) where
+module _ (p q r : PassView) (rows : List TakenRow) (tx : Tx) (h : HoldsRows p rows tx) (n : ℕ) (saw : q ≡ after p (saw_tail (view_of p) n))
+    (below : AreBelow n (shelf_of p)) (k : KnowsOn q r) (base : Question) (thread : base.thread ≡ p.own.id) (commit : base.commit
+    ≡ Some (variables_of tx)) where
   abbrev T : PassView
   T = after p (saw_tail (view_of p) n)
 
@@ -70,7 +76,16 @@ module _ (p q r : PassView) (rows : List TakenRow) (tx : Tx) (h : HoldsRows p ro
   is = k.is ∙ ap (λ (u : PassView). record u { known = u.known ++ k.more; loaded = r.loaded }) saw
 
   pub may_number_seen : MayNumber r rows
-  may_number_seen = subst (λ (u : PassView). MayNumber u rows) (sym is) (record { list = None; tails = n ∷ []; held = held_tail p.own.held rows [] h.held n; owed = h.owed; few = h.few; runs = h.runs; each = h.draws.each })
+  may_number_seen = subst (λ (u : PassView). MayNumber u rows) (sym is)
+      (record {
+        list = None;
+        tails = n ∷ [];
+        held = held_tail p.own.held rows [] h.held n;
+        owed = h.owed;
+        few = h.few;
+        runs = h.runs;
+        each = h.draws.each;
+      })
 
   draws_seen : Draws (attempt_in tx) (after p (saw_tail (view_of p) n)).own
   draws_seen = record { looks = h.draws.looks; ends = h.draws.ends; each = h.draws.each }
@@ -78,10 +93,12 @@ module _ (p q r : PassView) (rows : List TakenRow) (tx : Tx) (h : HoldsRows p ro
   pub draws_now : Draws (attempt_in tx) r.own
   draws_now = subst (λ (u : PassView). Draws (attempt_in tx) u.own) (sym is) draws_seen
 
-  test_same : (id : ℕ) → id ≡ p.own.id → (l : List Stamp) (row : Row) (y : ℕ) → SomeFails l row (asked_on base tx.writes y) → SomeFails l row (asked_of id tx y)
+  test_same : (id : ℕ) → id ≡ p.own.id → (l : List Stamp) (row : Row) (y : ℕ) → SomeFails l row (asked_on base tx.writes y)
+      → SomeFails l row (asked_of id tx y)
   test_same id e l row y f = same_test l row (asked_on base tx.writes y) (asked_of id tx y) (thread ∙ sym e) refl commit f
 
-  test_back : (id : ℕ) → id ≡ p.own.id → (l : List Stamp) (row : Row) (y : ℕ) → SomeFails l row (asked_of id tx y) → SomeFails l row (asked_on base tx.writes y)
+  test_back : (id : ℕ) → id ≡ p.own.id → (l : List Stamp) (row : Row) (y : ℕ) → SomeFails l row (asked_of id tx y)
+      → SomeFails l row (asked_on base tx.writes y)
   test_back id e l row y f = same_test l row (asked_of id tx y) (asked_on base tx.writes y) (e ∙ sym thread) refl (sym commit) f
 
   id_is : r.own.id ≡ p.own.id
@@ -93,7 +110,8 @@ module _ (p q r : PassView) (rows : List TakenRow) (tx : Tx) (h : HoldsRows p ro
   seen_below : AreBelow r.seen (shelf_of r)
   seen_below = subst (λ (u : PassView). AreBelow u.seen (shelf_of u)) (sym is) below
 
-  pub races_on : AreUnchangedIn tx.looks rows → AreVariables (map (λ l. l.var) tx.looks) → (x : ℕ) → IsFirstRace r base tx.writes rows x → RacesOn r rows tx x
+  pub races_on : AreUnchangedIn tx.looks rows → AreVariables (map (λ l. l.var) tx.looks) → (x : ℕ) → IsFirstRace r base tx.writes rows x
+      → RacesOn r rows tx x
   races_on unchanged looks x f = record {
     of = h.of;
     unchanged = unchanged;
@@ -104,11 +122,14 @@ module _ (p q r : PassView) (rows : List TakenRow) (tx : Tx) (h : HoldsRows p ro
     row = f.row;
     there = f.there;
     var = f.var;
-    races = λ setting l fits stand. subst (λ y. SomeFails l f.row.row (asked_of r.own.id tx y)) (sym f.var) (test_same r.own.id id_is l f.row.row f.row.var (f.races setting l fits stand));
-    least = λ j u near at setting l fits stand fails. f.before j u near at setting l fits stand (test_back r.own.id id_is l u.row u.var fails);
+    races = λ setting l fits stand. subst (λ y. SomeFails l f.row.row (asked_of r.own.id tx y)) (sym f.var)
+        (test_same r.own.id id_is l f.row.row f.row.var (f.races setting l fits stand));
+    least = λ j u near at setting l fits stand fails. f.before j u near at setting l fits stand
+        (test_back r.own.id id_is l u.row u.var fails);
   }
 
-  pub is_ready : AreClear r base tx.writes rows → AreUnchangedIn tx.looks rows → AreVariables (map (λ l. l.var) tx.looks) → IsReady r rows tx
+  pub is_ready : AreClear r base tx.writes rows → AreUnchangedIn tx.looks rows → AreVariables (map (λ l. l.var) tx.looks)
+      → IsReady r rows tx
   is_ready clear unchanged looks = record {
     of = h.of;
     held = seen_held;
@@ -134,7 +155,12 @@ module _ (p q r : PassView) (rows : List TakenRow) (tx : Tx) (h : HoldsRows p ro
   }
 
   pub back_seen : (s : PassView) → IsPutBack r s → IsPutBack p s
-  back_seen s f = record { own = f.own ∙ ap (λ (u : PassView). record u.own { held = [] }) is; quiet = f.quiet ∙ ap (λ (u : PassView). u.quiet) is; spare = f.spare ∙ ap (λ (u : PassView). u.spare) is }
+  back_seen s f = record {
+    own = f.own ∙ ap (λ (u : PassView). record u.own { held = [] }) is;
+    quiet = f.quiet
+        ∙ ap (λ (u : PassView). u.quiet) is;
+    spare = f.spare ∙ ap (λ (u : PassView). u.spare) is;
+  }
 
   pub seen_table : r.own.table ≡ p.own.table
   seen_table = ap (λ (u : PassView). u.own.table) is
@@ -143,8 +169,11 @@ module _ (p q r : PassView) (rows : List TakenRow) (tx : Tx) (h : HoldsRows p ro
   seen_spare = ap (λ (u : PassView). u.spare) is
 
 -- the Infos of the rows lie within a tail that was seen since they were taken
-rows_within : (p : PassView) (rows : List TakenRow) (tx : Tx) → HoldsRows p rows tx → (n : ℕ) → ((h : Held) (row : Row) → Contains p.own.held h → h.taken ≡ slot.Row row → IsWithin row n) → (r : TakenRow) → Contains rows r → IsWithin r.row n
-rows_within p rows tx h n within r c = within (row_held [] undrawn r) r.row (found_held (suc r.var) p.own.held (row_held [] undrawn r) (h.held.at (suc r.var) ∙ ap (held_by [] undrawn) (there r c))).0 refl
+rows_within : (p : PassView) (rows : List TakenRow) (tx : Tx) → HoldsRows p rows tx → (n : ℕ)
+    → ((h : Held) (row : Row) → Contains p.own.held h → h.taken ≡ slot.Row row → IsWithin row n) → (r : TakenRow) → Contains rows r
+    → IsWithin r.row n
+rows_within p rows tx h n within r c = within (row_held [] undrawn r) r.row
+    (found_held (suc r.var) p.own.held (row_held [] undrawn r) (h.held.at (suc r.var) ∙ ap (held_by [] undrawn) (there r c))).0 refl
   where
     among : (xs : List TakenRow) (r : TakenRow) → Contains xs r → Contains (vars_of xs) r.var
     among [] r c = absurd (let n = c.1 in omega arith)
@@ -157,8 +186,12 @@ rows_within p rows tx h n within r c = within (row_held [] undrawn r) r.row (fou
         (row_of rows r.var b).1 ∙ ap (λ (u : TakenRow). Some u) (row_is rows h.held.are.1 r c b)
 
 -- the rows may be judged once the tail was seen
-pub may_judge : (p q : PassView) (rows : List TakenRow) (tx : Tx) → HoldsRows p rows tx → (n : ℕ) → q ≡ after p (saw_tail (view_of p) n) → ((h : Held) (row : Row) → Contains p.own.held h → h.taken ≡ slot.Row row → IsWithin row n) → (base : Question) → base.thread ≡ q.own.id → base.thread < THREADS
-    → ((setting : Setting) (l : List Stamp) (now : State) → AreEvents l q.own.id q.own.mine → Allows setting l now → AreLeastOwned now q.own.id base.held) → MayJudge q rows base
+pub may_judge : (p q : PassView) (rows : List TakenRow) (tx : Tx) → HoldsRows p rows tx → (n : ℕ) → q ≡ after p (saw_tail (view_of p) n)
+    → ((h : Held) (row : Row) → Contains p.own.held h → h.taken ≡ slot.Row row → IsWithin row n) → (base : Question) → base.thread
+    ≡ q.own.id
+    → base.thread < THREADS
+    → ((setting : Setting) (l : List Stamp) (now : State) → AreEvents l q.own.id q.own.mine → Allows setting l now
+    → AreLeastOwned now q.own.id base.held) → MayJudge q rows base
 may_judge p q rows tx h n saw within base thread near owned = record {
   list = None;
   tails = n ∷ [];
@@ -171,30 +204,35 @@ may_judge p q rows tx h n saw within base thread near owned = record {
   owned = owned;
 }
 
-pub drops_as : (tx : Tx) (e : TxEnd) (why : _) (p q : PassView) → ((t : Tx) → entry_of e t ≡ Rattle.gl_model.specs.Entries.Abort t why) → HasDropped tx why p q → EndsAs tx e p q
+pub drops_as : (tx : Tx) (e : TxEnd) (why : _) (p q : PassView) → ((t : Tx) → entry_of e t ≡ Rattle.gl_model.specs.Entries.Abort t why)
+    → HasDropped tx why p q → EndsAs tx e p q
 drops_as tx e why p q entry d = record {
   ended = d.ended;
   looks = d.looks;
   writes = d.writes;
-  own = ap (λ (u : PassView). u.own) d.is ∙ ap (λ f. record p.own { mine = p.own.mine ++ f ∷ []; drawn = []; held = [] }) (sym (entry d.ended));
+  own = ap (λ (u : PassView). u.own) d.is ∙ ap (λ f. record p.own { mine = p.own.mine ++ f ∷ []; drawn = []; held = [] })
+      (sym (entry d.ended));
   quiet = ap (λ (u : PassView). u.quiet) d.is;
   spare = ap (λ (u : PassView). u.spare) d.is;
 }
 
 -- the rows that were taken are held
-pub holds_rows : (z : TableView) (p q : PassView) (ys : List ℕ) (rows : List TakenRow) (tx : Tx) → MayTry z p (attempt_in tx) → ys ≡ variables_of tx → HaveTaken p q ys rows → HaveWrites tx.writes rows → HoldsRows q rows tx
+pub holds_rows : (z : TableView) (p q : PassView) (ys : List ℕ) (rows : List TakenRow) (tx : Tx) → MayTry z p (attempt_in tx) → ys
+    ≡ variables_of tx → HaveTaken p q ys rows → HaveWrites tx.writes rows → HoldsRows q rows tx
 holds_rows z p q ys rows tx may vars t writes = record {
   of = t.of ∙ vars;
   held = t.held;
   owed = ap (λ (u : PassView). u.own.owed) t.is ∙ may.owed;
   few = subst (λ (u : PassView). Rattle.gl_draws.specs.Ties.counted u.own.mine < Rattle.std.specs.Prelude.◌^◌ 2 50) (sym t.is) may.few;
   runs = ap (λ (u : PassView). Rattle.gl_rule.specs.Lives.life_of u.own.mine) t.is ∙ may.runs;
-  draws = subst (λ (u : PassView). Draws (attempt_in tx) u.own) (sym t.is) (record { looks = may.draws.looks; ends = may.draws.ends; each = may.draws.each });
+  draws = subst (λ (u : PassView). Draws (attempt_in tx) u.own) (sym t.is)
+      (record { looks = may.draws.looks; ends = may.draws.ends; each = may.draws.each });
   writes = writes;
 }
 
 -- what is asked of a pass that goes on with an attempt does not speak of its writes
-pub may_try_writes : (z : TableView) (p : PassView) (a b : Rattle.gl_txn.specs.Attempts.Attempting) → b.looks ≡ a.looks → MayTry z p a → MayTry z p b
+pub may_try_writes : (z : TableView) (p : PassView) (a b : Rattle.gl_txn.specs.Attempts.Attempting) → b.looks ≡ a.looks → MayTry z p a
+    → MayTry z p b
 may_try_writes z p a b e m = record {
   table = m.table;
   held = m.held;
@@ -202,7 +240,9 @@ may_try_writes z p a b e m = record {
   few = m.few;
   runs = m.runs;
   draws = record {
-    looks = λ y k value. subst (λ (ls : List Rattle.gl_model.specs.declared.tx.Look.Look). Rattle.std.specs.Prelude.◌↔◌ (Contains p.own.drawn (record { var = y; nth = k; look = Some value })) (Contains ls (record { var = y; value = value; nth = k }))) (sym e) (m.draws.looks y k value);
+    looks = λ y k value. subst (λ (ls : List Rattle.gl_model.specs.declared.tx.Look.Look). Rattle.std.specs.Prelude.◌↔◌
+        (Contains p.own.drawn (record { var = y; nth = k; look = Some value })) (Contains ls (record { var = y; value = value; nth = k })))
+        (sym e) (m.draws.looks y k value);
     ends = m.draws.ends;
     each = m.draws.each;
   };
@@ -221,13 +261,17 @@ at_in (x ∷ xs) r (zero, l, e) = (0, ap (λ (z : TakenRow). Some z) e)
 at_in (x ∷ xs) r (suc k, l, e) = let f = at_in xs r (k, omega arith, e) in (suc f.0, f.1)
 
 -- words that are unchanged in the rows, by places and by looks
-look_same : (a : Tx) (l : Look) (r : TakenRow) → Rises (map (λ l. l.var) a.looks) → Contains a.looks l → r.var ≡ l.var → look_in a.looks r.var ≡ Some l
+look_same : (a : Tx) (l : Look) (r : TakenRow) → Rises (map (λ l. l.var) a.looks) → Contains a.looks l → r.var ≡ l.var
+    → look_in a.looks r.var ≡ Some l
 look_same a l r rises c e = ap (look_in a.looks) e ∙ look_found a.looks rises l c
 
-pub unchanged_all : (a : Tx) (rows : List TakenRow) → AreVariables (map (λ l. l.var) a.looks) → AreUnchangedIn a.looks rows → AreUnchanged (attempt_in a) rows
+pub unchanged_all : (a : Tx) (rows : List TakenRow) → AreVariables (map (λ l. l.var) a.looks) → AreUnchangedIn a.looks rows
+    → AreUnchanged (attempt_in a) rows
 unchanged_all a rows looks u l r c d e = let k = at_in rows r d in u k.0 r k.1 l (look_same a l r looks.1 c e)
 
-module _ (p q r : PassView) (rows : List TakenRow) (tx : Tx) (h : HoldsRows p rows tx) (n : ℕ) (saw : q ≡ after p (saw_tail (view_of p) n)) (below : AreBelow n (shelf_of p)) (k : KnowsOn q r) (base : Question) (thread : base.thread ≡ p.own.id) (commit : base.commit ≡ Some (variables_of tx))
+module _ (p q r : PassView) (rows : List TakenRow) (tx : Tx) (h : HoldsRows p rows tx) (n : ℕ) (saw : q ≡ after p (saw_tail (view_of p) n))
+    (below : AreBelow n (shelf_of p)) (k : KnowsOn q r) (base : Question) (thread : base.thread ≡ p.own.id) (commit : base.commit
+    ≡ Some (variables_of tx))
     (later : p.seen ≤ n) (looks : AreVariables (map (λ l. l.var) tx.looks)) (unchanged : AreUnchangedIn tx.looks rows)
     (reaches : (h : Held) (row : Row) → Contains p.own.held h → h.taken ≡ slot.Row row → IsWithin row n) where
   abbrev J : PassView
@@ -243,11 +287,14 @@ module _ (p q r : PassView) (rows : List TakenRow) (tx : Tx) (h : HoldsRows p ro
   reads_j = ap (λ (u : PassView). u.reads) at_j
 
   -- what is said over each list that fits the judging pass is said over each that fits with more that is known
-  over_j : (P : List Stamp → Type 0) → Over r rows P → (setting : Setting) (known more : List (ℕ × Stamp)) → known ≡ r.known ++ more → OverEach setting (shelf_of p) r.seen known rows P
+  over_j : (P : List Stamp → Type 0) → Over r rows P → (setting : Setting) (known more : List (ℕ × Stamp)) → known ≡ r.known ++ more
+      → OverEach setting (shelf_of p) r.seen known rows P
   over_j P over setting known more e l fits stand =
-      over setting l (subst (λ (u : PassView). IsFitting setting (shelf_of u) r.seen r.known l) (sym at_j) (fits_before setting (shelf_of p) r.seen r.known more l (subst (λ ks. IsFitting setting (shelf_of p) r.seen ks l) e fits))) stand
+      over setting l (subst (λ (u : PassView). IsFitting setting (shelf_of u) r.seen r.known l) (sym at_j)
+      (fits_before setting (shelf_of p) r.seen r.known more l (subst (λ ks. IsFitting setting (shelf_of p) r.seen ks l) e fits))) stand
 
-  pub is_clear_by : AreClear r base tx.writes rows → (setting : Setting) (s : PassView) (more : List (ℕ × Stamp)) → s.known ≡ r.known ++ more → r.seen ≤ s.seen → IsClear setting (attempt_in tx) (shelf_of p) p.seen rows s
+  pub is_clear_by : AreClear r base tx.writes rows → (setting : Setting) (s : PassView) (more : List (ℕ × Stamp)) → s.known ≡ r.known
+      ++ more → r.seen ≤ s.seen → IsClear setting (attempt_in tx) (shelf_of p) p.seen rows s
   is_clear_by clear setting s more known within = record {
     unchanged = unchanged_all tx rows looks unchanged;
     upto = r.seen;
@@ -256,11 +303,13 @@ module _ (p q r : PassView) (rows : List TakenRow) (tx : Tx) (h : HoldsRows p ro
     reaches = λ u c. subst (IsWithin u.row) (sym seen_j) (rows_within p rows tx h n reaches u c);
     unraced = λ l fits stand u c fails.
         (let j = at_in rows u c in
-        over_j (λ l. SomeFails l u.row (asked_on base tx.writes u.var) → ⊥) (λ setting l f st. clear j.0 u j.1 setting l f st) setting s.known more known l fits stand
+        over_j (λ l. SomeFails l u.row (asked_on base tx.writes u.var) → ⊥) (λ setting l f st. clear j.0 u j.1 setting l f st) setting
+        s.known more known l fits stand
         (same_test l u.row (asked_of p.own.id tx u.var) (asked_on base tx.writes u.var) (sym thread) refl (sym commit) fails));
   }
 
-  pub done_cause : (z : TableView) → AreClear r base tx.writes rows → (e : TxEnd) (s : PassView) → ReachedEnd z e r s → IsCauseBy z (attempt_in tx) e (shelf_of p) p.seen p.reads rows s
+  pub done_cause : (z : TableView) → AreClear r base tx.writes rows → (e : TxEnd) (s : PassView) → ReachedEnd z e r s
+      → IsCauseBy z (attempt_in tx) e (shelf_of p) p.seen p.reads rows s
   done_cause z clear (end.Done at) s d = record {
     clear = is_clear_by clear z.key.setting s d.more d.known (let a = d.later in let b = d.here in let c = d.seen in omega arith);
     list = d.list;
@@ -274,7 +323,8 @@ module _ (p q r : PassView) (rows : List TakenRow) (tx : Tx) (h : HoldsRows p ro
   done_cause z clear (end.Raised var) s d = absurd d
   done_cause z clear (end.Changed var read found) s d = absurd d
 
-  pub wait_cause : (z : TableView) → AreClear r base tx.writes rows → (w : TxWait) (s : PassView) → ReachedWait z w r s → IsWaitBy z (attempt_in tx) w (shelf_of p) p.seen p.reads rows s
+  pub wait_cause : (z : TableView) → AreClear r base tx.writes rows → (w : TxWait) (s : PassView) → ReachedWait z w r s
+      → IsWaitBy z (attempt_in tx) w (shelf_of p) p.seen p.reads rows s
   wait_cause z clear (wait.Busy by) s d = record {
     near = d.near;
     clear = is_clear_by clear z.key.setting s [] (d.known ∙ sym (append-nil r.known)) (let c = d.seen in omega arith);
@@ -288,7 +338,8 @@ module _ (p q r : PassView) (rows : List TakenRow) (tx : Tx) (h : HoldsRows p ro
     full = d.full;
   }
 
-  pub raised_cause : (z : TableView) (x : ℕ) → IsFirstRace r base tx.writes rows x → (why : _) (s : PassView) → HasDropped tx why r s → IsCauseBy z (attempt_in tx) (end.Raised x) (shelf_of p) p.seen p.reads rows s
+  pub raised_cause : (z : TableView) (x : ℕ) → IsFirstRace r base tx.writes rows x → (why : _) (s : PassView) → HasDropped tx why r s
+      → IsCauseBy z (attempt_in tx) (end.Raised x) (shelf_of p) p.seen p.reads rows s
   raised_cause z x f why s d =
       let same_seen : s.seen ≡ r.seen = ap (λ (u : PassView). u.seen) d.is in
       let same_known : s.known ≡ r.known ++ [] = ap (λ (u : PassView). u.known) d.is ∙ sym (append-nil r.known) in
@@ -299,17 +350,22 @@ module _ (p q r : PassView) (rows : List TakenRow) (tx : Tx) (h : HoldsRows p ro
         row = f.row;
         of = in_at rows f.place f.row f.there;
         here = sym f.var;
-        races = λ l fits stand. same_test l f.row.row (asked_on base tx.writes f.row.var) (asked_of p.own.id tx f.row.var) thread refl commit
-            (over_j (λ l. SomeFails l f.row.row (asked_on base tx.writes f.row.var)) f.races z.key.setting s.known [] same_known l (subst (λ m. IsFitting z.key.setting (shelf_of p) m s.known l) same_seen fits) stand);
+        races = λ l fits stand. same_test l f.row.row (asked_on base tx.writes f.row.var) (asked_of p.own.id tx f.row.var) thread refl
+            commit
+            (over_j (λ l. SomeFails l f.row.row (asked_on base tx.writes f.row.var)) f.races z.key.setting s.known [] same_known l
+            (subst (λ m. IsFitting z.key.setting (shelf_of p) m s.known l) same_seen fits) stand);
         least = λ l fits stand u c less fails.
             (let j = at_in rows u c in
             let before = lower_before rows h.held.are.1 f.place j.0 f.row u f.there j.1 (let e = f.var in omega arith) in
-            over_j (λ l. SomeFails l u.row (asked_on base tx.writes u.var) → ⊥) (λ setting l g st. f.before j.0 u before j.1 setting l g st) z.key.setting s.known [] same_known l (subst (λ m. IsFitting z.key.setting (shelf_of p) m s.known l) same_seen fits) stand
+            over_j (λ l. SomeFails l u.row (asked_on base tx.writes u.var) → ⊥)
+            (λ setting l g st. f.before j.0 u before j.1 setting l g st) z.key.setting s.known [] same_known l
+            (subst (λ m. IsFitting z.key.setting (shelf_of p) m s.known l) same_seen fits) stand
             (same_test l u.row (asked_of p.own.id tx u.var) (asked_on base tx.writes u.var) (sym thread) refl (sym commit) fails));
       }
 
 -- an attempt that was dropped as changed
-pub changed_cause : (z : TableView) (p s : PassView) (rows : List TakenRow) (tx : Tx) → HoldsRows p rows tx → AreVariables (map (λ l. l.var) tx.looks) → (c : Change) → IsFirstChange tx.looks rows c → (why : _) → HasDropped tx why p s
+pub changed_cause : (z : TableView) (p s : PassView) (rows : List TakenRow) (tx : Tx) → HoldsRows p rows tx
+    → AreVariables (map (λ l. l.var) tx.looks) → (c : Change) → IsFirstChange tx.looks rows c → (why : _) → HasDropped tx why p s
     → IsCauseBy z (attempt_in tx) (end.Changed c.var c.read c.found) (shelf_of p) p.seen p.reads rows s
 changed_cause z p s rows tx h looks c f why d =
     let found = found_part of_look f.row.var tx.looks f.is.look f.is.looked in
@@ -335,6 +391,7 @@ pub cause_ok : {E : Type 0} (z : TableView) (r : Result TxEnd E) (P Q : TxEnd �
 cause_ok z (Ok e) P Q f h = f e h
 cause_ok z (Err w) P Q f h = tt
 
-pub cause_err : {A B : Type 0} (z : TableView) (r : Result A (B × TxWait)) (P Q : TxWait → Type 0) → ((w : TxWait) → P w → Q w) → IfErr r (λ w. P w.1) → IfErr r (λ w. Q w.1)
+pub cause_err : {A B : Type 0} (z : TableView) (r : Result A (B × TxWait)) (P Q : TxWait → Type 0) → ((w : TxWait) → P w → Q w)
+    → IfErr r (λ w. P w.1) → IfErr r (λ w. Q w.1)
 cause_err z (Ok e) P Q f h = tt
 cause_err z (Err w) P Q f h = f w.1 h

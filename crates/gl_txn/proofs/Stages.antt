@@ -20,7 +20,8 @@ use Rattle.gl_txn.proofs.LookSteps.{or_no}
 use Rattle.gl_txn.proofs.Published.{held_reached}
 
 -- the list was put back beside the rows
-held_list_left : (held : List Held) (t : Held) (rows : List TakenRow) (tails : List ℕ) → AreHeld held (Some t) rows tails undrawn → AreHeld (without 0 held) None rows tails undrawn
+held_list_left : (held : List Held) (t : Held) (rows : List TakenRow) (tails : List ℕ) → AreHeld held (Some t) rows tails undrawn
+    → AreHeld (without 0 held) None rows tails undrawn
 held_list_left held t rows tails a = record { at = at; once = once_without 0 held a.once; are = a.are }
   where
     at : (k : ℕ) → found k (without 0 held) ≡ held_of None rows tails undrawn k
@@ -28,12 +29,16 @@ held_list_left held t rows tails a = record { at = at; once = once_without 0 hel
     at (suc y) = found_still 0 (suc y) held (λ e. absurd (omega arith)) ∙ a.at (suc y)
 
 -- where the list was not reached the rows are as they were
-pub reach_unused : (z : TableView) (w : TxWait) (p q : PassView) (rows : List TakenRow) (tx : Tx) → IsReady p rows tx → IsReachStop z w p q → AreUnused q.own.held rows
-reach_unused z (wait.Busy by) p q rows tx r s = subst (λ (u : PassView). AreUnused u.own.held rows) (sym s.1) (record { tails = p.seen ∷ []; drew = undrawn; holds = r.held; unused = λ y d e. absurd (cc) })
+pub reach_unused : (z : TableView) (w : TxWait) (p q : PassView) (rows : List TakenRow) (tx : Tx) → IsReady p rows tx → IsReachStop z w p q
+    → AreUnused q.own.held rows
+reach_unused z (wait.Busy by) p q rows tx r s =
+    subst (λ (u : PassView). AreUnused u.own.held rows) (sym s.1)
+    (record { tails = p.seen ∷ []; drew = undrawn; holds = r.held; unused = λ y d e. absurd (cc) })
 reach_unused z (wait.RingFull low tail) p q rows tx r s = subst (λ (u : PassView). AreUnused u.own.held rows) (sym s.3) (record {
   tails = tail ∷ p.seen ∷ [];
   drew = undrawn;
-  holds = held_list_left (map (with_tail tail) (new_held 0 (slot.List s.0) ∷ p.own.held)) (with_tail tail (new_held 0 (slot.List s.0))) rows (tail ∷ p.seen ∷ []) (held_reached p.own.held rows (p.seen ∷ []) r.held (slot.List s.0) tail);
+  holds = held_list_left (map (with_tail tail) (new_held 0 (slot.List s.0) ∷ p.own.held)) (with_tail tail (new_held 0 (slot.List s.0)))
+      rows (tail ∷ p.seen ∷ []) (held_reached p.own.held rows (p.seen ∷ []) r.held (slot.List s.0) tail);
   unused = λ y d e. absurd (cc);
 })
 
@@ -41,19 +46,38 @@ pub reach_table : (z : TableView) (w : TxWait) (p q : PassView) → IsReachStop 
 reach_table z (wait.Busy by) p q s = ap (λ (u : PassView). u.own.table) s.1
 reach_table z (wait.RingFull low tail) p q s = ap (λ (u : PassView). u.own.table) s.3
 
-pub reach_back : (z : TableView) (w : TxWait) (p q r : PassView) → IsReachStop z w p q → r ≡ record q { own = record q.own { held = [] } } → IsPutBack p r
+pub reach_back : (z : TableView) (w : TxWait) (p q r : PassView) → IsReachStop z w p q → r ≡ record q { own = record q.own { held = [] } }
+    → IsPutBack p r
 reach_back z (wait.Busy by) p q r s put =
     let e = put ∙ ap (λ (u : PassView). record u { own = record u.own { held = [] } }) s.1 in
     record { own = ap (λ (u : PassView). u.own) e; quiet = ap (λ (u : PassView). u.quiet) e; spare = ap (λ (u : PassView). u.spare) e }
 reach_back z (wait.RingFull low tail) p q r s put =
     let e = put ∙ ap (λ (u : PassView). record u { own = record u.own { held = [] } }) s.3 in
-    record { own = ap (λ (u : PassView). u.own) e; quiet = ap (λ (u : PassView). u.quiet) e ∙ or_no p.quiet; spare = ap (λ (u : PassView). u.spare) e }
+    record {
+      own = ap (λ (u : PassView). u.own) e;
+      quiet = ap (λ (u : PassView). u.quiet) e
+          ∙ or_no p.quiet;
+      spare = ap (λ (u : PassView). u.spare) e;
+    }
 
 -- a commit that was published ends the attempt
-pub ends_done : (z : TableView) (l : ListView) (tx : Tx) (at : ℕ) (p q r : PassView) → HasReached z p l q → HasPublished tx at q r → EndsAs tx (end.Done at) p r
+pub ends_done : (z : TableView) (l : ListView) (tx : Tx) (at : ℕ) (p q r : PassView) → HasReached z p l q → HasPublished tx at q r
+    → EndsAs tx (end.Done at) p r
 ends_done z l tx at p q r reached h =
-    let e = h.is ∙ ap (λ (u : PassView). record (with_entry u (Commit at h.ended)) { seen = suc at; known = u.known ++ (at, Rattle.gl_table.specs.Committing.commit_stamp u.own.id h.ended) ∷ []; stored = [] }) reached.is in
-    record { ended = h.ended; looks = h.looks; writes = h.writes; own = ap (λ (u : PassView). u.own) e; quiet = ap (λ (u : PassView). u.quiet) e; spare = ap (λ (u : PassView). u.spare) e }
+    let e = h.is ∙ ap (λ (u : PassView). record (with_entry u (Commit at h.ended)) {
+      seen = suc at;
+      known = u.known
+          ++ (at, Rattle.gl_table.specs.Committing.commit_stamp u.own.id h.ended) ∷ [];
+      stored = [];
+    }) reached.is in
+    record {
+      ended = h.ended;
+      looks = h.looks;
+      writes = h.writes;
+      own = ap (λ (u : PassView). u.own) e;
+      quiet = ap (λ (u : PassView). u.quiet) e;
+      spare = ap (λ (u : PassView). u.spare) e;
+    }
 
 pub reached_table : (z : TableView) (l : ListView) (p q : PassView) → HasReached z p l q → q.own.table ≡ p.own.table
 reached_table z l p q r = ap (λ (u : PassView). u.own.table) r.is

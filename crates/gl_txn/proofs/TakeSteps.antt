@@ -19,20 +19,28 @@ use Rattle.gl_txn.proofs.LookSteps.{or_no}
 pub put_held : (p q : PassView) (x : ℕ) → q ≡ after p (left (view_of p) (suc x) false) → q.own.held ≡ without (suc x) p.own.held
 put_held p q x is = ap (λ (r : PassView). r.own.held) is
 
-pub put_is : (p q : PassView) (x : ℕ) → q ≡ after p (left (view_of p) (suc x) false) → q ≡ record p { own = record p.own { held = q.own.held } }
+pub put_is : (p q : PassView) (x : ℕ) → q ≡ after p (left (view_of p) (suc x) false) → q
+    ≡ record p { own = record p.own { held = q.own.held } }
 put_is p q x is =
     let s0 : (suc x == 0) ≡ false = ne_eqb (suc x) 0 (λ e. absurd (omega arith)) in
     let l = without (suc x) p.own.held in
-    let start : q ≡ record p { own = record p.own { held = without (suc x) p.own.held }; quiet = p.quiet || false; stored = if suc x == 0 then [] else p.stored } = is in
+    let start : q ≡ record p {
+      own = record p.own { held = without (suc x) p.own.held };
+      quiet = p.quiet || false;
+      stored = if suc x == 0
+          then [] else p.stored;
+    } = is in
     start ∙ ap (λ b. record p { own = record p.own { held = l }; quiet = p.quiet || false; stored = if b then [] else p.stored }) s0
     ∙ ap (λ b. record p { own = record p.own { held = l }; quiet = b }) (or_no p.quiet)
     ∙ ap (λ (h : List Held). record p { own = record p.own { held = h } }) (sym (put_held p q x is))
 
 -- one after another
-pub puts_more : (p q r : PassView) → q ≡ record p { own = record p.own { held = q.own.held } } → r ≡ record q { own = record q.own { held = r.own.held } } → r ≡ record p { own = record p.own { held = r.own.held } }
+pub puts_more : (p q r : PassView) → q ≡ record p { own = record p.own { held = q.own.held } } → r
+    ≡ record q { own = record q.own { held = r.own.held } } → r ≡ record p { own = record p.own { held = r.own.held } }
 puts_more p q r a b = b ∙ ap (λ (q : PassView). record q { own = record q.own { held = r.own.held } }) a
 
-pub puts_all : (p q : PassView) → q ≡ record p { own = record p.own { held = q.own.held } } → AreUnused q.own.held [] → q ≡ record p { own = record p.own { held = [] } }
+pub puts_all : (p q : PassView) → q ≡ record p { own = record p.own { held = q.own.held } } → AreUnused q.own.held [] → q
+    ≡ record p { own = record p.own { held = [] } }
 puts_all p q a u = a ∙ ap (λ (h : List Held). record p { own = record p.own { held = h } }) (unused_none q.own.held u)
 
 takes_pushed : (rows : List TakenRow) (r : TakenRow) → takes (rows ++ r ∷ []) ≡ takes rows ++ Taken (suc r.var) (slot.Row r.row) ∷ []
@@ -41,16 +49,22 @@ takes_pushed (q ∷ rs) r = ap (λ (l : List Read). Taken (suc q.var) (slot.Row 
 
 -- nothing was taken yet
 pub taken_none : (p : PassView) → p.own.held ≡ [] → HaveTaken p p [] []
-taken_none p none = record { of = refl; is = ap (λ (l : List Read). record p { reads = l }) (sym (append-nil p.reads)); held = held_nothing p.own.held none }
+taken_none p none = record {
+  of = refl;
+  is = ap (λ (l : List Read). record p { reads = l }) (sym (append-nil p.reads));
+  held = held_nothing p.own.held none;
+}
 
 -- one row more was taken
-pub taken_more : (p q r : PassView) (ys : List ℕ) (rows : List TakenRow) (y : ℕ) (w : Option ℤ) (row : Row) → HaveTaken p q ys rows → AreVariables (ys ++ y ∷ []) → r ≡ after q (took (view_of q) (suc y) (slot.Row row))
+pub taken_more : (p q r : PassView) (ys : List ℕ) (rows : List TakenRow) (y : ℕ) (w : Option ℤ) (row : Row) → HaveTaken p q ys rows
+    → AreVariables (ys ++ y ∷ []) → r ≡ after q (took (view_of q) (suc y) (slot.Row row))
     → HaveTaken p r (ys ++ y ∷ []) (rows ++ record { var = y; write = w; row = row } ∷ [])
 taken_more p q r ys rows y w row t are is = record {
   of = vars_pushed rows (record { var = y; write = w; row = row }) ∙ ap (λ l. l ++ y ∷ []) t.of;
   is = whole;
   held = subst (λ (l : List Held). AreHeld l None (rows ++ record { var = y; write = w; row = row } ∷ []) [] undrawn) (sym held_is)
-      (held_more q.own.held rows (record { var = y; write = w; row = row }) t.held (subst (λ l. AreVariables (l ++ y ∷ [])) (sym t.of) are));
+      (held_more q.own.held rows (record { var = y; write = w; row = row }) t.held
+      (subst (λ l. AreVariables (l ++ y ∷ [])) (sym t.of) are));
 }
   where
     held_is : r.own.held ≡ new_held (suc y) (slot.Row row) ∷ q.own.held
@@ -58,17 +72,28 @@ taken_more p q r ys rows y w row t are is = record {
 
     reads_are : q.reads ++ Taken (suc y) (slot.Row row) ∷ [] ≡ p.reads ++ takes (rows ++ record { var = y; write = w; row = row } ∷ [])
     reads_are =
-        ap (λ (z : PassView). z.reads ++ Taken (suc y) (slot.Row row) ∷ []) t.is ∙ append_assoc p.reads (takes rows) (Taken (suc y) (slot.Row row) ∷ [])
+        ap (λ (z : PassView). z.reads ++ Taken (suc y) (slot.Row row) ∷ []) t.is
+        ∙ append_assoc p.reads (takes rows) (Taken (suc y) (slot.Row row) ∷ [])
         ∙ ap (λ (l : List Read). p.reads ++ l) (sym (takes_pushed rows (record { var = y; write = w; row = row })))
 
-    whole : r ≡ record p { own = record p.own { held = r.own.held }; reads = p.reads ++ takes (rows ++ record { var = y; write = w; row = row } ∷ []) }
+    whole : r ≡ record p {
+      own = record p.own { held = r.own.held };
+      reads = p.reads
+          ++ takes (rows ++ record { var = y; write = w; row = row } ∷ []);
+    }
     whole =
-        is ∙ ap (λ (z : PassView). record z { own = record z.own { held = new_held (suc y) (slot.Row row) ∷ q.own.held }; reads = q.reads ++ Taken (suc y) (slot.Row row) ∷ [] }) t.is
-        ∙ ap (λ (l : List Held). record p { own = record p.own { held = l }; reads = q.reads ++ Taken (suc y) (slot.Row row) ∷ [] }) (sym held_is)
+        is ∙ ap (λ (z : PassView). record z {
+          own = record z.own { held = new_held (suc y) (slot.Row row) ∷ q.own.held };
+          reads = q.reads
+              ++ Taken (suc y) (slot.Row row) ∷ [];
+        }) t.is
+        ∙ ap (λ (l : List Held). record p { own = record p.own { held = l }; reads = q.reads ++ Taken (suc y) (slot.Row row) ∷ [] })
+        (sym held_is)
         ∙ ap (λ (l : List Read). record p { own = record p.own { held = r.own.held }; reads = l }) reads_are
 
 -- the next one's turn was held, and those that were taken were put back
-pub were_busy : (p q r s : PassView) (ids : List ℕ) (i by : ℕ) (rows : List TakenRow) → p.own.held ≡ [] → i < length ids → HaveTaken p q (take i ids) rows → by < THREADS → r ≡ after q (refused (view_of q) (suc (get_or ids i 0)) by)
+pub were_busy : (p q r s : PassView) (ids : List ℕ) (i by : ℕ) (rows : List TakenRow) → p.own.held ≡ [] → i < length ids
+    → HaveTaken p q (take i ids) rows → by < THREADS → r ≡ after q (refused (view_of q) (suc (get_or ids i 0)) by)
     → s ≡ record r { own = record r.own { held = [] } } → WereBusy ids by p s
 were_busy p q r s ids i by rows none near t few is put = record {
   near = few;
@@ -76,8 +101,13 @@ were_busy p q r s ids i by rows none near t few is put = record {
   var = get_or ids i 0;
   rest = drop (suc i) ids;
   of = sym (take-append-drop i ids) ∙ ap (λ l. l ++ drop i ids) (sym t.of) ∙ ap (λ l. vars_of rows ++ l) (drop-cons ids i 0 near);
-  is = put ∙ ap (λ (z : PassView). record z { own = record z.own { held = [] } }) is ∙ ap (λ (z : PassView). record z { own = record z.own { held = [] }; reads = z.reads ++ Busy (suc (get_or ids i 0)) by ∷ [] }) t.is
-      ∙ ap (λ (h : List Held). record p { own = record p.own { held = h }; reads = (p.reads ++ takes rows) ++ Busy (suc (get_or ids i 0)) by ∷ [] }) (sym none);
+  is = put ∙ ap (λ (z : PassView). record z { own = record z.own { held = [] } }) is
+      ∙ ap (λ (z : PassView). record z { own = record z.own { held = [] }; reads = z.reads ++ Busy (suc (get_or ids i 0)) by ∷ [] }) t.is
+      ∙ ap (λ (h : List Held). record p {
+        own = record p.own { held = h };
+        reads = (p.reads ++ takes rows)
+            ++ Busy (suc (get_or ids i 0)) by ∷ [];
+      }) (sym none);
 }
 
 -- the first of them are variables as all are
@@ -93,7 +123,8 @@ empty_of [] e = refl
 empty_of (x ∷ xs) e = absurd (omega arith)
 
 -- one row more has its word
-pub writes_more : (ws : List Rattle.gl_model.specs.declared.tx.Pair.Pair) (rows : List TakenRow) (r : TakenRow) → HaveWrites ws rows → r.write ≡ write_in ws r.var → HaveWrites ws (rows ++ r ∷ [])
+pub writes_more : (ws : List Rattle.gl_model.specs.declared.tx.Pair.Pair) (rows : List TakenRow) (r : TakenRow) → HaveWrites ws rows
+    → r.write ≡ write_in ws r.var → HaveWrites ws (rows ++ r ∷ [])
 writes_more ws rows r have is u c = elim (Rattle.std.proofs.lemmas.List.Elements.Contains-push_cases rows r u c) [
   | inl old ↦ have u old
   | inr new ↦ subst (λ (v : TakenRow). v.write ≡ write_in ws v.var) new is

@@ -41,7 +41,8 @@ pub record MayNumber (p : PassView) (rows : List TakenRow) : Type 0 where
 pub record HasDrawn (p q : PassView) (list : Option Held) (rows : List TakenRow) (tails : List ℕ) (numbers : List Number) : Type 0 where
   pub is : q ≡ record p { own = record p.own { held = q.own.held; drawn = p.own.drawn ++ map end_of numbers } }
   pub held : AreHeld q.own.held list rows tails (drew_on p (numbered numbers))
-  pub above : (y k m : ℕ) (look : Option ℤ) → Contains p.own.drawn (record { var = y; nth = k; look = look }) → Contains numbers (record { var = y; nth = m }) → k < m
+  pub above : (y k m : ℕ) (look : Option ℤ) → Contains p.own.drawn (record { var = y; nth = k; look = look })
+      → Contains numbers (record { var = y; nth = m }) → k < m
 
 -- the attempt of a transaction
 abbrev pub attempt_in : Tx → Attempting

@@ -50,7 +50,8 @@ kept_of keep a = record { looks = a.looks; writes = writes_at a keep }
 
 -- the row has the word that was looked at, if it was
 abbrev pub AreUnchangedBelow : ℕ → Attempting → List TakenRow → Type 0
-AreUnchangedBelow n a rows = (l : Look) (r : TakenRow) → Contains a.looks l → Contains rows r → r.var ≡ l.var → l.var < n → r.row.value ≡ l.value
+AreUnchangedBelow n a rows = (l : Look) (r : TakenRow) → Contains a.looks l → Contains rows r → r.var ≡ l.var → l.var < n → r.row.value
+    ≡ l.value
 
 abbrev pub AreUnchanged : Attempting → List TakenRow → Type 0
 AreUnchanged a rows = (l : Look) (r : TakenRow) → Contains a.looks l → Contains rows r → r.var ≡ l.var → r.row.value ≡ l.value
@@ -62,7 +63,8 @@ asked t a y = record { thread = t; write = is_in y (map (λ w. w.var) a.writes);
 -- over each list of n events that the pass of these entries, which knows these events, cannot tell from the table's, and in which the rows' Infos
 -- stand for accesses
 abbrev pub OverEach : Setting → Shelf → ℕ → List (ℕ × Stamp) → List TakenRow → (List Stamp → Type 0) → Type 0
-OverEach setting s n known rows P = (l : List Stamp) → IsFitting setting s n known l → ((r : TakenRow) → Contains rows r → InfosStand setting l r.row) → P l
+OverEach setting s n known rows P = (l : List Stamp) → IsFitting setting s n known l
+    → ((r : TakenRow) → Contains rows r → InfosStand setting l r.row) → P l
 
 -- the commit completes a race on the row
 abbrev pub RacesAt : ℕ → Attempting → List Stamp → TakenRow → Type 0
@@ -85,7 +87,8 @@ HasRoomAt z low tail = tail < low * z.key.cells + capacity z.key
 
 -- why the attempt was committed: nothing speaks against it, and the list was free and had room. It stands at the tail that was loaded then. What was
 -- read before is what its rows' turns gave
-pub record WasDone (z : TableView) (a : Attempting) (at : ℕ) (s : Shelf) (from : ℕ) (before : List Read) (rows : List TakenRow) (q : PassView) : Type 0 where
+pub record WasDone (z : TableView) (a : Attempting) (at : ℕ) (s : Shelf) (from : ℕ) (before : List Read) (rows : List TakenRow)
+    (q : PassView) : Type 0 where
   pub clear : IsClear z.key.setting a s from rows q
   pub list : ListView
   pub low : ℕ
@@ -110,7 +113,8 @@ pub record WasChanged (a : Attempting) (var : ℕ) (read found : ℤ) (before : 
   pub least : AreUnchangedBelow var a rows
 
 -- why it was dropped as racy: no word was changed, and at the least such variable the commit completes a race
-pub record WasRaised (setting : Setting) (a : Attempting) (var : ℕ) (s : Shelf) (from : ℕ) (before : List Read) (rows : List TakenRow) (q : PassView) : Type 0 where
+pub record WasRaised (setting : Setting) (a : Attempting) (var : ℕ) (s : Shelf) (from : ℕ) (before : List Read) (rows : List TakenRow)
+    (q : PassView) : Type 0 where
   pub reads : q.reads ≡ before
   pub unchanged : AreUnchanged a rows
   pub later : from ≤ q.seen
@@ -127,16 +131,19 @@ IsCauseBy z a (end.Changed var read found) s from before rows q = WasChanged a v
 
 -- the pass, which was p and is q, took the row of each variable, and this is why it ended so
 abbrev pub IsCause : TableView → Attempting → TxEnd → PassView → PassView → Type 0
-IsCause z a e p q = (rows : List TakenRow) × (vars_of rows ≡ variables_in a.looks a.writes) × IsCauseBy z a e (shelf_of p) p.seen (p.reads ++ takes rows) rows q
+IsCause z a e p q = (rows : List TakenRow) × (vars_of rows ≡ variables_in a.looks a.writes)
+    × IsCauseBy z a e (shelf_of p) p.seen (p.reads ++ takes rows) rows q
 
 -- nothing speaks against the commit, and the list's turn was read as held
-pub record ListWasBusy (z : TableView) (a : Attempting) (by : ℕ) (s : Shelf) (from : ℕ) (before : List Read) (rows : List TakenRow) (q : PassView) : Type 0 where
+pub record ListWasBusy (z : TableView) (a : Attempting) (by : ℕ) (s : Shelf) (from : ℕ) (before : List Read) (rows : List TakenRow)
+    (q : PassView) : Type 0 where
   pub near : by < THREADS
   pub clear : IsClear z.key.setting a s from rows q
   pub reads : q.reads ≡ before ++ Busy 0 by ∷ []
 
 -- nothing speaks against the commit, and the list had no room
-pub record RingWasFull (z : TableView) (a : Attempting) (low tail : ℕ) (s : Shelf) (from : ℕ) (before : List Read) (rows : List TakenRow) (q : PassView) : Type 0 where
+pub record RingWasFull (z : TableView) (a : Attempting) (low tail : ℕ) (s : Shelf) (from : ℕ) (before : List Read) (rows : List TakenRow)
+    (q : PassView) : Type 0 where
   pub clear : IsClear z.key.setting a s from rows q
   pub list : ListView
   pub reads : q.reads ≡ before ++ (Taken 0 (slot.List list) ∷ Hold 0 low ∷ [])
@@ -149,7 +156,8 @@ IsWaitBy z a (wait.RingFull low tail) s from before rows q = RingWasFull z a low
 
 -- all rows were taken, and then it had to wait
 abbrev pub WaitsWithAll : TableView → Attempting → TxWait → PassView → PassView → Type 0
-WaitsWithAll z a w p q = (rows : List TakenRow) × (vars_of rows ≡ variables_in a.looks a.writes) × IsWaitBy z a w (shelf_of p) p.seen (p.reads ++ takes rows) rows q
+WaitsWithAll z a w p q = (rows : List TakenRow) × (vars_of rows ≡ variables_in a.looks a.writes)
+    × IsWaitBy z a w (shelf_of p) p.seen (p.reads ++ takes rows) rows q
 
 -- some of its rows, the first ones, were taken, and the turn of the next one was read as held
 abbrev pub RowWasBusy : Attempting → TxWait → PassView → PassView → Type 0

@@ -30,7 +30,14 @@ row_at (r ∷ rs) y = if r.var == y then Some r else row_at rs y
 
 -- a row as it is held: as it was taken, with these tails seen since then, and with this drawn on it
 abbrev pub row_held : List ℕ → (ℕ → Option Draw) → TakenRow → Held
-row_held tails drew r = record { object = suc r.var; taken = slot.Row r.row; first = slot.Row r.row; tails = tails; drew = drew r.var; floor = None }
+row_held tails drew r = record {
+  object = suc r.var;
+  taken = slot.Row r.row;
+  first = slot.Row r.row;
+  tails = tails;
+  drew = drew r.var;
+  floor = None;
+}
 
 abbrev pub held_by : List ℕ → (ℕ → Option Draw) → Option TakenRow → Option Held
 held_by tails drew None = None

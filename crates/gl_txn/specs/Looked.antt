@@ -14,4 +14,9 @@ drawn_of l = record { var = l.var; nth = l.nth; look = Some l.value }
 -- the row of x was taken as it was then, its word looked at, and a number drawn
 abbrev pub IsLookAt : ℕ → Look → PassView → PassView → Type 0
 IsLookAt x l p q =
-    (row : Row) × (l.var ≡ x) × (row.value ≡ l.value) × (q ≡ record p { own = record p.own { drawn = p.own.drawn ++ drawn_of l ∷ [] }; reads = p.reads ++ Taken (suc x) (slot.Row row) ∷ [] })
+    (row : Row) × (l.var ≡ x) × (row.value ≡ l.value)
+    × (q ≡ record p {
+      own = record p.own { drawn = p.own.drawn ++ drawn_of l ∷ [] };
+      reads = p.reads ++ Taken (suc x) (slot.Row row)
+          ∷ [];
+    })

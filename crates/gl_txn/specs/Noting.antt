@@ -20,7 +20,8 @@ use Rattle.gl_txn.specs.declared.taken.TakenRow.{TakenRow}
 -- the row with the access of the commit noted, and with the word that it writes
 abbrev pub IsNotedRow : Question → ℕ → Option ℤ → Row → Row → Type 0
 IsNotedRow base at None old new = IsNoted old (record base { write = false }) at new
-IsNotedRow base at (Some value) old new = (mid : Row) × IsNoted old (record base { write = true }) at mid × (new ≡ record mid { value = value })
+IsNotedRow base at (Some value) old new = (mid : Row) × IsNoted old (record base { write = true }) at mid
+    × (new ≡ record mid { value = value })
 
 -- what was drawn on the rows of these variables by the commit of tx at n
 abbrev pub drew_commit_at : PassView → Tx → ℕ → ℕ → Option Draw
@@ -41,4 +42,5 @@ pub record AreCommitted (p : PassView) (rows : List TakenRow) (base : Question) 
   pub thread : base.thread ≡ p.own.id
   pub near : base.thread < THREADS
   pub commit : base.commit ≡ Some (variables_of tx)
-  pub owned : (setting : Setting) (l : List Stamp) (now : State) → AreEvents l p.own.id p.own.mine → Allows setting l now → AreLeastOwned now p.own.id base.held
+  pub owned : (setting : Setting) (l : List Stamp) (now : State) → AreEvents l p.own.id p.own.mine → Allows setting l now
+      → AreLeastOwned now p.own.id base.held

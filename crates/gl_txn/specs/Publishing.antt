@@ -48,7 +48,8 @@ pub record HasReached (z : TableView) (p : PassView) (l : ListView) (q : PassVie
 -- the list's turn was held, or there was no room, and the list was put back
 abbrev pub IsReachStop : TableView → TxWait → PassView → PassView → Type 0
 IsReachStop z (wait.Busy by) p q = (by < THREADS) × (q ≡ record p { reads = p.reads ++ Busy 0 by ∷ [] })
-IsReachStop z (wait.RingFull low tail) p q = (l : ListView) × (p.seen ≤ tail) × (HasRoomAt z low tail → ⊥) × (q ≡ after (with_room p l low tail) (left (view_of (with_room p l low tail)) 0 false))
+IsReachStop z (wait.RingFull low tail) p q = (l : ListView) × (p.seen ≤ tail) × (HasRoomAt z low tail → ⊥)
+    × (q ≡ after (with_room p l low tail) (left (view_of (with_room p l low tail)) 0 false))
 
 -- the pass holds just the rows of the variables of tx, and has seen this tail since; nothing speaks against the commit
 pub record IsReady (p : PassView) (rows : List TakenRow) (tx : Tx) : Type 0 where
@@ -76,4 +77,9 @@ pub record HasPublished (tx : Tx) (at : ℕ) (p q : PassView) : Type 0 where
   pub ended : Tx
   pub looks : ended.looks ≡ tx.looks
   pub writes : ended.writes ≡ tx.writes
-  pub is : q ≡ record (with_entry p (Commit at ended)) { seen = suc at; known = p.known ++ (at, commit_stamp p.own.id ended) ∷ []; stored = [] }
+  pub is : q ≡ record (with_entry p (Commit at ended)) {
+    seen = suc at;
+    known = p.known ++ (at, commit_stamp p.own.id ended)
+        ∷ [];
+    stored = [];
+  }

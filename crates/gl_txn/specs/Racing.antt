@@ -36,7 +36,8 @@ pub record MayJudge (p : PassView) (rows : List TakenRow) (base : Question) : Ty
   pub thread : base.thread ≡ p.own.id
   pub near : base.thread < THREADS
   pub runs : life_of p.own.mine ≡ Running
-  pub owned : (setting : Setting) (l : List Stamp) (now : State) → AreEvents l p.own.id p.own.mine → Allows setting l now → AreLeastOwned now p.own.id base.held
+  pub owned : (setting : Setting) (l : List Stamp) (now : State) → AreEvents l p.own.id p.own.mine → Allows setting l now
+      → AreLeastOwned now p.own.id base.held
 
 -- nothing but what it knows of the list's events changed, and what it knew it still knows
 pub record KnowsOn (p q : PassView) : Type 0 where
@@ -45,7 +46,8 @@ pub record KnowsOn (p q : PassView) : Type 0 where
 
 -- over each list of events that the pass cannot tell from the table's, in which the rows' Infos stand for accesses
 abbrev pub Over : PassView → List TakenRow → (List Stamp → Type 0) → Type 0
-Over q rows P = (setting : Setting) (l : List Stamp) → IsFitting setting (shelf_of q) q.seen q.known l → ((r : TakenRow) → Contains rows r → InfosStand setting l r.row) → P l
+Over q rows P = (setting : Setting) (l : List Stamp) → IsFitting setting (shelf_of q) q.seen q.known l
+    → ((r : TakenRow) → Contains rows r → InfosStand setting l r.row) → P l
 
 -- the commit completes no race on a row, on those before place n, and on any
 abbrev pub IsClearOn : PassView → Question → List Pair → List TakenRow → TakenRow → Type 0
@@ -84,4 +86,5 @@ pub record RacesOn (p : PassView) (rows : List TakenRow) (tx : Tx) (x : ℕ) : T
   pub there : slice_get rows place ≡ Some row
   pub var : x ≡ row.var
   pub races : Over p rows (λ l. SomeFails l row.row (asked_of p.own.id tx x))
-  pub least : (k : ℕ) (r : TakenRow) → k < place → slice_get rows k ≡ Some r → Over p rows (λ l. SomeFails l r.row (asked_of p.own.id tx r.var) → ⊥)
+  pub least : (k : ℕ) (r : TakenRow) → k < place → slice_get rows k ≡ Some r
+      → Over p rows (λ l. SomeFails l r.row (asked_of p.own.id tx r.var) → ⊥)

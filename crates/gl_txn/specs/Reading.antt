@@ -17,7 +17,8 @@ use Rattle.gl_txn.specs.declared.stops.TxStop.TheVariants.{Busy, TooLarge}
 abbrev pub ReadBy : Option Pair → Option Look → ℕ → ℤ → Attempting → Own → Attempting → Own → Type 0
 ReadBy (Some w) look x value a o b u = (value ≡ w.value) × (b ≡ a) × (u ≡ o)
 ReadBy None (Some l) x value a o b u = (value ≡ l.value) × (b ≡ a) × (u ≡ o)
-ReadBy None None x value a o b u = (nth : ℕ) × (b ≡ with_look x value nth a) × Draws b u × (u ≡ record o { drawn = o.drawn ++ record { var = x; nth = nth; look = Some value } ∷ [] }) × (size a < TX_VARIABLES)
+ReadBy None None x value a o b u = (nth : ℕ) × (b ≡ with_look x value nth a) × Draws b u
+    × (u ≡ record o { drawn = o.drawn ++ record { var = x; nth = nth; look = Some value } ∷ [] }) × (size a < TX_VARIABLES)
 
 abbrev pub IsRead : ℕ → ℤ → Attempting → Own → Attempting → Own → Type 0
 IsRead x value a o b u = ReadBy (written a x) (looked a x) x value a o b u
@@ -26,14 +27,16 @@ IsRead x value a o b u = ReadBy (written a x) (looked a x) x value a o b u
 abbrev pub LooksBy : Option Pair → Option Look → ℕ → ℤ → PassView → PassView → Type 0
 LooksBy (Some w) look x value p q = q ≡ p
 LooksBy None (Some l) x value p q = q ≡ p
-LooksBy None None x value p q = (row : Row) × (row.value ≡ value) × (q ≡ record p { own = q.own; reads = p.reads ++ Taken (suc x) (slot.Row row) ∷ [] })
+LooksBy None None x value p q = (row : Row) × (row.value ≡ value)
+    × (q ≡ record p { own = q.own; reads = p.reads ++ Taken (suc x) (slot.Row row) ∷ [] })
 
 abbrev pub HasLooked : Attempting → ℕ → ℤ → PassView → PassView → Type 0
 HasLooked a x value p q = LooksBy (written a x) (looked a x) x value p q
 
 -- why a read stopped: it needed a look, had room for it and read the row's turn as held; or it has no room for the variable
 abbrev pub IsReadStop : TxStop → Attempting → ℕ → PassView → PassView → Type 0
-IsReadStop (Busy by) a x p q = (is_in a x ≡ false) × (size a < TX_VARIABLES) × (by < THREADS) × (q ≡ after p (refused (view_of p) (suc x) by))
+IsReadStop (Busy by) a x p q = (is_in a x ≡ false) × (size a < TX_VARIABLES) × (by < THREADS)
+    × (q ≡ after p (refused (view_of p) (suc x) by))
 IsReadStop TooLarge a x p q = IsTooLarge a x × (q ≡ p)
 
 -- only a call that stopped for the size has to say why

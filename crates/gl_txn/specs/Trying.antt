@@ -9,7 +9,8 @@ use Rattle.gl_txn.specs.Attempts.{Attempting}
 
 -- the numbers that wait for their entry are those of the attempt's looks, at most one a variable
 pub record Draws (a : Attempting) (o : Own) : Type 0 where
-  pub looks : (y k : ℕ) (value : ℤ) → Contains o.drawn (record { var = y; nth = k; look = Some value }) ↔ Contains a.looks (record { var = y; value = value; nth = k })
+  pub looks : (y k : ℕ) (value : ℤ) → Contains o.drawn (record { var = y; nth = k; look = Some value }) ↔ Contains a.looks
+      (record { var = y; value = value; nth = k })
   pub ends : (y k : ℕ) → Contains o.drawn (record { var = y; nth = k; look = None }) → ⊥
   pub each : (y : ℕ) → count_on y o.drawn ≤ 1
 

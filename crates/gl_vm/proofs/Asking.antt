@@ -47,45 +47,59 @@ record AllThere (x : Object) : Type 0 where
 
 all_there_of : (o d v : ℕ) (f : Option Fields) (x : Object) → object_of o d v f ≡ Some x → AllThere x
 all_there_of o d v None x is = cc
-all_there_of o d v (Some fields) x is = by_test (nat_le (d + fields.plain) VARIABLES) (nat_le (v + fields.volatile) VOLATILES) refl refl is where
-  made : Object
-  made = record { monitor = o; fields = fields; variables = d; volatiles = v }
+all_there_of o d v (Some fields) x is = by_test (nat_le (d + fields.plain) VARIABLES) (nat_le (v + fields.volatile) VOLATILES) refl refl is
+  where
+    made : Object
+    made = record { monitor = o; fields = fields; variables = d; volatiles = v }
 
-  by_test :
-      (a b : Bool) → nat_le (d + fields.plain) VARIABLES ≡ a → nat_le (v + fields.volatile) VOLATILES ≡ b →
-      (if a && b then Some made else None) ≡ Some x → AllThere x
-  by_test true true p q e =
-      let same : made ≡ x = cc in
-      rw (sym same) (record { data' = search (rules, p); volatile' = search (rules, q) })
-  by_test true false p q e = cc
-  by_test false b p q e = cc
+    by_test :
+        (a b : Bool) → nat_le (d + fields.plain) VARIABLES ≡ a → nat_le (v + fields.volatile) VOLATILES ≡ b →
+        (if a && b then Some made else None) ≡ Some x → AllThere x
+    by_test true true p q e =
+        let same : made ≡ x = cc in
+        rw (sym same) (record { data' = search (rules, p); volatile' = search (rules, q) })
+    by_test true false p q e = cc
+    by_test false b p q e = cc
 
 all_there : (P : Bytecode) (value : ℤ) (x : Object) → object_at P value ≡ Some x → AllThere x
 all_there P (pos zero) x is = cc
-all_there P (pos (suc n)) x is = all_there_of (object_number n) (first_variable n) (first_volatile n) (slice_get P.classes (class_number n)) x is
+all_there P (pos (suc n)) x is = all_there_of (object_number n) (first_variable n) (first_volatile n)
+    (slice_get P.classes (class_number n)) x is
 all_there P (negsuc n) x is = cc
 
-on_some : (P : Bytecode) (o : Option Object) (f : Object → Outcome) → ((x : Object) → o ≡ Some x → OutcomeAsks P (f x)) → OutcomeAsks P (on_object o f)
+on_some : (P : Bytecode) (o : Option Object) (f : Object → Outcome) → ((x : Object) → o ≡ Some x → OutcomeAsks P (f x))
+    → OutcomeAsks P (on_object o f)
 on_some P None f there = tt
 on_some P (Some x) f there = there x refl
 
-data_asks : (P : Bytecode) (value : ℤ) (k : ℕ) (ask : ℕ → Ask) → ((x : ℕ) → x < VARIABLES → AsksInRange P (ask x)) → OutcomeAsks P (on_object (object_at P value) (on_data k (λ x. Asks (ask x))))
-data_asks P value k ask right = on_some P (object_at P value) _ (λ x is. either_way (OutcomeAsks P) (nat_lt k x.fields.plain) _ _ (λ lt m. right (x.variables + k) (let all = (all_there P value x is).data' in let less : k < x.fields.plain = search (rules, lt) in omega arith)) tt)
+data_asks : (P : Bytecode) (value : ℤ) (k : ℕ) (ask : ℕ → Ask) → ((x : ℕ) → x < VARIABLES → AsksInRange P (ask x))
+    → OutcomeAsks P (on_object (object_at P value) (on_data k (λ x. Asks (ask x))))
+data_asks P value k ask right = on_some P (object_at P value) _
+    (λ x is. either_way (OutcomeAsks P) (nat_lt k x.fields.plain) _ _
+    (λ lt m. right (x.variables + k) (let all = (all_there P value x is).data' in let less : k < x.fields.plain = search (rules, lt)
+    in omega arith)) tt)
 
-volatile_asks : (P : Bytecode) (value : ℤ) (k : ℕ) (ask : ℕ → Ask) → ((x : ℕ) → x < VOLATILES → AsksInRange P (ask x)) → OutcomeAsks P (on_object (object_at P value) (on_volatile k (λ x. Asks (ask x))))
-volatile_asks P value k ask right = on_some P (object_at P value) _ (λ x is. either_way (OutcomeAsks P) (nat_lt k x.fields.volatile) _ _ (λ lt m. right (x.volatiles + k) (let all = (all_there P value x is).volatile' in let less : k < x.fields.volatile = search (rules, lt) in omega arith)) tt)
+volatile_asks : (P : Bytecode) (value : ℤ) (k : ℕ) (ask : ℕ → Ask) → ((x : ℕ) → x < VOLATILES → AsksInRange P (ask x))
+    → OutcomeAsks P (on_object (object_at P value) (on_volatile k (λ x. Asks (ask x))))
+volatile_asks P value k ask right = on_some P (object_at P value) _
+    (λ x is. either_way (OutcomeAsks P) (nat_lt k x.fields.volatile) _ _
+    (λ lt m. right (x.volatiles + k) (let all = (all_there P value x is).volatile' in let less : k < x.fields.volatile = search (rules, lt)
+    in omega arith)) tt)
 
-monitor_asks : (P : Bytecode) (value : ℤ) (ask : ℕ → Ask) → ((o : ℕ) → NamesMonitor (ask o) → AsksInRange P (ask o)) → OutcomeAsks P (on_object (object_at P value) (λ x. Asks (ask x.monitor)))
+monitor_asks : (P : Bytecode) (value : ℤ) (ask : ℕ → Ask) → ((o : ℕ) → NamesMonitor (ask o) → AsksInRange P (ask o))
+    → OutcomeAsks P (on_object (object_at P value) (λ x. Asks (ask x.monitor)))
 monitor_asks P value ask right = on_some P (object_at P value) _ (λ x is. right x.monitor)
 
 joining_asks : (P : Bytecode) (t : ℕ) (a : ℤ) → OutcomeAsks P (joining t a)
-joining_asks P t (pos u) = either_way (OutcomeAsks P) (nat_lt u THREADS && not (u == t)) _ _ (λ both m. below (nat_lt u THREADS) (not (u == t)) refl both) tt where
-  below : (a b : Bool) → nat_lt u THREADS ≡ a → (a && b) ≡ true → u < THREADS
-  below true b p both = search (rules, p)
-  below false b p both = cc
+joining_asks P t (pos u) = either_way (OutcomeAsks P) (nat_lt u THREADS && not (u == t)) _ _
+    (λ both m. below (nat_lt u THREADS) (not (u == t)) refl both) tt where
+      below : (a b : Bool) → nat_lt u THREADS ≡ a → (a && b) ≡ true → u < THREADS
+      below true b p both = search (rules, p)
+      below false b p both = cc
 joining_asks P t (negsuc u) = tt
 
-row_asks : (P : Bytecode) (F : Function) (t : ℕ) (locals stack : List ℤ) (i : Instr) → NamesWhatIs P F i → OutcomeAsks P (row P t locals stack i)
+row_asks : (P : Bytecode) (F : Function) (t : ℕ) (locals stack : List ℤ) (i : Instr) → NamesWhatIs P F i
+    → OutcomeAsks P (row P t locals stack i)
 row_asks P F t locals stack (Push n) names = tt
 row_asks P F t locals stack Pop names = tt
 row_asks P F t locals stack Dup names = tt
@@ -140,7 +154,8 @@ ending_asks P ending c = by_monitor (held_monitor c.levels) where
   by_monitor None = λ m. tt
   by_monitor (Some o) = λ m. m
 
-handled_asks : (P : Bytecode) (h : Option Catch) (code : ℕ) (c otherwise : Config) → StageAsks P otherwise.stage → StageAsks P (handled_or h code c otherwise).stage
+handled_asks : (P : Bytecode) (h : Option Catch) (code : ℕ) (c otherwise : Config) → StageAsks P otherwise.stage
+    → StageAsks P (handled_or h code c otherwise).stage
 handled_asks P None code c otherwise other = other
 handled_asks P (Some h) code c otherwise other = λ m. tt
 
@@ -189,7 +204,8 @@ done_asks P i c (Asks ask) asks = asks
 ran_asks : (P : Bytecode) (F : Function) (c : Config) (i : Instr) → NamesWhatIs P F i → StageAsks P (ran P c (Some i)).stage
 ran_asks P F c i names = by_refusal (is_refused c.attempt c i) where
   by_refusal :
-      (b : Bool) → StageAsks P (if b then failed P (RaisesOn TX_STATE) c else done P i c (row P c.thread c.frame.locals c.frame.stack i)).stage
+      (b : Bool) → StageAsks P (if b then failed P (RaisesOn TX_STATE) c
+      else done P i c (row P c.thread c.frame.locals c.frame.stack i)).stage
   by_refusal true = failed_asks P (RaisesOn TX_STATE) c
   by_refusal false = done_asks P i c _ (row_asks P F c.thread c.frame.locals c.frame.stack i names)
 
@@ -209,7 +225,8 @@ started_asks P c fits is = by_steps (c.counted == c.limit) where
 
   by_steps :
       (b : Bool) →
-      StageAsks P (if b then failed P Spends c else ran P (record c { counted = c.counted + 1 }) (instr_at P c.frame.function c.frame.place)).stage
+      StageAsks P (if b then failed P Spends c else ran P (record c { counted = c.counted + 1 })
+      (instr_at P c.frame.function c.frame.place)).stage
   by_steps true = failed_asks P Spends c
   by_steps false = runs
 
@@ -217,7 +234,8 @@ again_asks : (P : Bytecode) (o : Option Attempt) (c : Config) → StageAsks P c.
 again_asks P None c kept = kept
 again_asks P (Some a) c kept = λ m. tt
 
-answered_asks : (P : Bytecode) (values : List ℤ) (c : Config) (f : Frame) (ask : Ask) → WaitsFor P f ask → StageAsks P (answered P values c (instr_at P f.function f.place)).stage
+answered_asks : (P : Bytecode) (values : List ℤ) (c : Config) (f : Frame) (ask : Ask) → WaitsFor P f ask
+    → StageAsks P (answered P values c (instr_at P f.function f.place)).stage
 answered_asks P values c f ask waits = rw waits.there (λ m. tt)
 
 tx_end_only : (n : ℕ) (P : Bytecode) (ask : Ask) → answers n ask Retry ≡ true → StageAsks P (Waits ask)
@@ -248,7 +266,8 @@ settled_asks P c ask (Raise code) n waits is fits = failed_asks P (RaisesOn code
 settled_asks P c ask Retry n waits is fits = again_asks P c.attempt c (rw is (tx_end_only n P ask fits))
 settled_asks P c ask (Start f a) n waits is fits = absurd (no_start n ask f a fits)
 
-dropped_asks : (P : Bytecode) (failure : Failure) (c : Config) (reply : Reply) → StageAsks P c.stage → StageAsks P (dropped P failure c reply).stage
+dropped_asks : (P : Bytecode) (failure : Failure) (c : Config) (reply : Reply) → StageAsks P c.stage
+    → StageAsks P (dropped P failure c reply).stage
 dropped_asks P (RaisesOn code) c (Raise other) kept = thrown_asks P other _ c.callers
 dropped_asks P (RaisesOn code) c Retry kept = again_asks P c.attempt c kept
 dropped_asks P (RaisesOn code) c Gone kept = thrown_asks P code _ c.callers

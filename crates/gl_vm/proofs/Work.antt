@@ -82,10 +82,14 @@ row_ends P t locals stack Halt = tt
 row_ends P t locals stack (Throw code) = tt
 row_ends P t locals stack Nop = tt
 row_ends P t locals stack (NewObject c) = tt
-row_ends P t locals stack (Get k) = on_some (Get k) (object_at P (top stack)) _ (λ x. either_way (OutcomeEnds (Get k)) (nat_lt k x.fields.plain) _ _ tt tt)
-row_ends P t locals stack (Put k) = on_some (Put k) (object_at P (second stack)) _ (λ x. either_way (OutcomeEnds (Put k)) (nat_lt k x.fields.plain) _ _ tt tt)
-row_ends P t locals stack (Vget k) = on_some (Vget k) (object_at P (top stack)) _ (λ x. either_way (OutcomeEnds (Vget k)) (nat_lt k x.fields.volatile) _ _ tt tt)
-row_ends P t locals stack (Vput k) = on_some (Vput k) (object_at P (second stack)) _ (λ x. either_way (OutcomeEnds (Vput k)) (nat_lt k x.fields.volatile) _ _ tt tt)
+row_ends P t locals stack (Get k) = on_some (Get k) (object_at P (top stack)) _
+    (λ x. either_way (OutcomeEnds (Get k)) (nat_lt k x.fields.plain) _ _ tt tt)
+row_ends P t locals stack (Put k) = on_some (Put k) (object_at P (second stack)) _
+    (λ x. either_way (OutcomeEnds (Put k)) (nat_lt k x.fields.plain) _ _ tt tt)
+row_ends P t locals stack (Vget k) = on_some (Vget k) (object_at P (top stack)) _
+    (λ x. either_way (OutcomeEnds (Vget k)) (nat_lt k x.fields.volatile) _ _ tt tt)
+row_ends P t locals stack (Vput k) = on_some (Vput k) (object_at P (second stack)) _
+    (λ x. either_way (OutcomeEnds (Vput k)) (nat_lt k x.fields.volatile) _ _ tt tt)
 row_ends P t locals stack Enter = on_some Enter (object_at P (top stack)) _ (λ x. tt)
 row_ends P t locals stack Exit = on_some Exit (object_at P (top stack)) _ (λ x. tt)
 row_ends P t locals stack (Fork f) = refl
@@ -101,7 +105,8 @@ commit_ends : (o : Option Attempt) (c : Config) (i : Instr) → i ≡ Commit →
 commit_ends (Some a) c i is allowed = refl
 commit_ends None c i is allowed = (let e : is_refused None c Commit ≡ false = (rw is at allowed) in cc)
 
-ends_what_runs : (c : Config) (i : Instr) (ask : Ask) → OutcomeEnds i (Asks ask) → is_refused c.attempt c i ≡ false → EndsWhatRuns ask c.attempt
+ends_what_runs : (c : Config) (i : Instr) (ask : Ask) → OutcomeEnds i (Asks ask) → is_refused c.attempt c i ≡ false
+    → EndsWhatRuns ask c.attempt
 ends_what_runs c i (TxEnd keep) ends allowed = commit_ends c.attempt c i ends allowed
 ends_what_runs c i Go ends allowed = tt
 ends_what_runs c i Begin ends allowed = tt
@@ -163,7 +168,8 @@ sum-after (AskPrint a) xs = omega arith
 sum-after AskInput xs = omega arith
 
 -- an ask that changes no level changes none by any reply
-told_none : (ask : Ask) (reply : Reply) (levels : List ℕ) → ((xs : List ℕ) → levels_after ask xs ≡ xs) → levels_told ask reply levels ≡ levels
+told_none : (ask : Ask) (reply : Reply) (levels : List ℕ) → ((xs : List ℕ) → levels_after ask xs ≡ xs) → levels_told ask reply levels
+    ≡ levels
 told_none ask Gone levels none = none levels
 told_none ask (Value a) levels none = refl
 told_none ask (Start f a) levels none = refl
@@ -183,26 +189,62 @@ record Leads (P : Bytecode) (c : Config) (n : ℕ) (d : Config) : Type 0 where
   runs : (main : ℕ) → state_at main d.stage ≡ Running
 
 more_room : (P : Bytecode) (c : Config) (m n : ℕ) (d : Config) → m ≤ n → Leads P c m d → Leads P c n d
-more_room P c m n d le l = record { limit = l.limit; counted = l.counted; little = (let e = l.little in omega arith); orderly = l.orderly; levels = l.levels; alone = l.alone; runs = l.runs }
+more_room P c m n d le l = record {
+  limit = l.limit;
+  counted = l.counted;
+  little = (let e = l.little in omega arith);
+  orderly = l.orderly;
+  levels = l.levels;
+  alone = l.alone;
+  runs = l.runs;
+}
 
 ending_leads : (P : Bytecode) (ending : Ending) (c : Config) → Leads P c 1 (ending_with ending c)
 ending_leads P ending c = by_monitor (held_monitor c.levels) refl where
   by_monitor : (o : Option ℕ) → held_monitor c.levels ≡ o → Leads P c 1 (record c { stage = leaving ending o })
-  by_monitor None is = record { limit = refl; counted = refl; little = omega arith; orderly = tt; levels = refl; alone = λ none. none; runs = λ main. refl }
+  by_monitor None is = record {
+    limit = refl;
+    counted = refl;
+    little = omega arith;
+    orderly = tt;
+    levels = refl;
+    alone = λ none. none;
+    runs = λ main. refl;
+  }
   by_monitor (Some o) is =
       let found = position-Some (λ n. nat_lt 0 n) c.levels o 0 is in
-      record { limit = refl; counted = refl; little = omega arith; orderly = record { there = found.0; entered = search (rules, found.1) }; levels = refl; alone = λ none. none; runs = λ main. refl }
+      record {
+        limit = refl;
+        counted = refl;
+        little = omega arith;
+        orderly = record { there = found.0; entered = search (rules, found.1) };
+        levels = refl;
+        alone = λ none. none;
+        runs = λ main. refl;
+      }
 
 handled_leads :
-    (P : Bytecode) (h : Option Catch) (code : ℕ) (c otherwise : Config) → Leads P c 3 otherwise → Leads P c 3 (handled_or h code c otherwise)
+    (P : Bytecode) (h : Option Catch) (code : ℕ) (c otherwise : Config) → Leads P c 3 otherwise
+    → Leads P c 3 (handled_or h code c otherwise)
 handled_leads P None code c otherwise other = other
-handled_leads P (Some h) code c otherwise other = record { limit = refl; counted = refl; little = omega arith; orderly = tt; levels = refl; alone = λ none. none; runs = λ main. refl }
+handled_leads P (Some h) code c otherwise other =
+    record { limit = refl; counted = refl; little = omega arith; orderly = tt; levels = refl; alone = λ none. none; runs = λ main. refl }
 
 thrown_leads : (P : Bytecode) (code : ℕ) (c : Config) (callers : List Frame) → Leads P c 3 (thrown P code c callers)
-thrown_leads P code c [] = handled_leads P (handler P c.frame) code c _ (more_room P c 1 3 _ (omega arith) (ending_leads P (Uncaught code) c))
+thrown_leads P code c [] = handled_leads P (handler P c.frame) code c _
+    (more_room P c 1 3 _ (omega arith) (ending_leads P (Uncaught code) c))
 thrown_leads P code c (caller ∷ callers) =
     let up = thrown_leads P code (record c { frame = caller; callers = callers }) callers in
-    handled_leads P (handler P c.frame) code c _ (record { limit = up.limit; counted = up.counted; little = up.little; orderly = up.orderly; levels = up.levels; alone = up.alone; runs = up.runs })
+    handled_leads P (handler P c.frame) code c _
+    (record {
+      limit = up.limit;
+      counted = up.counted;
+      little = up.little;
+      orderly = up.orderly;
+      levels = up.levels;
+      alone = up.alone;
+      runs = up.runs;
+    })
 
 failing_leads : (P : Bytecode) (code : ℕ) (c : Config) → Leads P c 3 (failing P (RaisesOn code) c)
 failing_leads P code c = thrown_leads P code c c.callers
@@ -211,17 +253,34 @@ failed_leads : (P : Bytecode) (code : ℕ) (c : Config) → Leads P c 4 (failed 
 failed_leads P code c = by_attempt c.attempt refl where
   by_attempt : (o : Option Attempt) → c.attempt ≡ o → Leads P c 4 (failed_in o P (RaisesOn code) c)
   by_attempt None is = more_room P c 3 4 _ (omega arith) (failing_leads P code c)
-  by_attempt (Some a) is = record { limit = refl; counted = refl; little = omega arith; orderly = rw is refl; levels = refl; alone = λ none. none; runs = λ main. refl }
+  by_attempt (Some a) is = record {
+    limit = refl;
+    counted = refl;
+    little = omega arith;
+    orderly = rw is refl;
+    levels = refl;
+    alone = λ none. none;
+    runs = λ main. refl;
+  }
 
 spent_leads : (P : Bytecode) (c : Config) → Leads P c 2 (failed P Spends c)
 spent_leads P c = by_attempt c.attempt refl where
   by_attempt : (o : Option Attempt) → c.attempt ≡ o → Leads P c 2 (failed_in o P Spends c)
   by_attempt None is = more_room P c 1 2 _ (omega arith) (ending_leads P Spent c)
-  by_attempt (Some a) is = record { limit = refl; counted = refl; little = omega arith; orderly = rw is refl; levels = refl; alone = λ none. none; runs = λ main. refl }
+  by_attempt (Some a) is = record {
+    limit = refl;
+    counted = refl;
+    little = omega arith;
+    orderly = rw is refl;
+    levels = refl;
+    alone = λ none. none;
+    runs = λ main. refl;
+  }
 
 returned_leads : (P : Bytecode) (a : ℤ) (c : Config) (callers : List Frame) → Leads P c 3 (returned P a c callers)
 returned_leads P a c [] = more_room P c 1 3 _ (omega arith) (ending_leads P Halted c)
-returned_leads P a c (caller ∷ callers) = record { limit = refl; counted = refl; little = omega arith; orderly = tt; levels = refl; alone = λ none. none; runs = λ main. refl }
+returned_leads P a c (caller ∷ callers) =
+    record { limit = refl; counted = refl; little = omega arith; orderly = tt; levels = refl; alone = λ none. none; runs = λ main. refl }
 
 called_leads : (P : Bytecode) (f : ℕ) (c : Config) → Leads P c 4 (called P f c)
 called_leads P f c = by_room (length c.callers == CALLERS) where
@@ -232,25 +291,55 @@ called_leads P f c = by_room (length c.callers == CALLERS) where
         stage = Runs;
       })
   by_room true = failed_leads P DEPTH c
-  by_room false = record { limit = refl; counted = refl; little = omega arith; orderly = tt; levels = refl; alone = λ none. none; runs = λ main. refl }
+  by_room false = record {
+    limit = refl;
+    counted = refl;
+    little = omega arith;
+    orderly = tt;
+    levels = refl;
+    alone = λ none. none;
+    runs = λ main. refl;
+  }
 
 done_leads :
     (P : Bytecode) (i : Instr) (c : Config) (o : Outcome) → OutcomeEnds i o → instr_at P c.frame.function c.frame.place ≡ Some i →
     is_refused c.attempt c i ≡ false → Leads P c 5 (done P i c o)
-done_leads P i c OutGoes ends is allowed = record { limit = refl; counted = refl; little = omega arith; orderly = tt; levels = refl; alone = λ none. none; runs = λ main. refl }
-done_leads P i c (Gives a) ends is allowed = record { limit = refl; counted = refl; little = omega arith; orderly = tt; levels = refl; alone = λ none. none; runs = λ main. refl }
-done_leads P i c (GivesTwo a b) ends is allowed = record { limit = refl; counted = refl; little = omega arith; orderly = tt; levels = refl; alone = λ none. none; runs = λ main. refl }
-done_leads P i c (Sets k a) ends is allowed = record { limit = refl; counted = refl; little = omega arith; orderly = tt; levels = refl; alone = λ none. none; runs = λ main. refl }
-done_leads P i c (Jumps to) ends is allowed = record { limit = refl; counted = refl; little = omega arith; orderly = tt; levels = refl; alone = λ none. none; runs = λ main. refl }
+done_leads P i c OutGoes ends is allowed =
+    record { limit = refl; counted = refl; little = omega arith; orderly = tt; levels = refl; alone = λ none. none; runs = λ main. refl }
+done_leads P i c (Gives a) ends is allowed =
+    record { limit = refl; counted = refl; little = omega arith; orderly = tt; levels = refl; alone = λ none. none; runs = λ main. refl }
+done_leads P i c (GivesTwo a b) ends is allowed =
+    record { limit = refl; counted = refl; little = omega arith; orderly = tt; levels = refl; alone = λ none. none; runs = λ main. refl }
+done_leads P i c (Sets k a) ends is allowed =
+    record { limit = refl; counted = refl; little = omega arith; orderly = tt; levels = refl; alone = λ none. none; runs = λ main. refl }
+done_leads P i c (Jumps to) ends is allowed =
+    record { limit = refl; counted = refl; little = omega arith; orderly = tt; levels = refl; alone = λ none. none; runs = λ main. refl }
 done_leads P i c (Calls f) ends is allowed = more_room P c 4 5 _ (omega arith) (called_leads P f c)
 done_leads P i c (Returns a) ends is allowed = more_room P c 3 5 _ (omega arith) (returned_leads P a c c.callers)
 done_leads P i c Halts ends is allowed = more_room P c 1 5 _ (omega arith) (ending_leads P Halted c)
 done_leads P i c (Raises code) ends is allowed = more_room P c 4 5 _ (omega arith) (failed_leads P code c)
 done_leads P i c (Asks ask) ends is allowed =
-    record { limit = refl; counted = refl; little = omega arith; orderly = record { instr = i; there = is; asks = ends; attempt = ends_what_runs c i ask ends allowed }; levels = refl; alone = λ none. none; runs = λ main. refl }
+    record {
+      limit = refl;
+      counted = refl;
+      little = omega arith;
+      orderly = record { instr = i; there = is; asks = ends; attempt = ends_what_runs c i ask ends allowed };
+      levels = refl;
+      alone = λ none. none;
+      runs = λ main. refl;
+    }
 
-ran_leads : (P : Bytecode) (c : Config) (o : Option Instr) → instr_at P c.frame.function c.frame.place ≡ o → c.stage ≡ Runs → Leads P c 5 (ran P c o)
-ran_leads P c None is runs = record { limit = refl; counted = refl; little = rw runs (omega arith); orderly = rw runs tt; levels = refl; alone = λ none. none; runs = λ main. rw runs refl }
+ran_leads : (P : Bytecode) (c : Config) (o : Option Instr) → instr_at P c.frame.function c.frame.place ≡ o → c.stage ≡ Runs
+    → Leads P c 5 (ran P c o)
+ran_leads P c None is runs = record {
+  limit = refl;
+  counted = refl;
+  little = rw runs (omega arith);
+  orderly = rw runs tt;
+  levels = refl;
+  alone = λ none. none;
+  runs = λ main. rw runs refl;
+}
 ran_leads P c (Some i) is runs = by_refusal (is_refused c.attempt c i) refl where
   by_refusal :
       (b : Bool) → is_refused c.attempt c i ≡ b →
@@ -295,8 +384,10 @@ started_falls P c reply within runs = by_steps (c.counted == c.limit) refl where
 
   by_steps :
       (b : Bool) → (c.counted == c.limit) ≡ b →
-      Falls P c Go reply (if b then failed P Spends c else ran P (record c { counted = c.counted + 1 }) (instr_at P c.frame.function c.frame.place))
-  by_steps true e = falls P c Go reply c 2 _ refl refl within (rw runs (omega arith)) (sym told) (λ begins none. none) (λ main. rw runs refl) (spent_leads P c)
+      Falls P c Go reply (if b then failed P Spends c
+      else ran P (record c { counted = c.counted + 1 }) (instr_at P c.frame.function c.frame.place))
+  by_steps true e = falls P c Go reply c 2 _ refl refl within (rw runs (omega arith)) (sym told) (λ begins none. none)
+      (λ main. rw runs refl) (spent_leads P c)
   by_steps false e =
       let differ : c.counted ≢ c.limit = search (rules, e) in
       let l = ran_leads P (record c { counted = c.counted + 1 }) (instr_at P c.frame.function c.frame.place) refl runs in
@@ -315,10 +406,27 @@ started_falls P c reply within runs = by_steps (c.counted == c.limit) refl where
 
 again_leads : (P : Bytecode) (o : Option Attempt) (c : Config) → is_some o ≡ true → Leads P c 3 (again o c)
 again_leads P None c some = cc
-again_leads P (Some a) c some = record { limit = refl; counted = refl; little = omega arith; orderly = tt; levels = refl; alone = λ none. refl; runs = λ main. refl }
+again_leads P (Some a) c some = record {
+  limit = refl;
+  counted = refl;
+  little = omega arith;
+  orderly = tt;
+  levels = refl;
+  alone = λ none. refl;
+  runs = λ main. refl;
+}
 
-answered_leads : (P : Bytecode) (values : List ℤ) (c : Config) (f : Frame) (i : Instr) → instr_at P f.function f.place ≡ Some i → Leads P c 3 (answered P values c (instr_at P f.function f.place))
-answered_leads P values c f i is = rw is (record { limit = refl; counted = refl; little = omega arith; orderly = tt; levels = refl; alone = λ none. none; runs = λ main. refl })
+answered_leads : (P : Bytecode) (values : List ℤ) (c : Config) (f : Frame) (i : Instr) → instr_at P f.function f.place ≡ Some i
+    → Leads P c 3 (answered P values c (instr_at P f.function f.place))
+answered_leads P values c f i is = rw is (record {
+  limit = refl;
+  counted = refl;
+  little = omega arith;
+  orderly = tt;
+  levels = refl;
+  alone = λ none. none;
+  runs = λ main. refl;
+})
 
 runs_attempt : (n : ℕ) (ask : Ask) (o : Option Attempt) → answers n ask Retry ≡ true → EndsWhatRuns ask o → is_some o ≡ true
 runs_attempt n (TxEnd keep) o is ends = ends
@@ -384,20 +492,24 @@ settled_falls P c ask Gone n within is orderly fits =
     let after = record c { levels = levels_after ask c.levels; attempt = attempt_after ask c } in
     let grown = sum-after ask c.levels in
     let five : due c ≡ sum c.levels + 5 = rw is refl in
-    falls P c ask Gone after 3 _ refl refl within (omega arith) refl (no_attempt ask c) (λ main. rw is (still_runs orderly.instr ask orderly.asks))
+    falls P c ask Gone after 3 _ refl refl within (omega arith) refl (no_attempt ask c)
+    (λ main. rw is (still_runs orderly.instr ask orderly.asks))
     (answered_leads P [] after c.frame orderly.instr orderly.there)
 settled_falls P c ask (Value a) n within is orderly fits =
     let five : due c ≡ sum c.levels + 5 = rw is refl in
-    falls P c ask (Value a) c 3 _ refl refl within (omega arith) refl (λ begins none. none) (λ main. rw is (still_runs orderly.instr ask orderly.asks))
+    falls P c ask (Value a) c 3 _ refl refl within (omega arith) refl (λ begins none. none)
+    (λ main. rw is (still_runs orderly.instr ask orderly.asks))
     (answered_leads P (a ∷ []) c c.frame orderly.instr orderly.there)
 settled_falls P c ask (Raise code) n within is orderly fits =
     let after = record c { attempt = attempt_after ask c } in
     let five : due c ≡ sum c.levels + 5 = rw is refl in
-    falls P c ask (Raise code) after 4 _ refl refl within (omega arith) refl (no_attempt ask c) (λ main. rw is (still_runs orderly.instr ask orderly.asks))
+    falls P c ask (Raise code) after 4 _ refl refl within (omega arith) refl (no_attempt ask c)
+    (λ main. rw is (still_runs orderly.instr ask orderly.asks))
     (failed_leads P code after)
 settled_falls P c ask Retry n within is orderly fits =
     let five : due c ≡ sum c.levels + 5 = rw is refl in
-    falls P c ask Retry c 3 _ refl refl within (omega arith) refl (λ begins none. none) (λ main. rw is (still_runs orderly.instr ask orderly.asks))
+    falls P c ask Retry c 3 _ refl refl within (omega arith) refl (λ begins none. none)
+    (λ main. rw is (still_runs orderly.instr ask orderly.asks))
     (again_leads P c.attempt c (runs_attempt n ask c.attempt fits orderly.attempt))
 settled_falls P c ask (Start f a) n within is orderly fits = absurd (no_start n ask f a fits)
 
@@ -407,29 +519,36 @@ dropped_falls :
 dropped_falls P (RaisesOn code) c (Raise other) within is some =
     let four : due c ≡ sum c.levels + 4 = rw is refl in
     let after = record c { attempt = None } in
-    falls P c (TxEnd false) (Raise other) after 3 _ refl refl within (omega arith) refl (λ begins none. refl) (λ main. rw is refl) (thrown_leads P other after c.callers)
+    falls P c (TxEnd false) (Raise other) after 3 _ refl refl within (omega arith) refl (λ begins none. refl) (λ main. rw is refl)
+    (thrown_leads P other after c.callers)
 dropped_falls P (RaisesOn code) c Retry within is some =
     let four : due c ≡ sum c.levels + 4 = rw is refl in
-    falls P c (TxEnd false) Retry c 3 _ refl refl within (omega arith) refl (λ begins none. none) (λ main. rw is refl) (again_leads P c.attempt c some)
+    falls P c (TxEnd false) Retry c 3 _ refl refl within (omega arith) refl (λ begins none. none) (λ main. rw is refl)
+    (again_leads P c.attempt c some)
 dropped_falls P (RaisesOn code) c Gone within is some =
     let four : due c ≡ sum c.levels + 4 = rw is refl in
     let after = record c { attempt = None } in
-    falls P c (TxEnd false) Gone after 3 _ refl refl within (omega arith) refl (λ begins none. refl) (λ main. rw is refl) (thrown_leads P code after c.callers)
+    falls P c (TxEnd false) Gone after 3 _ refl refl within (omega arith) refl (λ begins none. refl) (λ main. rw is refl)
+    (thrown_leads P code after c.callers)
 dropped_falls P (RaisesOn code) c (Value a) within is some =
     let four : due c ≡ sum c.levels + 4 = rw is refl in
     let after = record c { attempt = None } in
-    falls P c (TxEnd false) (Value a) after 3 _ refl refl within (omega arith) refl (λ begins none. refl) (λ main. rw is refl) (thrown_leads P code after c.callers)
+    falls P c (TxEnd false) (Value a) after 3 _ refl refl within (omega arith) refl (λ begins none. refl) (λ main. rw is refl)
+    (thrown_leads P code after c.callers)
 dropped_falls P (RaisesOn code) c (Start f a) within is some =
     let four : due c ≡ sum c.levels + 4 = rw is refl in
     let after = record c { attempt = None } in
-    falls P c (TxEnd false) (Start f a) after 3 _ refl refl within (omega arith) refl (λ begins none. refl) (λ main. rw is refl) (thrown_leads P code after c.callers)
+    falls P c (TxEnd false) (Start f a) after 3 _ refl refl within (omega arith) refl (λ begins none. refl) (λ main. rw is refl)
+    (thrown_leads P code after c.callers)
 dropped_falls P Spends c reply within is some =
     let two : due c ≡ sum c.levels + 2 = rw is refl in
     let after = record c { attempt = None } in
-    falls P c (TxEnd false) reply after 1 _ refl refl within (omega arith) (sym (told_none (TxEnd false) reply c.levels (λ xs. refl))) (λ begins none. refl) (λ main. rw is refl)
+    falls P c (TxEnd false) reply after 1 _ refl refl within (omega arith) (sym (told_none (TxEnd false) reply c.levels (λ xs. refl)))
+    (λ begins none. refl) (λ main. rw is refl)
     (ending_leads P Spent after)
 
-begun_falls : (P : Bytecode) (c : Config) (reply : Reply) → c.counted ≤ c.limit → c.stage ≡ Begins → takes_at Begins c.attempt reply ≡ true → Falls P c Begin reply (begun P reply c)
+begun_falls : (P : Bytecode) (c : Config) (reply : Reply) → c.counted ≤ c.limit → c.stage ≡ Begins → takes_at Begins c.attempt reply ≡ true
+    → Falls P c Begin reply (begun P reply c)
 begun_falls P c (Start f a) within is taken =
     let four : due c ≡ sum c.levels + 4 = rw is refl in
     record {
@@ -468,7 +587,8 @@ next_falls P c reply (Leaves ending o) is within orderly taken =
     let entered' = orderly.entered in
     let after = record c { levels = levels_after (AskExit o) c.levels } in
     let e = sum-set c.levels o (get_or c.levels o 0 - 1) there in
-    falls P c (AskExit o) reply after 1 _ refl refl within (omega arith) (left_told reply taken) (λ begins none. none) (λ main. rw is refl) (ending_leads P ending after)
+    falls P c (AskExit o) reply after 1 _ refl refl within (omega arith) (left_told reply taken) (λ begins none. none) (λ main. rw is refl)
+    (ending_leads P ending after)
   where
     left_told : (r : Reply) → is_go r ≡ true → levels_after (AskExit o) c.levels ≡ levels_told (AskExit o) r c.levels
     left_told Gone go = refl
@@ -489,7 +609,8 @@ next_falls P c reply (Ends ending) is within orderly taken =
 next_falls P c reply (Over ending) is within orderly taken = cc
 
 -- each answer that a machine takes brings it nearer to its end
-pub step_falls : (P : Bytecode) (c : Config) (reply : Reply) → IsOrderly P c → takes c reply ≡ true → Falls P c (ask_of c.stage) reply (next P c reply)
+pub step_falls : (P : Bytecode) (c : Config) (reply : Reply) → IsOrderly P c → takes c reply ≡ true
+    → Falls P c (ask_of c.stage) reply (next P c reply)
 step_falls P c reply orderly taken = next_falls P c reply c.stage refl orderly.within orderly.stage taken
 
 sum-zeros : (n : ℕ) → sum (replicate n 0) ≡ 0
@@ -523,16 +644,19 @@ replied_falls P p (Some reply) orderly = by_take (takes p.config reply) refl whe
 told_falls : (P : Bytecode) (p : Progress) (xs : List Exchange) → IsOrderly P p.config → Fell P p.config (length xs) (told P p xs)
 unfolding told
 told_falls P p [] orderly = (orderly, omega arith)
-told_falls P p (x ∷ xs) orderly = behind (told_one P x p) (replied_falls P p (reply_of p (ask_of p.config.stage) x) orderly) (λ q. told_falls P q xs) where
-  more : (q : Progress) (o : Option Progress) → due q.config + 1 + 4 * p.config.counted ≤ due p.config + 4 * q.config.counted → Fell P q.config (length xs) o → Fell P p.config (length (x ∷ xs)) o
-  more q None le fell = tt
-  more q (Some r) le fell = (fell.0, (let e = fell.1 in omega arith))
+told_falls P p (x ∷ xs) orderly = behind (told_one P x p) (replied_falls P p (reply_of p (ask_of p.config.stage) x) orderly)
+    (λ q. told_falls P q xs) where
+      more : (q : Progress) (o : Option Progress) → due q.config + 1 + 4 * p.config.counted ≤ due p.config + 4 * q.config.counted
+          → Fell P q.config (length xs) o → Fell P p.config (length (x ∷ xs)) o
+      more q None le fell = tt
+      more q (Some r) le fell = (fell.0, (let e = fell.1 in omega arith))
 
-  behind :
-      (o : Option Progress) → Fell P p.config 1 o → ((q : Progress) → IsOrderly P q.config → Fell P q.config (length xs) (told P q xs)) →
-      Fell P p.config (length (x ∷ xs)) (option_and_then (λ q. told P q xs) o)
-  behind None fell rest = tt
-  behind (Some q) fell rest = more q (told P q xs) fell.1 (rest q fell.0)
+      behind :
+          (o : Option Progress) → Fell P p.config 1 o
+          → ((q : Progress) → IsOrderly P q.config → Fell P q.config (length xs) (told P q xs)) →
+          Fell P p.config (length (x ∷ xs)) (option_and_then (λ q. told P q xs) o)
+      behind None fell rest = tt
+      behind (Some q) fell rest = more q (told P q xs) fell.1 (rest q fell.0)
 
 entries_few : (xs : List Exchange) → length (entries_of xs) ≤ length xs
 entries_few [] = omega arith

@@ -26,7 +26,8 @@ loop-step-preserved c =
     let total : length (old ++ verdict ∷ []) ≡ i + 1 = omega (arith, length-append old (verdict ∷ []), count) in
     let lines : lines_of (take (i + 1) all) (old ++ verdict ∷ []) ≡ before ++ line ∷ [] =
     ap (λ l. lines_of l (old ++ verdict ∷ [])) more ∙ lines_push (take i all) old s verdict (count ∙ sym long) in
-    let sound : AreSound (before ++ line ∷ []) = subst AreSound lines (front_sound all (i + 1) (old ++ verdict ∷ []) c.requires.trace (total ∙ sym longer)) in
+    let sound : AreSound (before ++ line ∷ []) =
+    subst AreSound lines (front_sound all (i + 1) (old ++ verdict ∷ []) c.requires.trace (total ∙ sym longer)) in
     let stepped = c.in_ok-verdict.ensures.right before sound right follows in
     rw items (
       c.step.ensures.ready,

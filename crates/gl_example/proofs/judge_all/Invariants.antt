@@ -7,4 +7,5 @@ use Rattle.gl_example.proofs.judge_all.Given as goal
 
 abbrev pub invariant-loop-step : goal.invariant-loop-step
 invariant-loop-step l =
-    IsReady l.detector × (length l.judged.items ≡ l.step-index) × AreVerdicts (lines_of (take l.step-index l.steps) l.judged.items) × Follows (lines_of (take l.step-index l.steps) l.judged.items) l.detector
+    IsReady l.detector × (length l.judged.items ≡ l.step-index) × AreVerdicts (lines_of (take l.step-index l.steps) l.judged.items)
+    × Follows (lines_of (take l.step-index l.steps) l.judged.items) l.detector

@@ -11,7 +11,8 @@ loop-value-preserved c =
     let more = one_more values (take i values) i v there refl in
     let pushed : c.push.new.self ≡ c.loop-value.inputs ++ v ∷ [] = search rules in (
       more.0,
-      pushed ∙ ap (λ l. l ++ v ∷ []) c.loop-value.invariant.1 ∙ append_assoc c.args.inputs.now (take i values) (v ∷ []) ∙ ap (λ l. c.args.inputs.now ++ l) more.1,
+      pushed ∙ ap (λ l. l ++ v ∷ []) c.loop-value.invariant.1 ∙ append_assoc c.args.inputs.now (take i values) (v ∷ [])
+          ∙ ap (λ l. c.args.inputs.now ++ l) more.1,
     )
 
 pub returns : goal.returns

@@ -19,7 +19,8 @@ loop-line-preserved-in_ok-map_err-2 c =
     let placed : IsPlaced before.counts.functions (INPUTS - length before.inputs) c.in-Ok.addition =
     subst (λ n. IsPlaced before.counts.functions (INPUTS - n) c.in-Ok.addition) have c.in-Ok.ensures.placed in
     reads_on table c.args.text.now before.parts before.inputs before.counts before.lines line.text c.next_line.new.self c.in-Ok.addition
-    c.add.new.parts c.give.new.inputs c.counted-counts.result before.invariant c.in-Some.ensures.line given says c.in-Ok.ensures.starts placed
+    c.add.new.parts c.give.new.inputs c.counted-counts.result before.invariant c.in-Some.ensures.line given says c.in-Ok.ensures.starts
+    placed
     (search rules) (search rules) (search rules)
 
 pub loop-line-preserved : goal.loop-line-preserved
@@ -36,5 +37,6 @@ loop-line-preserved c =
     let placed : IsPlaced before.counts.functions (INPUTS - length before.inputs) c.in-Ok.addition =
     subst (λ n. IsPlaced before.counts.functions (INPUTS - n) c.in-Ok.addition) have c.in-Ok.ensures.placed in
     reads_on table c.args.text.now before.parts before.inputs before.counts before.lines line.text c.next_line.new.self c.in-Ok.addition
-    c.add.new.parts c.give.new.inputs c.counted-counts.result before.invariant c.in-Some.ensures.line given says c.in-Ok.ensures.starts placed
+    c.add.new.parts c.give.new.inputs c.counted-counts.result before.invariant c.in-Some.ensures.line given says c.in-Ok.ensures.starts
+    placed
     (search rules) (search rules) (search rules)

@@ -7,7 +7,8 @@ use Rattle.gl_asm.proofs.definitions.note.Goals as goal
 pub returns-in_ok-insert : goal.returns-in_ok-insert
 returns-in_ok-insert c =
     let free : is_some (place_in c.args.index.now c.args.key) ≡ false = search rules in
-    let put : Updates (λ one other. key_cmp one.0 one.1.now other) c.args.index.now c.insert.new.self c.args.key (Some c.args.place) = search rules in
+    let put : Updates (λ one other. key_cmp one.0 one.1.now other) c.args.index.now c.insert.new.self c.args.key (Some c.args.place) =
+    search rules in
     noted_new c.args.index.now c.insert.new.self c.args.key c.args.place free put
 
 pub returns-else-not-contains_key : goal.returns-else-not-contains_key

@@ -16,7 +16,8 @@ loop-i-preserved c =
 pub returns-in-None : goal.returns-in-None
 returns-in-None c =
     let o = function_at c.args.program.now c.args.f in
-    no_more (catches_of o) c.loop-i.catches.items c.loop-i.i (past_of (catches_of o) c.loop-i.i (no_catch_there o c.loop-i.i c.in-None.ensures)) c.loop-i.invariant.1
+    no_more (catches_of o) c.loop-i.catches.items c.loop-i.i
+    (past_of (catches_of o) c.loop-i.i (no_catch_there o c.loop-i.i c.in-None.ensures)) c.loop-i.invariant.1
 
 pub returns : goal.returns
 returns c =

@@ -5,4 +5,5 @@ use Rattle.gl_asm.specs.Code.{catches_of}
 use Rattle.gl_asm.proofs.listing.catches_of.Given as goal
 
 abbrev pub invariant-loop-i : goal.invariant-loop-i
-invariant-loop-i l = (l.i ≤ length (catches_of (function_at l.program l.f))) × (l.catches.items ≡ take l.i (catches_of (function_at l.program l.f)))
+invariant-loop-i l = (l.i ≤ length (catches_of (function_at l.program l.f)))
+    × (l.catches.items ≡ take l.i (catches_of (function_at l.program l.f)))

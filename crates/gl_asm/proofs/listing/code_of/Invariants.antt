@@ -5,4 +5,5 @@ use Rattle.gl_asm.specs.Code.{code_of}
 use Rattle.gl_asm.proofs.listing.code_of.Given as goal
 
 abbrev pub invariant-loop-at : goal.invariant-loop-at
-invariant-loop-at l = (l.at ≤ length (code_of (function_at l.program l.f))) × (l.code.items ≡ take l.at (code_of (function_at l.program l.f)))
+invariant-loop-at l = (l.at ≤ length (code_of (function_at l.program l.f)))
+    × (l.code.items ≡ take l.at (code_of (function_at l.program l.f)))

@@ -7,5 +7,6 @@ use Rattle.gl_asm.specs.Words.{operand_of}
 use Rattle.gl_asm.proofs.listing.push_code.Given as goal
 
 abbrev pub invariant-loop-at : goal.invariant-loop-at
-invariant-loop-at l = (string_bytes l.out ≡ string_bytes l.initial.out ++ each_from (code_line l.main l.code l.catches) 0 (take l.at l.code))
+invariant-loop-at l = (string_bytes l.out ≡ string_bytes l.initial.out
+    ++ each_from (code_line l.main l.code l.catches) 0 (take l.at l.code))
     × ((k : ℕ) (i : Instr) → k < l.at → slice_get l.code k ≡ Some i → IsTyped (operand_of i))

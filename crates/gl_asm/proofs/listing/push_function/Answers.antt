@@ -15,4 +15,5 @@ returns-clause-text c =
     let top : string_bytes c.push_header.new.out ≡ start ++ header main f shape.0 shape.1 = search rules in
     let all : string_bytes c.push_body.new.out ≡ string_bytes c.push_header.new.out ++ body main code catches = search rules in
     all ∙ ap (λ s. s ++ body main code catches) top ∙ append_assoc start (header main f shape.0 shape.1) (body main code catches)
-    ∙ ap (λ s. start ++ s) (function_is (function_at c.args.program.now f) main f shape code catches c.in-Some.ensures (search rules) (search rules))
+    ∙ ap (λ s. start ++ s) (function_is (function_at c.args.program.now f) main f shape code catches c.in-Some.ensures (search rules)
+    (search rules))

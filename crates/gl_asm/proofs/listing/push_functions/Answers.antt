@@ -16,7 +16,8 @@ loop-f-preserved c =
     let below : f < length P.functions = omega arith in
     let there = function_there P.functions main f below in
     let more : string_bytes c.push_function.new.out ≡ string_bytes c.loop-f.out ++ text_of main f (function_at P f) = search rules in (
-      text_more (function_text main) P.functions f there.0 (string_bytes c.args.out.now) (string_bytes c.loop-f.out) (string_bytes c.push_function.new.out) there.1
+      text_more (function_text main) P.functions f there.0 (string_bytes c.args.out.now) (string_bytes c.loop-f.out)
+          (string_bytes c.push_function.new.out) there.1
           c.loop-f.invariant.0 (more ∙ ap (λ o. string_bytes c.loop-f.out ++ text_of main f o) there.1),
       λ k before. elim (cases_lt k f) [
         | inl earlier ↦ c.loop-f.invariant.1 k earlier

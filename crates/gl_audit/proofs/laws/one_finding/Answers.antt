@@ -14,5 +14,6 @@ returns c =
       once = once';
       finding =
           λ P inputs steps made x y kept.
-          one_finding P inputs steps made (λ k d below. apart' P inputs steps made k d kept below) (λ k d e below. once' P inputs steps made k d e kept below) x y;
+          one_finding P inputs steps made (λ k d below. apart' P inputs steps made k d kept below)
+          (λ k d e below. once' P inputs steps made k d e kept below) x y;
     }

@@ -21,9 +21,16 @@ variable_back o c d v less below within = omega arith
 volatile_back : (o c d v : ℕ) → o < MONITORS → c < CLASSES → d ≤ VARIABLES → first_volatile (laid o c d v) ≡ v
 volatile_back o c d v less below within = omega arith
 
-read_back : (P : Bytecode) (o c d v : ℕ) → o < MONITORS → c < CLASSES → d ≤ VARIABLES → object_in P (laid o c d v) ≡ object_of o d v (slice_get P.classes c)
+read_back : (P : Bytecode) (o c d v : ℕ) → o < MONITORS → c < CLASSES → d ≤ VARIABLES → object_in P (laid o c d v)
+    ≡ object_of o d v (slice_get P.classes c)
 read_back P o c d v less below within =
-    rw (number_back o c d v less, class_back o c d v less below, variable_back o c d v less below within, volatile_back o c d v less below within) refl
+    rw (
+      number_back o c d v less,
+      class_back o c d v less below,
+      variable_back o c d v less below within,
+      volatile_back o c d v less below
+          within,
+    ) refl
 
 one_more : (o c d v : ℕ) → 1 + o + CLASS_UNIT * c + VARIABLE_UNIT * d + VOLATILE_UNIT * v ≡ suc (laid o c d v)
 one_more o c d v = omega arith

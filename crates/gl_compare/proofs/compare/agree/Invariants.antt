@@ -5,4 +5,8 @@ use Rattle.gl_compare.proofs.Agreement.{AreGiven}
 use Rattle.gl_compare.proofs.compare.agree.Given as goal
 
 abbrev pub invariant-loop-thread : goal.invariant-loop-thread
-invariant-loop-thread l = record { ready : IsReady l.detector; given : AreClean l.trace → AreGiven (take l.thread-index l.trace) l.detector l.judge l.fn.tally l.tally }
+invariant-loop-thread l = record {
+  ready : IsReady l.detector;
+  given : AreClean l.trace
+      → AreGiven (take l.thread-index l.trace) l.detector l.judge l.fn.tally l.tally;
+}

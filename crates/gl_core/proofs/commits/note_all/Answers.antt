@@ -4,6 +4,8 @@ use Rattle.gl_core.proofs.commits.note_all.Goals as goal
 
 pub loop-var-preserved : goal.loop-var-preserved
 loop-var-preserved c = record {
-  noted = λ y. noted_on c.ids-var-items.result.now c.args.writes.now c.loop-var.var-index c.args.epoch.now c.loop-var.latests.items c.note_one.new.latests.items c.loop-var-test.true c.writes_to.result c.writes_to.ensures c.note_one.ensures.noted y ∙ c.loop-var.invariant.noted y;
+  noted = λ y. noted_on c.ids-var-items.result.now c.args.writes.now c.loop-var.var-index c.args.epoch.now c.loop-var.latests.items
+      c.note_one.new.latests.items c.loop-var-test.true c.writes_to.result c.writes_to.ensures c.note_one.ensures.noted y
+      ∙ c.loop-var.invariant.noted y;
   room = c.note_one.ensures.room;
 }

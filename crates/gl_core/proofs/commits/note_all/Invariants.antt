@@ -7,6 +7,8 @@ use Rattle.gl_core.proofs.commits.note_all.Given as goal
 
 abbrev pub invariant-loop-var : goal.invariant-loop-var
 invariant-loop-var l = record {
-  noted : (y : ℕ) → (if is_in y (drop l.var-index l.var-items) then noted (is_in y l.writes) l.epoch (latest_of l.latests.items y) else latest_of l.latests.items y) ≡ (if is_in y l.variables then noted (is_in y l.writes) l.epoch (latest_of l.fn.latests.items y) else latest_of l.fn.latests.items y);
+  noted : (y : ℕ) → (if is_in y (drop l.var-index l.var-items) then noted (is_in y l.writes) l.epoch (latest_of l.latests.items y)
+      else latest_of l.latests.items y) ≡ (if is_in y l.variables then noted (is_in y l.writes) l.epoch (latest_of l.fn.latests.items y)
+      else latest_of l.fn.latests.items y);
   room : VARIABLES ≤ vec_capacity l.latests;
 }

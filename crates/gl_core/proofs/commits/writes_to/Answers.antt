@@ -4,4 +4,8 @@ use Rattle.gl_core.proofs.Marking.{same_bool}
 use Rattle.gl_core.proofs.commits.writes_to.Goals as goal
 
 pub returns : goal.returns
-returns c = same_bool c.has.result (is_in c.args.var c.args.writes.now) (λ e. contains-is_in c.args.var c.args.writes.now (c.has.ensures.0 e), λ e. c.has.ensures.1 (is_in-contains c.args.var c.args.writes.now e))
+returns c = same_bool c.has.result (is_in c.args.var c.args.writes.now) (
+  λ e. contains-is_in c.args.var c.args.writes.now (c.has.ensures.0 e),
+  λ e. c.has.ensures.1
+      (is_in-contains c.args.var c.args.writes.now e),
+)

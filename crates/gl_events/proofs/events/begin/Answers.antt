@@ -10,4 +10,5 @@ returns-clause-starts c =
     let z = c.args.shared.now in
     let p = c.args.pass.now in
     let q = c.event.new.pass in
-    ok_map (λ (d : Done). IsDone z p q (Begin d.func) d.value d) (λ (d : Done). MayStart z.key.setting d.func) (λ d is. done_starts z p q d is) c.event.result c.event.ensures.done
+    ok_map (λ (d : Done). IsDone z p q (Begin d.func) d.value d) (λ (d : Done). MayStart z.key.setting d.func)
+    (λ d is. done_starts z p q d is) c.event.result c.event.ensures.done

@@ -14,5 +14,6 @@ returns-clause-owner c =
     let p = c.args.pass.now in
     let q = c.event.new.pass in
     let o = c.args.monitor in
-    ok_both (λ (d : Done). HasCode (call.Exit o) d) (λ (d : Done). IsDone z p q (act_of (call.Exit o) d) (value_of (call.Exit o) d) d) (λ (d : Done). d.code ≡ (if slice_index_or (levels_of p.own.mine) o 0 == 0 then not_owner else 0))
+    ok_both (λ (d : Done). HasCode (call.Exit o) d) (λ (d : Done). IsDone z p q (act_of (call.Exit o) d) (value_of (call.Exit o) d) d)
+    (λ (d : Done). d.code ≡ (if slice_index_or (levels_of p.own.mine) o 0 == 0 then not_owner else 0))
     (λ d code is. exit_code z p q o d c.requires.there code is) c.event.result c.event.ensures.code c.event.ensures.done

@@ -11,7 +11,9 @@ loop-var-preserved c =
     let l = c.loop-var in
     let near : l.var < VARIABLES = search rules in
     let k = c.lesser-least.ensures in (
-      loaded_more l.var c.args.pass.now l.pass c.hold_of.new.pass l.least c.hold_of.result c.lesser-least.result l.invariant.0 near c.hold_of.ensures.pass k.first k.second
-          (lesser_is l.var l.least c.hold_of.result c.lesser-least.result l.invariant.1 c.hold_of.type_inv k.second k.one) c.hold_of.ensures.risen,
+      loaded_more l.var c.args.pass.now l.pass c.hold_of.new.pass l.least c.hold_of.result c.lesser-least.result l.invariant.0 near
+          c.hold_of.ensures.pass k.first k.second
+          (lesser_is l.var l.least c.hold_of.result c.lesser-least.result l.invariant.1 c.hold_of.type_inv k.second k.one)
+          c.hold_of.ensures.risen,
       λ z. absurd (omega arith),
     )

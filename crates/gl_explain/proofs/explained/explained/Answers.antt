@@ -16,7 +16,8 @@ pub last_culprit-place-requires : goal.last_culprit-place-requires
 last_culprit-place-requires c = let s = c.requires.some in (s.0, (c.requires.tells.culprits c.args.var s.0).1 s.1)
 
 pub slice_bounds-owned-end : goal.slice_bounds-owned-end
-slice_bounds-owned-end c = sym (length-take-le c.last_culprit-place.result.place c.args.kept.now (let n = c.last_culprit-place.ensures.near in omega arith))
+slice_bounds-owned-end c = sym (length-take-le c.last_culprit-place.result.place c.args.kept.now (let n = c.last_culprit-place.ensures.near
+    in omega arith))
 
 pub owned-requires-2-clause-lines : goal.owned-requires-2-clause-lines
 owned-requires-2-clause-lines c = λ i k at. c.requires.lines i k (get_taken c.last_culprit-place.result.place c.args.kept.now i k at)
@@ -36,10 +37,13 @@ returns-clause-right c =
       place = r.place;
       there = map_there told kept r.place k (slice_get-get_or kept r.place c.index-kept-place.result e.near);
       culprit = last_same P Q (Some r.place) same e.last;
-      others = subst (λ n. Counts Q n (r.others + 1)) (sym (length-map kept told)) (counts_same P Q same (length kept) (r.others + 1) e.count);
+      others = subst (λ n. Counts Q n (r.others + 1)) (sym (length-map kept told))
+          (counts_same P Q same (length kept) (r.others + 1) e.count);
       owned = c.in_ok-owned_here.ensures;
-      other_owned = subst (λ b. AreOwned b k.told.thread c.in_ok-other_owned.other_owned.items) (told_taken r.place kept) c.in_ok-other_owned.ensures;
+      other_owned = subst (λ b. AreOwned b k.told.thread c.in_ok-other_owned.other_owned.items) (told_taken r.place kept)
+          c.in_ok-other_owned.ensures;
       handed = c.first_handed.ensures;
       learnt = last_told_same (IsPassed kept k.told.thread c.tick_of.result) L (told_of kept) c.last_learnt.result
-          (λ i. subst (λ n. IsPassed kept k.told.thread n i ↔ L i) (sym c.tick_of.ensures) (c.requires.tells.learnts k.told.thread i)) c.last_learnt.ensures;
+          (λ i. subst (λ n. IsPassed kept k.told.thread n i ↔ L i) (sym c.tick_of.ensures) (c.requires.tells.learnts k.told.thread i))
+          c.last_learnt.ensures;
     }

@@ -9,5 +9,7 @@ use Rattle.gl_explain.proofs.explainer.explain.Goals as goal
 pub returns-in_ok-explanation-in-Raised : goal.returns-in_ok-explanation-in-Raised
 returns-in_ok-explanation-in-Raised c = λ w.
     more_on_ok _ _ c.push_explanation.result
-    (λ e. subst (IsWritten (told_of c.args.kept.now ++ c.args.told.now ∷ [])) (sym e) (written_more (told_of c.args.kept.now) c.args.told.now c.in_ok-explanation-in-Raised.explanation (string_bytes c.args.text.now) (ap is_race c.in-Raised.is) c.in_ok-explanation-in-Raised.ensures.of c.in_ok-explanation-in-Raised.ensures.right w))
+    (λ e. subst (IsWritten (told_of c.args.kept.now ++ c.args.told.now ∷ [])) (sym e)
+    (written_more (told_of c.args.kept.now) c.args.told.now c.in_ok-explanation-in-Raised.explanation (string_bytes c.args.text.now)
+    (ap is_race c.in-Raised.is) c.in_ok-explanation-in-Raised.ensures.of c.in_ok-explanation-in-Raised.ensures.right w))
     c.push_explanation.ensures

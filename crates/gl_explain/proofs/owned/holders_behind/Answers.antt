@@ -12,4 +12,5 @@ loop-k-init c = record {
 }
 
 pub take-requires-clause-item : goal.take-requires-clause-item
-take-requires-clause-item c = c.requires.lines c.loop-k.k-index c.k-item.result (known_at c.args.kept.now c.loop-k.k-index c.k-item.result c.loop-k-test.true c.k-item.is)
+take-requires-clause-item c = c.requires.lines c.loop-k.k-index c.k-item.result
+    (known_at c.args.kept.now c.loop-k.k-index c.k-item.result c.loop-k-test.true c.k-item.is)

@@ -12,9 +12,11 @@ loop-i-preserved c =
     let there = known_at kept c.loop-i.i c.index-kept-i.result c.loop-i-test.true c.index-kept-i.is in
     elim c.if-is_passed.branch [
       | then-is_passed w ↦
-          (let p : P c.loop-i.i = (c.index-kept-i.result, there, c.is_passed.ensures.0 w.if-is_passed.true) in rw w.place-is (last_new P c.loop-i.i p))
+          (let p : P c.loop-i.i = (c.index-kept-i.result, there, c.is_passed.ensures.0 w.if-is_passed.true)
+          in rw w.place-is (last_new P c.loop-i.i p))
       | else-is_passed w ↦
-          (let never = passed_no kept c.args.thread c.args.known c.loop-i.i c.index-kept-i.result there c.is_passed.result c.is_passed.ensures w.if-is_passed.false in
+          (let never = passed_no kept c.args.thread c.args.known c.loop-i.i c.index-kept-i.result there c.is_passed.result
+          c.is_passed.ensures w.if-is_passed.false in
           rw w.place-is (last_on P c.loop-i.i c.loop-i.place never c.loop-i.invariant))
     ]
 
@@ -22,4 +24,5 @@ pub returns : goal.returns
 returns c =
     let kept = c.args.kept.now in
     let P : ℕ → Type 0 = λ i. IsPassed kept c.args.thread c.args.known i in
-    last_all P c.loop-i.i c.loop-i.place (λ i p. let near = passed_near kept c.args.thread c.args.known i p in let far = c.loop-i-test.false in omega arith) c.loop-i.invariant
+    last_all P c.loop-i.i c.loop-i.place (λ i p. let near = passed_near kept c.args.thread c.args.known i p
+    in let far = c.loop-i-test.false in omega arith) c.loop-i.invariant

@@ -22,7 +22,8 @@ loop-i-preserved c =
             few = rw w.count-is (let f = before.few in omega arith);
           })
       | else-is_unknown w ↦
-          (let never = unknown_no kept c.args.next.now c.args.var c.args.known.now c.loop-i.i c.index-kept-i.result there c.is_unknown.result c.is_unknown.ensures w.if-is_unknown.false in
+          (let never = unknown_no kept c.args.next.now c.args.var c.args.known.now c.loop-i.i c.index-kept-i.result there
+          c.is_unknown.result c.is_unknown.ensures w.if-is_unknown.false in
           record {
             last = rw w.place-is (last_on P c.loop-i.i c.loop-i.place never before.last);
             count = rw w.count-is (not_one c.loop-i.i c.loop-i.count before.count never);
@@ -34,4 +35,5 @@ pub returns-clause-last : goal.returns-clause-last
 returns-clause-last c =
     let kept = c.args.kept.now in
     let P : ℕ → Type 0 = λ i. IsUnknown kept c.args.next.now c.args.var c.args.known.now i in
-    last_all P c.loop-i.i c.loop-i.place (λ i p. let near = unknown_near kept c.args.next.now c.args.var c.args.known.now i p in let far = c.loop-i-test.false in omega arith) c.loop-i.invariant.last
+    last_all P c.loop-i.i c.loop-i.place (λ i p. let near = unknown_near kept c.args.next.now c.args.var c.args.known.now i p
+    in let far = c.loop-i-test.false in omega arith) c.loop-i.invariant.last

@@ -4,4 +4,8 @@ use Rattle.gl_explain.proofs.Truths.{same_bool}
 use Rattle.gl_explain.proofs.text.has.Goals as goal
 
 pub returns : goal.returns
-returns c = same_bool c.has.result (is_in c.args.var c.args.variables.now) (λ e. contains-is_in c.args.var c.args.variables.now (c.has.ensures.0 e), λ e. c.has.ensures.1 (is_in-contains c.args.var c.args.variables.now e))
+returns c = same_bool c.has.result (is_in c.args.var c.args.variables.now) (
+  λ e. contains-is_in c.args.var c.args.variables.now (c.has.ensures.0 e),
+  λ e. c.has.ensures.1
+      (is_in-contains c.args.var c.args.variables.now e),
+)

@@ -14,7 +14,8 @@ loop-used-init c =
     let es = map seen c.args.list.now in
     let made = c.in_ok-replay.ensures.outset in
     let fits : Fits P (fresh P c.args.thread c.args.steps) = subst (λ (r : Progress). Fits P r.config) made c.in_ok-replay.ensures.fits in
-    subst (λ (r : Progress). IsAt P c.args.steps c.args.thread es r 0) (sym made) (begins P c.args.steps c.args.thread es fits c.requires.right)
+    subst (λ (r : Progress). IsAt P c.args.steps c.args.thread es r 0) (sym made)
+    (begins P c.args.steps c.args.thread es fits c.requires.right)
 
 pub loop-used-preserved : goal.loop-used-preserved
 loop-used-preserved c =
@@ -24,7 +25,8 @@ loop-used-preserved c =
     let rest = ap (map seen) c.split_at.ensures.back ∙ drop_map seen i c.args.list.now in
     let turns : Turns P c.loop-used.replay (drop i es) c.turn.new.replay c.in-Some.used =
     subst (λ l. Turns P c.loop-used.replay l c.turn.new.replay c.in-Some.used) rest c.in-Some.ensures.turned in
-    turned P c.args.steps c.args.thread es c.loop-used.replay c.turn.new.replay i c.in-Some.used c.loop-used.invariant c.in-Some.ensures.few turns
+    turned P c.args.steps c.args.thread es c.loop-used.replay c.turn.new.replay i c.in-Some.used c.loop-used.invariant
+    c.in-Some.ensures.few turns
     c.in-Some.ensures.can
 
 pub loop-used-smaller : goal.loop-used-smaller

@@ -10,7 +10,8 @@ returns-then-is_whole c =
     let p = c.in_ok-replay.replay in
     let i = c.in_ok-replay.place in
     let rest = ap (map seen) c.split_at.ensures.back ∙ drop_map seen i c.args.list.now in
-    whole_runs c.args.program.now c.args.steps c.args.thread es p i c.in_ok-replay.ensures c.requires.over (subst (λ l. IsWhole p l) rest c.if-is_whole.ensures)
+    whole_runs c.args.program.now c.args.steps c.args.thread es p i c.in_ok-replay.ensures c.requires.over
+    (subst (λ l. IsWhole p l) rest c.if-is_whole.ensures)
 
 pub returns : goal.returns
 returns c =

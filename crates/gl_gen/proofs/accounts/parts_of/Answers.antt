@@ -9,6 +9,7 @@ pub loop-account-preserved : goal.loop-account-preserved
 loop-account-preserved c =
     let n = c.args.transfers in
     let account = c.loop-account.account in
-    let draft : List Function → Draft = λ Fs. record { classes = (record { plain = 8; volatile = 0 }) ∷ []; functions = Fs; main = Some 0 } in
+    let draft : List Function → Draft = λ Fs. record { classes = (record { plain = 8; volatile = 0 }) ∷ []; functions = Fs; main = Some 0 }
+    in
     c.in_ok-add_transfer.ensures ∙ ap (with_function 1 2 (transfer_code n account)) c.loop-account.invariant
     ∙ ap draft (map_with_more (transfer_function n) main_function account)

@@ -11,7 +11,8 @@ loop-line-preserved c =
     let line = c.in-Some.line in
     let reads : Reads text old.lines.given (line.text ∷ c.next_line.new.self.left) old.standing =
     subst (λ l. Reads text old.lines.given l old.standing) c.in-Some.ensures.line old.invariant.0 in (
-      numbered_on text line.text old.lines.given line.number c.next_line.new.self.given c.next_line.new.self.left old.standing c.read_line.new.self
+      numbered_on text line.text old.lines.given line.number c.next_line.new.self.given c.next_line.new.self.left old.standing
+          c.read_line.new.self
           c.in-Some.ensures.number.0 c.in-Some.ensures.number.1 reads c.in-Ok.ensures.ok,
       c.in-Ok.ensures.thread,
     )
@@ -23,7 +24,8 @@ overflow_add-first_line c =
     let line = c.in-Some.line in
     let reads : Reads text old.lines.given (line.text ∷ c.next_line.new.self.left) old.standing =
     subst (λ l. Reads text old.lines.given l old.standing) c.in-Some.ensures.line old.invariant.0 in
-    let few : line.number ≤ length text = number_few text line.text old.lines.given line.number c.next_line.new.self.left old.standing c.in-Some.ensures.number.0 reads in
+    let few : line.number ≤ length text = number_few text line.text old.lines.given line.number c.next_line.new.self.left old.standing
+    c.in-Some.ensures.number.0 reads in
     let number : c.number.result ≡ line.number = c.number.ensures in
     omega (arith, c.requires.last)
 
@@ -38,10 +40,12 @@ returns-in-Err-clause-fault c =
     let at : c.refused_at.result ≡ refused_at (first + (line.number - 1)) c.in-Err.refusal =
     c.refused_at.ensures ∙ ap (λ n. refused_at (first + (n - 1)) c.in-Err.refusal) c.number.ensures in
     subst (FaultsFirst (lines text) first) (sym at)
-    (numbered_fault text line.text first old.lines.given line.number c.next_line.new.self.left old.standing c.in-Err.refusal c.in-Some.ensures.number.0 reads c.in-Err.ensures.fault)
+    (numbered_fault text line.text first old.lines.given line.number c.next_line.new.self.left old.standing c.in-Err.refusal
+    c.in-Some.ensures.number.0 reads c.in-Err.ensures.fault)
 
 pub returns-clause-clean : goal.returns-clause-clean
 returns-clause-clean c =
     let text = c.args.bytes.now in
     let old = c.loop-line in
-    (read_all text old.lines.given old.standing (subst (λ l. Reads text old.lines.given l old.standing) c.in_default.ensures.line old.invariant.0)).1
+    (read_all text old.lines.given old.standing
+    (subst (λ l. Reads text old.lines.given l old.standing) c.in_default.ensures.line old.invariant.0)).1

@@ -24,5 +24,6 @@ loop-i-init c =
     let parts = c.args.looks.now in
     let first = c.in-Some.first in
     let there : slice_get parts 0 ≡ Some first = sym c.in-Some.ensures in
-    let text = push_first look_word parts first (string_bytes c.args.out.now) (string_bytes c.push_look.new.out) there c.in_ok-push_look.ensures.text in
+    let text = push_first look_word parts first (string_bytes c.args.out.now) (string_bytes c.push_look.new.out) there
+    c.in_ok-push_look.ensures.text in
     (text.0, text.1, all_first (λ (p : Look). IsValue p.value) parts first there c.push_look.ensures.typed)

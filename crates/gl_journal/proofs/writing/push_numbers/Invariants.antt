@@ -4,4 +4,5 @@ use Rattle.gl_journal.proofs.writing.push_numbers.Given as goal
 
 -- the parts so far
 abbrev pub invariant-loop-i : goal.invariant-loop-i
-invariant-loop-i l = (l.i ≤ length l.numbers) × (string_bytes l.out ≡ string_bytes l.fn.out ++ list_word (map number_word (take l.i l.numbers)))
+invariant-loop-i l = (l.i ≤ length l.numbers)
+    × (string_bytes l.out ≡ string_bytes l.fn.out ++ list_word (map number_word (take l.i l.numbers)))

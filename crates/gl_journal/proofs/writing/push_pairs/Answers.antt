@@ -24,5 +24,6 @@ loop-i-init c =
     let parts = c.args.pairs.now in
     let first = c.in-Some.first in
     let there : slice_get parts 0 ≡ Some first = sym c.in-Some.ensures in
-    let text = push_first pair_word parts first (string_bytes c.args.out.now) (string_bytes c.push_pair.new.out) there c.in_ok-push_pair.ensures.text in
+    let text = push_first pair_word parts first (string_bytes c.args.out.now) (string_bytes c.push_pair.new.out) there
+    c.in_ok-push_pair.ensures.text in
     (text.0, text.1, all_first (λ (p : Pair). IsValue p.value) parts first there c.push_pair.ensures.typed)

@@ -28,7 +28,8 @@ loop-thread-preserved c =
       | in-Some+in_ok-push_list w ↦
           let es = w.in-Some.entries.now in (
             ap string_bytes w.out-is
-                ∙ thread_with t R es head old (string_bytes w.push_list.new.out) rises w.in-Some.ensures c.loop-thread.invariant.0 w.in_ok-push_list.ensures.text,
+                ∙ thread_with t R es head old (string_bytes w.push_list.new.out) rises w.in-Some.ensures c.loop-thread.invariant.0
+                w.in_ok-push_list.ensures.text,
             typed_with t R es rises w.in-Some.ensures c.loop-thread.invariant.1 w.in_ok-push_list.ensures.typed,
           )
       | in_default w ↦ (
@@ -54,6 +55,7 @@ pub returns-clause-read : goal.returns-clause-read
 returns-clause-read c =
     let R = c.args.record_of.now in
     let last : c.loop-thread.thread ≡ THREADS = omega arith in
-    let typed : AllEntries IsEntryTyped R = subst (AllEntries IsEntryTyped) (ap (λ t. below t R) last ∙ all_below R c.keeps.ensures.1) c.loop-thread.invariant.1 in
+    let typed : AllEntries IsEntryTyped R = subst (AllEntries IsEntryTyped) (ap (λ t. below t R) last ∙ all_below R c.keeps.ensures.1)
+    c.loop-thread.invariant.1 in
     λ stamped. subst (λ text. IsRecordText text c.args.steps R) (sym (returns-clause-text c))
     (text_means c.args.steps R (record { within = stamped; kept = c.keeps.ensures; typed = typed }))

@@ -14,5 +14,6 @@ first_wrong-requires c =
 pub returns : goal.returns
 returns c =
     let made = c.args.made.now in
-    if_found _ _ (λ found is. found_or (Numbered (lists_of made)) (NumberFailsAt made) (numbered_exactly made c.keeps.ensures c.requires.form).1 found
+    if_found _ _ (λ found is. found_or (Numbered (lists_of made)) (NumberFailsAt made)
+    (numbered_exactly made c.keeps.ensures c.requires.form).1 found
     (found_of_variables _ (λ x. draws_of x made) c.in_ok-draws.ensures found is)) c.first_wrong.result c.first_wrong.ensures

@@ -18,4 +18,5 @@ returns c =
     let made = c.args.made.now in
     let are : map use_seen c.deref.result.now ≡ positions_of made = ap (map use_seen) c.deref.ensures.value ∙ c.in_ok-uses.ensures in
     if_found _ _ (λ found is. let P : List Use → Type 0 = λ us. IsFound (UseFailsAt us) found in
-    found_or (Listed (lists_of made)) (PositionFailsAt made) (listed_exactly made c.keeps.ensures).1 found (subst P are is)) c.first_wrong.result c.first_wrong.ensures
+    found_or (Listed (lists_of made)) (PositionFailsAt made) (listed_exactly made c.keeps.ensures).1 found (subst P are is))
+    c.first_wrong.result c.first_wrong.ensures

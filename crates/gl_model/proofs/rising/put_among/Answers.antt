@@ -9,7 +9,8 @@ loop-j-preserved g c =
     let n : l.j < length l.parts = omega arith in
     let le : c.args.i ≤ l.j = omega arith in
     record {
-      moved = moved_more l.parts c.args.parts.now c.args.i l.j c.args.x l.carried c.index-parts-j.result le n l.invariant.long c.index-parts-j.is l.invariant.kept l.invariant.moved;
+      moved = moved_more l.parts c.args.parts.now c.args.i l.j c.args.x l.carried c.index-parts-j.result le n l.invariant.long
+          c.index-parts-j.is l.invariant.kept l.invariant.moved;
       kept = kept_more l.parts c.args.parts.now l.j l.carried l.invariant.kept;
       long = length-set l.parts l.j l.carried ∙ l.invariant.long;
     }

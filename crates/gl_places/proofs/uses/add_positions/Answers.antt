@@ -9,4 +9,5 @@ loop-i-preserved c =
     let list = c.args.list.now in
     let entry = c.index-list-i in
     entry_more positions_on c.args.thread c.loop-i.i (map seen list) (seen entry.result) (map use_seen c.args.uses.now.items)
-    (map use_seen c.loop-i.uses.items) _ (entry_at list c.loop-i.i entry.result entry.is c.loop-i-test.true) c.in_ok-add_position.ensures c.loop-i.invariant
+    (map use_seen c.loop-i.uses.items) _ (entry_at list c.loop-i.i entry.result entry.is c.loop-i-test.true) c.in_ok-add_position.ensures
+    c.loop-i.invariant

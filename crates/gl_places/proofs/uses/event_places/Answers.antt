@@ -23,7 +23,8 @@ pub index_mut-requires : goal.index_mut-requires
 index_mut-requires c =
     let made = c.args.made.now in
     let k = c.loop-event.event-index in
-    let are : map use_seen c.deref-event-items.result.now ≡ positions_of made = ap (map use_seen) c.deref-event-items.ensures.value ∙ c.in_ok-uses.ensures in
+    let are : map use_seen c.deref-event-items.result.now ≡ positions_of made = ap (map use_seen) c.deref-event-items.ensures.value
+    ∙ c.in_ok-uses.ensures in
     let at = seen_at c.deref-event-items.result.now (positions_of made) k no_use are c.loop-event-test.true in
     let less = within made c.keeps.ensures c.requires.listed k _ _ at in
     let long = c.loop-event.invariant.long in
@@ -34,7 +35,8 @@ pub loop-event-preserved : goal.loop-event-preserved
 loop-event-preserved c =
     let made = c.args.made.now in
     let k = c.loop-event.event-index in
-    let are : map use_seen c.deref-event-items.result.now ≡ positions_of made = ap (map use_seen) c.deref-event-items.ensures.value ∙ c.in_ok-uses.ensures in
+    let are : map use_seen c.deref-event-items.result.now ≡ positions_of made = ap (map use_seen) c.deref-event-items.ensures.value
+    ∙ c.in_ok-uses.ensures in
     let at = seen_at c.deref-event-items.result.now (positions_of made) k no_use are c.loop-event-test.true in
     put_more made c.keeps.ensures c.requires.listed k _ _ (map seen c.loop-event.places.items) _ c.loop-event.invariant at
     (map-set seen c.loop-event.places.items _ _)
@@ -42,7 +44,9 @@ loop-event-preserved c =
 pub returns : goal.returns
 returns c =
     let made = c.args.made.now in
-    let are : map use_seen c.deref-event-items.result.now ≡ positions_of made = ap (map use_seen) c.deref-event-items.ensures.value ∙ c.in_ok-uses.ensures in
+    let are : map use_seen c.deref-event-items.result.now ≡ positions_of made = ap (map use_seen) c.deref-event-items.ensures.value
+    ∙ c.in_ok-uses.ensures in
     let long = all_uses c.deref-event-items.result.now (positions_of made) are in
     let past = c.loop-event-test.false in
-    put_all made c.keeps.ensures c.requires.listed c.loop-event.event-index (map seen c.loop-event.places.items) (omega arith) c.loop-event.invariant
+    put_all made c.keeps.ensures c.requires.listed c.loop-event.event-index (map seen c.loop-event.places.items) (omega arith)
+    c.loop-event.invariant

@@ -30,4 +30,5 @@ loop-thread-preserved c =
 pub returns : goal.returns
 returns c =
     let made = c.args.made.now in
-    c.loop-thread.invariant ∙ ap (λ n. uses_of positions_on (below n made)) (omega arith) ∙ ap (uses_of positions_on) (all_below made c.keeps.ensures.1)
+    c.loop-thread.invariant ∙ ap (λ n. uses_of positions_on (below n made)) (omega arith)
+    ∙ ap (uses_of positions_on) (all_below made c.keeps.ensures.1)

@@ -4,4 +4,5 @@ use Rattle.gl_places.specs.Places.{AreEventPlaces, seen}
 use Rattle.gl_raised.proofs.fault.race_fault.Goals as goal
 
 pub fault_by_places-requires-clause-places : goal.fault_by_places-requires-clause-places
-fault_by_places-requires-clause-places c = subst (λ ps. AreEventPlaces (lists_of c.args.made.now) (map seen ps)) (sym c.deref.ensures.value) c.in_ok-places.ensures
+fault_by_places-requires-clause-places c =
+    subst (λ ps. AreEventPlaces (lists_of c.args.made.now) (map seen ps)) (sym c.deref.ensures.value) c.in_ok-places.ensures

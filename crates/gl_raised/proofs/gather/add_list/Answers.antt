@@ -16,13 +16,19 @@ loop-index-preserved c =
     let e = seen c.index-list-index.result in
     let at = c.block_after-block.result in
     let place : StoredPlace = record { thread = t; index = i } in
-    let there : slice_get (map seen list) i ≡ Some e = seen_at list i c.index-list-index.result c.loop-index-test.true ∙ ap (λ x. Some (seen x)) (sym c.index-list-index.is) in
+    let there : slice_get (map seen list) i ≡ Some e = seen_at list i c.index-list-index.result c.loop-index-test.true
+    ∙ ap (λ x. Some (seen x)) (sym c.index-list-index.is) in
     let block = c.block_after-block.ensures ∙ block_more (map seen list) i c.loop-index.block e there c.loop-index.invariant.block in
-    let claims : c.add_claim.new.self.claims.items ≡ c.loop-index.all.claims.items ++ claims_of place at e = c.in_ok-add_claim.ensures.claims ∙ ap (λ l. l ++ claims_of place at e) c.in_ok-add_accesses.ensures.claims in
-    let accesses : c.add_claim.new.self.accesses.items ≡ c.loop-index.all.accesses.items ++ accesses_of (length c.loop-index.all.claims.items) t at e = c.in_ok-add_claim.ensures.accesses ∙ c.in_ok-add_accesses.ensures.accesses in record {
+    let claims : c.add_claim.new.self.claims.items ≡ c.loop-index.all.claims.items
+    ++ claims_of place at e = c.in_ok-add_claim.ensures.claims
+    ∙ ap (λ l. l ++ claims_of place at e) c.in_ok-add_accesses.ensures.claims in
+    let accesses : c.add_claim.new.self.accesses.items ≡ c.loop-index.all.accesses.items
+    ++ accesses_of (length c.loop-index.all.claims.items) t at e = c.in_ok-add_claim.ensures.accesses
+    ∙ c.in_ok-add_accesses.ensures.accesses in record {
       block = block;
       gathered = λ R same start. rw (claims, accesses) (
-          gathered_more R t i at place refl refl refl e (ap (λ l. slice_get l i) same ∙ there) (block ∙ ap (λ l. block_before l (i + 1)) (sym same)) c.loop-index.all.claims.items
+          gathered_more R t i at place refl refl refl e (ap (λ l. slice_get l i) same ∙ there) (block
+          ∙ ap (λ l. block_before l (i + 1)) (sym same)) c.loop-index.all.claims.items
           c.loop-index.all.accesses.items (c.loop-index.invariant.gathered R same start)
           );
     }
@@ -30,5 +36,7 @@ loop-index-preserved c =
 pub returns : goal.returns
 returns c R same start =
     let n = length-map c.args.list.now seen in
-    let whole : length (R c.args.thread) ≤ c.loop-index.index = (let a = c.loop-index-test.false in let l = ap length same in omega arith) in
-    next_thread R c.args.thread c.loop-index.index c.loop-index.all.claims.items c.loop-index.all.accesses.items whole (c.loop-index.invariant.gathered R same start)
+    let whole : length (R c.args.thread) ≤ c.loop-index.index =
+    (let a = c.loop-index-test.false in let l = ap length same in omega arith) in
+    next_thread R c.args.thread c.loop-index.index c.loop-index.all.claims.items c.loop-index.all.accesses.items whole
+    (c.loop-index.invariant.gathered R same start)

@@ -7,6 +7,7 @@ abbrev pub invariant-loop-index : goal.invariant-loop-index
 invariant-loop-index l = record {
   block : l.block ≡ block_before (map seen l.list) l.index;
   gathered :
-      (R : ℕ → List Entry) → R l.thread ≡ map seen l.list → AreGathered R (record { thread = l.thread; index = 0 }) l.fn.all.claims.items l.fn.all.accesses.items →
+      (R : ℕ → List Entry) → R l.thread ≡ map seen l.list
+      → AreGathered R (record { thread = l.thread; index = 0 }) l.fn.all.claims.items l.fn.all.accesses.items →
       AreGathered R (record { thread = l.thread; index = l.index }) l.all.claims.items l.all.accesses.items;
 }

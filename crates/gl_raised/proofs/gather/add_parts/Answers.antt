@@ -13,6 +13,7 @@ loop-i-preserved c =
     let pushed : c.push.new.self.items ≡ c.loop-i.accesses.items ++ f c.in-Some.number ∷ [] = search rules in record {
       within = omega (arith, slice_get_within numbers c.loop-i.i c.in-Some.number there);
       so_far =
-          pushed ∙ ap (λ l. l ++ f c.in-Some.number ∷ []) c.loop-i.invariant.so_far ∙ append_assoc c.args.accesses.now.items (map f (take c.loop-i.i numbers)) (f c.in-Some.number ∷ [])
+          pushed ∙ ap (λ l. l ++ f c.in-Some.number ∷ []) c.loop-i.invariant.so_far
+          ∙ append_assoc c.args.accesses.now.items (map f (take c.loop-i.i numbers)) (f c.in-Some.number ∷ [])
           ∙ ap (λ l. c.args.accesses.now.items ++ l) (sym (taken_more f numbers c.loop-i.i c.in-Some.number there));
     }

@@ -11,6 +11,9 @@ loop-thread-preserved c =
     let R = lists_of c.args.made.now in
     let t = c.loop-thread.thread in
     elim c.match-thread.branch [
-      | in-Some+in_ok-add_list w ↦ (let same : R t ≡ map seen w.in-Some.list.now = ap (λ o. unwrap_or o []) w.in-Some.ensures in rw w.all-is (w.in_ok-add_list.ensures R same c.loop-thread.invariant))
-      | in_default w ↦ (let none : R t ≡ [] = ap (λ o. unwrap_or o []) w.in_default.ensures in rw w.all-is (next_thread R t 0 c.loop-thread.all.claims.items c.loop-thread.all.accesses.items (let l = ap length none in omega arith) c.loop-thread.invariant))
+      | in-Some+in_ok-add_list w ↦ (let same : R t ≡ map seen w.in-Some.list.now = ap (λ o. unwrap_or o []) w.in-Some.ensures
+          in rw w.all-is (w.in_ok-add_list.ensures R same c.loop-thread.invariant))
+      | in_default w ↦ (let none : R t ≡ [] = ap (λ o. unwrap_or o []) w.in_default.ensures
+          in rw w.all-is (next_thread R t 0 c.loop-thread.all.claims.items c.loop-thread.all.accesses.items (let l = ap length none
+          in omega arith) c.loop-thread.invariant))
     ]

@@ -5,4 +5,5 @@ use Rattle.gl_raised.proofs.judge.is_racy.Goals as goal
 pub returns : goal.returns
 returns c us i threads know =
     let a = c.args.access.now in
-    racy_means c.args.known.now us i a c.args.lasts.now _ c.fails.result (slice_get-get_or c.args.lasts.now a.var _ c.requires.variable) threads know c.fails.ensures
+    racy_means c.args.known.now us i a c.args.lasts.now _ c.fails.result (slice_get-get_or c.args.lasts.now a.var _ c.requires.variable)
+    threads know c.fails.ensures

@@ -19,7 +19,8 @@ loop-access-preserved c =
     let i = c.loop-access.access-index in
     let so_far = c.loop-access.invariant in
     let here = slice_get-get_or us i _ c.loop-access-test.true in
-    let racy = c.is_racy-racy.ensures us i (threads_of (length known) us c.requires.within) (subst (AreLasts us i) (sym c.deref.ensures.value) so_far.lasts) in record {
+    let racy = c.is_racy-racy.ensures us i (threads_of (length known) us c.requires.within)
+    (subst (AreLasts us i) (sym c.deref.ensures.value) so_far.lasts) in record {
       variables = c.note_last.ensures.long ∙ so_far.variables;
       claims = c.note_racy.ensures.long ∙ so_far.claims;
       lasts = c.note_last.ensures.lasts us i here so_far.lasts;
@@ -28,5 +29,6 @@ loop-access-preserved c =
 
 pub returns-clause-least : goal.returns-clause-least
 returns-clause-least c =
-    let all : c.loop-access.access-index ≡ length c.args.accesses.now = (let a = c.loop-access-test.false in let b = c.loop-access.auto.access-index-end in omega arith) in
+    let all : c.loop-access.access-index ≡ length c.args.accesses.now =
+    (let a = c.loop-access-test.false in let b = c.loop-access.auto.access-index-end in omega arith) in
     subst (λ n. AreLeast c.args.known.now c.args.accesses.now n c.loop-access.least.items) all c.loop-access.invariant.least

@@ -13,10 +13,13 @@ loop-access-preserved c =
       variables = c.hand_on.ensures.long ∙ so_far.variables;
       claims = c.learn_one.ensures.long ∙ so_far.claims;
       learned = c.hand_on.ensures.learned us i here so_far.learned;
-      known = c.learn_one.ensures.known rows us i c.args.known.now.items here (subst (VariablesKnow rows us i) (sym c.deref.ensures.value) so_far.learned) so_far.known;
+      known = c.learn_one.ensures.known rows us i c.args.known.now.items here
+          (subst (VariablesKnow rows us i) (sym c.deref.ensures.value) so_far.learned) so_far.known;
     }
 
 pub returns-clause-known : goal.returns-clause-known
 returns-clause-known c =
-    let all : c.loop-access.access-index ≡ length c.args.accesses.now = (let a = c.loop-access-test.false in let b = c.loop-access.auto.access-index-end in omega arith) in
-    subst (λ n. ClaimsKnow c.args.rows.now c.args.accesses.now n c.args.known.now.items c.loop-access.known.items) all c.loop-access.invariant.known
+    let all : c.loop-access.access-index ≡ length c.args.accesses.now =
+    (let a = c.loop-access-test.false in let b = c.loop-access.auto.access-index-end in omega arith) in
+    subst (λ n. ClaimsKnow c.args.rows.now c.args.accesses.now n c.args.known.now.items c.loop-access.known.items) all
+    c.loop-access.invariant.known

@@ -6,7 +6,10 @@ pub returns : goal.returns
 returns c =
     let e = c.args.e.now in
     let f = c.args.f.now in
-    synchronizes_by e f c.are_one-monitor.result c.are_one-volatile.result c.forks-fork.result c.begins-begin.result c.ends-end.result c.joins-join.result c.commits-commit.result
-    (shared c.unlocked.result c.locked.result (Unlocks e.event) (Locks f.event) c.are_one-monitor.result c.unlocked.ensures c.locked.ensures c.are_one-monitor.ensures)
-    (shared c.written.result c.read.result (WritesVolatile e.event) (ReadsVolatile f.event) c.are_one-volatile.result c.written.ensures c.read.ensures c.are_one-volatile.ensures)
+    synchronizes_by e f c.are_one-monitor.result c.are_one-volatile.result c.forks-fork.result c.begins-begin.result c.ends-end.result
+    c.joins-join.result c.commits-commit.result
+    (shared c.unlocked.result c.locked.result (Unlocks e.event) (Locks f.event) c.are_one-monitor.result c.unlocked.ensures
+    c.locked.ensures c.are_one-monitor.ensures)
+    (shared c.written.result c.read.result (WritesVolatile e.event) (ReadsVolatile f.event) c.are_one-volatile.result c.written.ensures
+    c.read.ensures c.are_one-volatile.ensures)
     c.forks-fork.ensures c.begins-begin.ensures c.ends-end.ensures c.joins-join.ensures c.commits-commit.ensures

@@ -5,4 +5,5 @@ use Rattle.gl_reference.specs.Races.{RacesWith}
 use Rattle.gl_reference.proofs.races.is_racy.Given as goal
 
 abbrev pub invariant-loop-earlier : goal.invariant-loop-earlier
-invariant-loop-earlier l = (i : ℕ) (p : Performed) → i < l.earlier-index → slice_get l.performed i ≡ Some p → RacesWith l.events l.next p → ⊥
+invariant-loop-earlier l = (i : ℕ) (p : Performed) → i < l.earlier-index → slice_get l.performed i ≡ Some p → RacesWith l.events l.next p
+    → ⊥

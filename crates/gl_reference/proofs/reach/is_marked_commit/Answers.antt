@@ -7,4 +7,7 @@ use Rattle.gl_reference.proofs.reach.is_marked_commit.Goals as goal
 pub returns : goal.returns
 returns c =
     let n : c.args.p < length c.args.events.now = omega arith in
-    marked_here c.args.events.now c.args.marks.now (IsCommitWith c.args.variables.now) c.args.p (get_or c.args.marks.now c.args.p false) c.is_commit_with-commit.result c.index-events-p.result (slice_get-get_or c.args.marks.now c.args.p false c.requires.here) (slice_get_read c.args.events.now (length c.args.events.now) c.args.p c.index-events-p.result refl n c.index-events-p.is) c.is_commit_with-commit.ensures
+    marked_here c.args.events.now c.args.marks.now (IsCommitWith c.args.variables.now) c.args.p (get_or c.args.marks.now c.args.p false)
+    c.is_commit_with-commit.result c.index-events-p.result (slice_get-get_or c.args.marks.now c.args.p false c.requires.here)
+    (slice_get_read c.args.events.now (length c.args.events.now) c.args.p c.index-events-p.result refl n c.index-events-p.is)
+    c.is_commit_with-commit.ensures

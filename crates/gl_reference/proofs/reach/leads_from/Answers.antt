@@ -7,4 +7,7 @@ use Rattle.gl_reference.proofs.reach.leads_from.Goals as goal
 pub returns : goal.returns
 returns c =
     let n : c.args.p < length c.args.events.now = omega arith in
-    marked_here c.args.events.now c.args.marks.now (λ r. Leads r c.args.s.now) c.args.p (get_or c.args.marks.now c.args.p false) c.leads-led.result c.index-events-p.result (slice_get-get_or c.args.marks.now c.args.p false c.requires.here) (slice_get_read c.args.events.now (length c.args.events.now) c.args.p c.index-events-p.result refl n c.index-events-p.is) c.leads-led.ensures
+    marked_here c.args.events.now c.args.marks.now (λ r. Leads r c.args.s.now) c.args.p (get_or c.args.marks.now c.args.p false)
+    c.leads-led.result c.index-events-p.result (slice_get-get_or c.args.marks.now c.args.p false c.requires.here)
+    (slice_get_read c.args.events.now (length c.args.events.now) c.args.p c.index-events-p.result refl n c.index-events-p.is)
+    c.leads-led.ensures

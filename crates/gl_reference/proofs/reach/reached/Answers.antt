@@ -12,6 +12,7 @@ loop-i-preserved c =
     let long = c.loop-i.invariant.long in
     let less : length marks < length c.args.events.now = (let l = c.loop-i-test.true in omega arith) in
     record {
-      right = rw items (marks_more c.args.events.now (access_of c.args.access.now) marks c.loop-i.invariant.right mark less (rw c.deref.ensures.value at c.is_reached-mark.ensures));
+      right = rw items (marks_more c.args.events.now (access_of c.args.access.now) marks c.loop-i.invariant.right mark less
+          (rw c.deref.ensures.value at c.is_reached-mark.ensures));
       long = rw items (length-append marks (mark ∷ []) ∙ ap (λ (n : ℕ). n + 1) long);
     }

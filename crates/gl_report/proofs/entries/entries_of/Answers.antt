@@ -24,7 +24,8 @@ loop-thread-preserved c =
           next ∙ ap (λ o. gathered ++ with_thread (t, unwrap_or o [])) w.in-Some.ensures in
           cc (c.loop-thread.invariant, w.in_ok-add_list.ensures))
       | in_default w ↦
-          (let more : by_thread (below (t + 1) made) ≡ gathered = next ∙ ap (λ o. gathered ++ with_thread (t, unwrap_or o [])) w.in_default.ensures ∙ append-nil gathered in
+          (let more : by_thread (below (t + 1) made) ≡ gathered = next
+          ∙ ap (λ o. gathered ++ with_thread (t, unwrap_or o [])) w.in_default.ensures ∙ append-nil gathered in
           cc (c.loop-thread.invariant))
     ]
 

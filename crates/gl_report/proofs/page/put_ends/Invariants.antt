@@ -6,4 +6,5 @@ use Rattle.gl_report.specs.Lines.{ended_lines}
 use Rattle.gl_report.proofs.page.put_ends.Given as goal
 
 abbrev pub invariant-loop-thread : goal.invariant-loop-thread
-invariant-loop-thread l = string_bytes l.out ≡ string_bytes l.fn.out ++ flat_map (λ p. ended_lines p.0 (seen p.1.now)) (take l.thread-index l.entries)
+invariant-loop-thread l = string_bytes l.out ≡ string_bytes l.fn.out
+    ++ flat_map (λ p. ended_lines p.0 (seen p.1.now)) (take l.thread-index l.entries)

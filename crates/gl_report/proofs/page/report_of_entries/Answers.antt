@@ -19,8 +19,11 @@ returns c made are =
     let P : List Entry → Type 0 = λ es. AreFirsts entry es firsts.items in
     let first : AreFirsts entry (all_entries made) firsts.items = subst P (all_are view entries made are) c.in_ok-firsts.ensures.firsts in
     let many : length firsts.items ≡ event_count made = c.in_ok-firsts.ensures.length ∙ events_are view entries made are in
-    let prints : flat_map (out_lines_at entry) c.deref.result.now ≡ flat_map out_line (printed_below (all_entries made) (length firsts.items)) =
+    let prints : flat_map (out_lines_at entry) c.deref.result.now
+    ≡ flat_map out_line (printed_below (all_entries made) (length firsts.items)) =
     ap (flat_map (out_lines_at entry)) c.deref.ensures.value ∙ prints_are entry (all_entries made) firsts.items first in
-    report_is view entries made are (string_bytes c.new-out.result) (string_bytes c.put_outs.new.out) (string_bytes c.put_races.new.out) (string_bytes c.put_ends.new.out)
-    (string_bytes c.writeln.new.self) (flat_map (out_lines_at entry) c.deref.result.now) (length firsts.items) c.races-races.result c.new-out.ensures.bytes
+    report_is view entries made are (string_bytes c.new-out.result) (string_bytes c.put_outs.new.out) (string_bytes c.put_races.new.out)
+    (string_bytes c.put_ends.new.out)
+    (string_bytes c.writeln.new.self) (flat_map (out_lines_at entry) c.deref.result.now) (length firsts.items) c.races-races.result
+    c.new-out.ensures.bytes
     c.in_ok-put_outs.ensures prints many c.in_ok-put_races.ensures c.in_ok-put_ends.ensures c.races-races.ensures (search rules)

@@ -6,4 +6,5 @@ use Rattle.gl_report.specs.Lines.{out_lines_at}
 use Rattle.gl_report.proofs.prints.put_outs.Given as goal
 
 abbrev pub invariant-loop-first : goal.invariant-loop-first
-invariant-loop-first l = string_bytes l.out ≡ string_bytes l.fn.out ++ flat_map (out_lines_at (λ e. seen e.now)) (take l.first-index l.firsts)
+invariant-loop-first l = string_bytes l.out ≡ string_bytes l.fn.out
+    ++ flat_map (out_lines_at (λ e. seen e.now)) (take l.first-index l.firsts)

@@ -23,9 +23,11 @@ returns c made are =
     let first : AreFirsts entry (all_entries made) firsts.items = subst P (all_are view entries made are) c.in_ok-firsts.ensures.firsts in
     let many : length firsts.items ≡ event_count made = c.in_ok-firsts.ensures.length ∙ events_are view entries made are in
     let prints : flat_map (prints_at entry) c.deref.result.now ≡ printed made =
-    ap (flat_map (prints_at entry)) c.deref.ensures.value ∙ values_are entry (all_entries made) firsts.items first ∙ ap (printed_below (all_entries made)) many in
+    ap (flat_map (prints_at entry)) c.deref.ensures.value ∙ values_are entry (all_entries made) firsts.items first
+    ∙ ap (printed_below (all_entries made)) many in
     let total : c.total-total.result ≡ last_or_zero (printed made) = c.total-total.ensures ∙ ap last_or_zero prints in
-    let commits : c.commits-commits.result ≡ count_by is_commit (all_entries made) = c.commits-commits.ensures ∙ commits_are view entries made are in
+    let commits : c.commits-commits.result ≡ count_by is_commit (all_entries made) = c.commits-commits.ensures
+    ∙ commits_are view entries made are in
     let races : c.races-races.result ≡ race_count made = c.races-races.ensures ∙ many_races view entries made are in
     let fits : SFits w64 c.total-total.result = search rules in
     let kept : to_z w64 (of_z w64 c.total-total.result) ≡ c.total-total.result = omega (arith, ints) in

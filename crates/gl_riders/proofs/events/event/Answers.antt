@@ -10,4 +10,8 @@ fork-requires c =
     let fits : FitsSigned w64 c.in-Fork.value = search rules in
     let there : AsksInRange c.args.program.now (Fork c.in-Fork.func c.in-Fork.value) = rw c.in-Fork.is at c.requires.in_range in
     let starts = may_fork c.args.program.now c.args.shared.now.key.setting c.in-Fork.func there.0 c.requires.set there.1 there.2 in
-    simp to_z-of_z (record { may = rw c.in-Fork.is at c.requires.may; there = c.main-begins.ensures.forkable c.in-Fork.func starts; starts = starts })
+    simp to_z-of_z (record {
+      may = rw c.in-Fork.is at c.requires.may;
+      there = c.main-begins.ensures.forkable c.in-Fork.func starts;
+      starts = starts;
+    })

@@ -10,7 +10,8 @@ commit-requires g c =
       spare = c.requires.spare;
       window = c.requires.window;
       may =
-          attempt_may c.args.program.now c.args.shared.now c.args.machine.now c.args.pass.now c.args.txn.now c.in-Some.attempt (TxEnd c.args.keep) is
+          attempt_may c.args.program.now c.args.shared.now c.args.machine.now c.args.pass.now c.args.txn.now c.in-Some.attempt
+          (TxEnd c.args.keep) is
           c.requires.asked tt c.requires.rides c.requires.clear;
     }
 
@@ -19,9 +20,11 @@ returns-in-Ok-clause-answered g c =
     let is : c.args.txn.now ≡ Some c.in-Some.attempt = sym c.take.ensures.value ∙ c.in-Some.is in
     let none : c.take.new.self ≡ None = c.take.ensures.after in
     rw c.end_reply.ensures
-    (end_tried c.args.program.now c.args.shared.now c.args.machine.now c.args.pass.now.own c.commit.new.pass.own c.args.txn.now c.take.new.self
+    (end_tried c.args.program.now c.args.shared.now c.args.machine.now c.args.pass.now.own c.commit.new.pass.own c.args.txn.now
+    c.take.new.self
     c.in-Some.attempt c.args.keep c.in-Ok.end c.requires.asked is none c.requires.rides c.in-Ok.ensures.done)
 
 pub returns-in-Ok-clause-kept : goal.returns-in-Ok-clause-kept
 returns-in-Ok-clause-kept g c =
-    end_kept c.args.pass.now.own c.commit.new.pass.own c.take.new.self c.in-Some.attempt c.args.keep c.in-Ok.end c.requires.clear c.in-Ok.ensures.done
+    end_kept c.args.pass.now.own c.commit.new.pass.own c.take.new.self c.in-Some.attempt c.args.keep c.in-Ok.end c.requires.clear
+    c.in-Ok.ensures.done

@@ -4,9 +4,11 @@ use Rattle.gl_riders.proofs.tries.try_plain.Goals as goal
 pub plain-requires : goal.plain-requires
 plain-requires g c = record {
   may =
-      mark c.args.program.now c.args.shared.now c.args.machine.now c.args.pass.now c.args.txn.now c.args.var c.args.write c.requires.asked c.requires.rides
+      mark c.args.program.now c.args.shared.now c.args.machine.now c.args.pass.now c.args.txn.now c.args.var c.args.write c.requires.asked
+      c.requires.rides
       c.requires.outside c.requires.spare;
-  there = access_near c.args.program.now c.args.shared.now c.args.machine.now c.args.pass.now.own c.args.txn.now c.args.var c.args.write c.requires.asked c.requires.rides;
+  there = access_near c.args.program.now c.args.shared.now c.args.machine.now c.args.pass.now.own c.args.txn.now c.args.var c.args.write
+      c.requires.asked c.requires.rides;
   owns = outside_owns c.args.pass.now.own c.args.txn.now c.args.words.now c.requires.outside c.requires.kept;
   window = c.requires.window;
 }
@@ -14,7 +16,8 @@ plain-requires g c = record {
 pub returns-in-Ok-clause-answered : goal.returns-in-Ok-clause-answered
 returns-in-Ok-clause-answered g c =
     rw c.access_reply.ensures
-    (access_tried c.args.program.now c.args.shared.now c.args.machine.now c.args.pass.now.own c.plain.new.pass.own c.args.txn.now c.args.var c.args.write
+    (access_tried c.args.program.now c.args.shared.now c.args.machine.now c.args.pass.now.own c.plain.new.pass.own c.args.txn.now
+    c.args.var c.args.write
     c.in-Ok.seen c.requires.asked c.requires.rides c.requires.outside c.in-Ok.ensures.done)
 
 pub returns-in-Ok-clause-kept : goal.returns-in-Ok-clause-kept

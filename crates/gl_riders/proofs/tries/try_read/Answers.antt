@@ -8,20 +8,23 @@ use Rattle.gl_riders.proofs.tries.try_read.Goals as goal
 
 pub read-requires-clause-may : goal.read-requires-clause-may
 read-requires-clause-may c =
-    attempt_may c.args.program.now c.args.shared.now c.args.machine.now c.args.pass.now c.args.txn.now c.in-Some.attempt (Read c.args.var) c.in-Some.is
+    attempt_may c.args.program.now c.args.shared.now c.args.machine.now c.args.pass.now c.args.txn.now c.in-Some.attempt (Read c.args.var)
+    c.in-Some.is
     c.requires.asked tt c.requires.rides c.requires.clear
 
 pub returns-in-Ok-clause-answered : goal.returns-in-Ok-clause-answered
 returns-in-Ok-clause-answered c =
     let fits : FitsSigned w64 c.in-Ok.value = search rules in
     simp to_z-of_z
-    (read_tried c.args.program.now c.args.shared.now c.args.machine.now c.args.pass.now.own c.read.new.pass.own c.args.txn.now _ c.in-Some.attempt c.read.new.self
+    (read_tried c.args.program.now c.args.shared.now c.args.machine.now c.args.pass.now.own c.read.new.pass.own c.args.txn.now _
+    c.in-Some.attempt c.read.new.self
     c.args.var c.in-Ok.value c.in-Some.is refl c.requires.rides c.in-Ok.ensures.done)
 
 pub returns-in-Err-TooLarge-clause-answered : goal.returns-in-Err-TooLarge-clause-answered
 returns-in-Err-TooLarge-clause-answered c =
     let large : IsTooLarge c.in-Some.attempt c.args.var = rw c.in-Err-TooLarge.field-0-is at c.in-Err-TooLarge.ensures.large in
-    large_tried c.args.program.now c.args.shared.now c.args.machine.now c.args.pass.now.own c.read.new.pass.own c.args.txn.now _ c.in-Some.attempt c.read.new.self
+    large_tried c.args.program.now c.args.shared.now c.args.machine.now c.args.pass.now.own c.read.new.pass.own c.args.txn.now _
+    c.in-Some.attempt c.read.new.self
     c.args.var None c.in-Some.is refl c.in-Err-TooLarge.ensures.stop c.requires.rides c.in-Err-TooLarge.ensures.kept large
 
 pub returns-in-Ok-clause-kept : goal.returns-in-Ok-clause-kept

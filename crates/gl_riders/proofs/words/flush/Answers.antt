@@ -18,14 +18,17 @@ write_back-requires c =
 
 pub owed-smaller : goal.owed-smaller
 owed-smaller c =
-    (paid c.owed.words c.owed.pass.own c.write_back.new.pass.own c.in-Some.var c.in-Some.value c.owed.invariant.owns c.in-Some.ensures.0 c.in-Some.ensures.1 c.in-Ok.ensures.own).less
+    (paid c.owed.words c.owed.pass.own c.write_back.new.pass.own c.in-Some.var c.in-Some.value c.owed.invariant.owns c.in-Some.ensures.0
+    c.in-Some.ensures.1 c.in-Ok.ensures.own).less
 
 pub owed-preserved : goal.owed-preserved
 owed-preserved c =
-    let p = paid c.owed.words c.owed.pass.own c.write_back.new.pass.own c.in-Some.var c.in-Some.value c.owed.invariant.owns c.in-Some.ensures.0 c.in-Some.ensures.1 c.in-Ok.ensures.own in
+    let p = paid c.owed.words c.owed.pass.own c.write_back.new.pass.own c.in-Some.var c.in-Some.value c.owed.invariant.owns
+    c.in-Some.ensures.0 c.in-Some.ensures.1 c.in-Ok.ensures.own in
     record {
       owns = rw c.clean.ensures p.owns;
-      rest = rest_on c.args.pass.now.own c.owed.pass.own c.write_back.new.pass.own (without_owed c.in-Some.var c.owed.pass.own.owed) c.owed.invariant.rest c.in-Ok.ensures.own;
+      rest = rest_on c.args.pass.now.own c.owed.pass.own c.write_back.new.pass.own (without_owed c.in-Some.var c.owed.pass.own.owed)
+          c.owed.invariant.rest c.in-Ok.ensures.own;
       spare = ap (λ (v : PassView). v.spare) c.in-Ok.ensures.stored.1 ∙ c.owed.invariant.spare;
     }
 

@@ -16,5 +16,6 @@ returns c =
       done = done;
       owns =
           rw (simp to_z-of_z at c.put.ensures)
-          (owns_write c.args.words.now c.args.pass.now.own c.add_repeat.new.pass.own c.args.var c.args.nth c.args.value c.requires.owns c.requires.there c.requires.right done);
+          (owns_write c.args.words.now c.args.pass.now.own c.add_repeat.new.pass.own c.args.var c.args.nth c.args.value c.requires.owns
+          c.requires.there c.requires.right done);
     }

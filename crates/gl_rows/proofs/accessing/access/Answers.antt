@@ -22,13 +22,15 @@ use Rattle.gl_rows.proofs.accessing.access.Goals as goal
 pub check-requires-clause-held : goal.check-requires-clause-held
 check-requires-clause-held g c =
     let is = c.tail-tail.ensures.pass ∙ ap (λ (q : PassView). after q (saw_tail (view_of q) c.tail-tail.result)) c.in-Ok.ensures.ok in
-    subst (HoldsRow c.tail-tail.new.pass) (sym c.row.ensures) (holds_row c.args.pass.now c.args.var c.in-Ok.kept c.tail-tail.result c.tail-tail.new.pass is)
+    subst (HoldsRow c.tail-tail.new.pass) (sym c.row.ensures)
+    (holds_row c.args.pass.now c.args.var c.in-Ok.kept c.tail-tail.result c.tail-tail.new.pass is)
 
 pub check-requires-clause-within : goal.check-requires-clause-within
 check-requires-clause-within g c =
     let is = c.tail-tail.ensures.pass ∙ ap (λ (q : PassView). after q (saw_tail (view_of q) c.tail-tail.result)) c.in-Ok.ensures.ok in
     subst (λ r. IsWithin r c.tail-tail.new.pass.seen) (sym c.row.ensures)
-    (row_within c.args.pass.now c.args.var c.in-Ok.kept c.tail-tail.result _ c.tail-tail.new.pass c.in-Ok.ensures.ok c.tail-tail.ensures.within is)
+    (row_within c.args.pass.now c.args.var c.in-Ok.kept c.tail-tail.result _ c.tail-tail.new.pass c.in-Ok.ensures.ok
+    c.tail-tail.ensures.within is)
 
 pub mark-nth-requires-clause-may : goal.mark-nth-requires-clause-may
 mark-nth-requires-clause-may g c =
@@ -42,13 +44,16 @@ mark-nth-requires-clause-may g c =
     let walk = subst (λ r. HasWalked r w u) c.row.ensures c.check.ensures.pass in
     let fits : FitsSigned w64 a.value = search rules in
     let q : Question = record { thread = c.id.result; write = c.is_some.result; commit = None; held = c.monitors.result } in
-    let judged = judged_row z.key.setting p c.args.var row c.tail-tail.result w u q c.args.write c.check.result c.is_race-race.result c.requires.may.runs is walk
+    let judged = judged_row z.key.setting p c.args.var row c.tail-tail.result w u q c.args.write c.check.result c.is_race-race.result
+    c.requires.may.runs is walk
     (c.id.ensures.is ∙ ap (λ (q : PassView). q.own.id) is) refl c.is_some.ensures (c.monitors.ensures.owned z.key.setting)
-    (λ l f next stand. subst (λ r. (c.check.result ≡ Race) ↔ SomeFails l r q) c.row.ensures (c.check.ensures.race z.key.setting l f next (subst (judging.InfosStand z.key.setting l) (sym c.row.ensures) stand)))
+    (λ l f next stand. subst (λ r. (c.check.result ≡ Race) ↔ SomeFails l r q) c.row.ensures
+    (c.check.ensures.race z.key.setting l f next (subst (judging.InfosStand z.key.setting l) (sym c.row.ensures) stand)))
     c.is_race-race.ensures in
     let same = c.judged-access.ensures ∙ ap (λ r. access_of r c.args.write c.is_race-race.result) c.row-2.ensures in
     simp to_z-of_z
-    (subst (λ (q : PassView). MayMarkPlain z.key.setting q c.args.var a.write a.value a.raised) (sym (walked_is p c.args.var row c.tail-tail.result w u is walk))
+    (subst (λ (q : PassView). MayMarkPlain z.key.setting q c.args.var a.write a.value a.raised)
+    (sym (walked_is p c.args.var row c.tail-tail.result w u is walk))
     (may_mark_row z p c.args.var row c.tail-tail.result u.known u.loaded c.args.write c.is_race-race.result c.requires.may judged a same))
 
 pub put_row-requires-clause-may : goal.put_row-requires-clause-may
@@ -64,13 +69,16 @@ put_row-requires-clause-may g c =
     let fits : FitsSigned w64 a.value = search rules in
     let q : Question = record { thread = c.id.result; write = c.is_some.result; commit = None; held = c.monitors.result } in
     let drew = simp to_z-of_z at c.mark-nth.ensures in
-    let made = drew ∙ ap (λ (q : PassView). marked_plain q c.args.var c.mark-nth.result a.write a.value a.raised) (walked_is p c.args.var row c.tail-tail.result w u is walk) in
+    let made = drew ∙ ap (λ (q : PassView). marked_plain q c.args.var c.mark-nth.result a.write a.value a.raised)
+    (walked_is p c.args.var row c.tail-tail.result w u is walk) in
     let own = c.id.ensures.is ∙ ap (λ (q : PassView). q.own.id) is in
     let same = c.judged-access.ensures ∙ ap (λ r. access_of r c.args.write c.is_race-race.result) c.row-2.ensures in
     let f = access_facts row c.args.write c.is_race-race.result in
-    may_put_row z.key.setting p c.args.var row c.tail-tail.result u.known u.loaded c.requires.may.runs c.mark-nth.result q (subst (λ t. t < THREADS) own c.id.ensures.near) own refl
+    may_put_row z.key.setting p c.args.var row c.tail-tail.result u.known u.loaded c.requires.may.runs c.mark-nth.result q
+    (subst (λ t. t < THREADS) own c.id.ensures.near) own refl
     (least_before z.key.setting p c.args.var row c.tail-tail.result w c.monitors.result is (c.monitors.ensures.owned z.key.setting))
-    a (c.is_some.ensures ∙ sym (ap (λ a. a.write) same ∙ f.0)) (λ n r. ap (λ a. a.value) same ∙ f.2 (sym (ap (λ a. a.write) same) ∙ n) (sym (ap (λ a. a.raised) same) ∙ r))
+    a (c.is_some.ensures ∙ sym (ap (λ a. a.write) same ∙ f.0)) (λ n r. ap (λ a. a.value) same
+    ∙ f.2 (sym (ap (λ a. a.write) same) ∙ n) (sym (ap (λ a. a.raised) same) ∙ r))
     c.store.new.kept c.mark-nth.new.pass made c.store.ensures
 
 pub returns-clause-judged : goal.returns-clause-judged
@@ -86,13 +94,19 @@ returns-clause-judged g c =
     let fits : FitsSigned w64 a.value = search rules in
     let q : Question = record { thread = c.id.result; write = c.is_some.result; commit = None; held = c.monitors.result } in
     let drew = simp to_z-of_z at c.mark-nth.ensures in
-    let made = drew ∙ ap (λ (q : PassView). marked_plain q c.args.var c.mark-nth.result a.write a.value a.raised) (walked_is p c.args.var row c.tail-tail.result w u is walk) in
+    let made = drew ∙ ap (λ (q : PassView). marked_plain q c.args.var c.mark-nth.result a.write a.value a.raised)
+    (walked_is p c.args.var row c.tail-tail.result w u is walk) in
     let same = c.judged-access.ensures ∙ ap (λ r. access_of r c.args.write c.is_race-race.result) c.row-2.ensures in
-    is_judged z.key.setting p c.args.var row c.tail-tail.result u.known u.loaded c.mark-nth.result c.args.write c.is_race-race.result a c.answer.result c.put_row.new.pass w u is (row_within p c.args.var row c.tail-tail.result _ w c.in-Ok.ensures.ok c.tail-tail.ensures.within is) walk refl same c.answer.ensures
-    (is_stored p c.args.var row c.tail-tail.result u.known u.loaded c.mark-nth.result a c.mark-nth.new.pass c.put_row.new.pass c.requires.may.held made c.put_row.ensures)
-    (judged_row z.key.setting p c.args.var row c.tail-tail.result w u q c.args.write c.check.result c.is_race-race.result c.requires.may.runs is walk
+    is_judged z.key.setting p c.args.var row c.tail-tail.result u.known u.loaded c.mark-nth.result c.args.write c.is_race-race.result a
+    c.answer.result c.put_row.new.pass w u is
+    (row_within p c.args.var row c.tail-tail.result _ w c.in-Ok.ensures.ok c.tail-tail.ensures.within is) walk refl same c.answer.ensures
+    (is_stored p c.args.var row c.tail-tail.result u.known u.loaded c.mark-nth.result a c.mark-nth.new.pass c.put_row.new.pass
+    c.requires.may.held made c.put_row.ensures)
+    (judged_row z.key.setting p c.args.var row c.tail-tail.result w u q c.args.write c.check.result c.is_race-race.result
+    c.requires.may.runs is walk
     (c.id.ensures.is ∙ ap (λ (q : PassView). q.own.id) is) refl c.is_some.ensures (c.monitors.ensures.owned z.key.setting)
-    (λ l f next stand. subst (λ r. (c.check.result ≡ Race) ↔ SomeFails l r q) c.row.ensures (c.check.ensures.race z.key.setting l f next (subst (judging.InfosStand z.key.setting l) (sym c.row.ensures) stand)))
+    (λ l f next stand. subst (λ r. (c.check.result ≡ Race) ↔ SomeFails l r q) c.row.ensures
+    (c.check.ensures.race z.key.setting l f next (subst (judging.InfosStand z.key.setting l) (sym c.row.ensures) stand)))
     c.is_race-race.ensures)
 
 pub returns-clause-loads : goal.returns-clause-loads
@@ -106,20 +120,26 @@ returns-clause-loads g c =
     let walk = subst (λ r. HasWalked r w u) c.row.ensures c.check.ensures.pass in
     let fits : FitsSigned w64 a.value = search rules in
     let drew = simp to_z-of_z at c.mark-nth.ensures in
-    let made = drew ∙ ap (λ (q : PassView). marked_plain q c.args.var c.mark-nth.result a.write a.value a.raised) (walked_is p c.args.var row c.tail-tail.result w u is walk) in
-    let stored = is_stored p c.args.var row c.tail-tail.result u.known u.loaded c.mark-nth.result a c.mark-nth.new.pass c.put_row.new.pass c.requires.may.held made c.put_row.ensures in
+    let made = drew ∙ ap (λ (q : PassView). marked_plain q c.args.var c.mark-nth.result a.write a.value a.raised)
+    (walked_is p c.args.var row c.tail-tail.result w u is walk) in
+    let stored = is_stored p c.args.var row c.tail-tail.result u.known u.loaded c.mark-nth.result a c.mark-nth.new.pass c.put_row.new.pass
+    c.requires.may.held made c.put_row.ensures in
     let q : Question = record { thread = c.id.result; write = c.is_some.result; commit = None; held = c.monitors.result } in
     let by = c.id.ensures.is ∙ ap (λ (q : PassView). q.own.id) is in
     let same : q ≡ record (question_of p.own c.args.write) { held = c.monitors.result } =
-    ap (λ t. record { thread = t; write = c.is_some.result; commit = None; held = c.monitors.result }) by ∙ ap (λ b. record { thread = p.own.id; write = b; commit = None; held = c.monitors.result }) c.is_some.ensures in (
+    ap (λ t. record { thread = t; write = c.is_some.result; commit = None; held = c.monitors.result }) by
+    ∙ ap (λ b. record { thread = p.own.id; write = b; commit = None; held = c.monitors.result }) c.is_some.ensures in (
       row,
       stored.reads,
       c.monitors.result,
       subst (λ (z : PassView). AreLeastEntered (levels_of z.own.mine) c.monitors.result) is c.monitors.ensures.is,
       λ sure.
           loads_none p c.args.var row c.tail-tail.result w u c.put_row.new.pass is
-          (c.check.ensures.sure (subst (λ (z : Question). (i : Info) → Keeps c.row.result.now i → Conflicts i z → (i.thread < THREADS) × SayYesSurely c.args.cuts.now i z) (sym same)
-          (subst (λ r. (i : Info) → Keeps r i → Conflicts i (record (question_of p.own c.args.write) { held = c.monitors.result }) → (i.thread < THREADS) × SayYesSurely c.args.cuts.now i (record (question_of p.own c.args.write) { held = c.monitors.result })) (sym c.row.ensures) sure)))
+          (c.check.ensures.sure (subst (λ (z : Question). (i : Info) → Keeps c.row.result.now i → Conflicts i z → (i.thread < THREADS)
+          × SayYesSurely c.args.cuts.now i z) (sym same)
+          (subst (λ r. (i : Info) → Keeps r i → Conflicts i (record (question_of p.own c.args.write) { held = c.monitors.result })
+          → (i.thread < THREADS) × SayYesSurely c.args.cuts.now i (record (question_of p.own c.args.write) { held = c.monitors.result }))
+          (sym c.row.ensures) sure)))
           stored.known_is,
     )
 

@@ -58,7 +58,8 @@ raise_hold-requires-clause-may c =
     let took = took_is p x row n c.take_row.new.pass c.requires.held c.in-Ok.ensures.ok in
     let floored = floor_is p x row n c.take_row.new.pass c.floor_of-before.new.pass took c.floor_of-before.ensures.pass in
     let seen = tail_is p x row n c.floor_of-before.new.pass c.tail-tail.new.pass c.tail-tail.result floored c.tail-tail.ensures.pass in
-    let walk = subst (λ r. HasWalkedTo r c.args.to c.tail-tail.new.pass c.lifted_row-row.new.pass) c.row.ensures c.lifted_row-row.ensures.pass in
+    let walk = subst (λ r. HasWalkedTo r c.args.to c.tail-tail.new.pass c.lifted_row-row.new.pass) c.row.ensures
+    c.lifted_row-row.ensures.pass in
     let w = c.lifted_row-row.new.pass in
     let new = c.lifted_row-row.result in
     let lifted = lifted_is p x row n c.tail-tail.new.pass w c.args.to c.tail-tail.result seen walk in
@@ -67,7 +68,8 @@ raise_hold-requires-clause-may c =
     let within = c.requires.seen in
     let near : c.args.to ≤ c.tail-tail.result = omega arith in
     may_raise_row p x row n c.args.shared.now.key.setting w c.args.to c.tail-tail.result new lifted c.if-to-before.false near
-    (λ l f. subst (λ r. IsRowMoved l r new) c.row.ensures (c.lifted_row-row.ensures.moved c.args.shared.now.key.setting l f)) c.lifted_row-row.ensures.above
+    (λ l f. subst (λ r. IsRowMoved l r new) c.row.ensures (c.lifted_row-row.ensures.moved c.args.shared.now.key.setting l f))
+    c.lifted_row-row.ensures.above
 
 pub put_row-requires-2-clause-may : goal.put_row-requires-2-clause-may
 put_row-requires-2-clause-may c =
@@ -78,14 +80,18 @@ put_row-requires-2-clause-may c =
     let took = took_is p x row n c.take_row.new.pass c.requires.held c.in-Ok.ensures.ok in
     let floored = floor_is p x row n c.take_row.new.pass c.floor_of-before.new.pass took c.floor_of-before.ensures.pass in
     let seen = tail_is p x row n c.floor_of-before.new.pass c.tail-tail.new.pass c.tail-tail.result floored c.tail-tail.ensures.pass in
-    let walk = subst (λ r. HasWalkedTo r c.args.to c.tail-tail.new.pass c.lifted_row-row.new.pass) c.row.ensures c.lifted_row-row.ensures.pass in
+    let walk = subst (λ r. HasWalkedTo r c.args.to c.tail-tail.new.pass c.lifted_row-row.new.pass) c.row.ensures
+    c.lifted_row-row.ensures.pass in
     let w = c.lifted_row-row.new.pass in
     let new = c.lifted_row-row.result in
     let lifted = lifted_is p x row n c.tail-tail.new.pass w c.args.to c.tail-tail.result seen walk in
     let high = raised_is p x row n w c.raise_hold.new.pass c.args.to c.tail-tail.result new lifted c.raise_hold.ensures.pass in
-    let last = last_is p x row n c.raise_hold.new.pass c.floor_of-hold.new.pass c.args.to c.tail-tail.result c.floor_of-hold.result new w.known w.loaded high c.floor_of-hold.ensures.pass in
-    subst (λ r. MayPutBack c.args.shared.now.key.setting (shelf_of c.floor_of-hold.new.pass) (view_of c.floor_of-hold.new.pass) (suc c.args.var) (slot.Row r) false) (sym c.set.ensures)
-    (may_put_last p x row n c.args.shared.now.key.setting c.floor_of-hold.new.pass c.args.to c.tail-tail.result c.floor_of-hold.result new w.known w.loaded last)
+    let last = last_is p x row n c.raise_hold.new.pass c.floor_of-hold.new.pass c.args.to c.tail-tail.result c.floor_of-hold.result new
+    w.known w.loaded high c.floor_of-hold.ensures.pass in
+    subst (λ r. MayPutBack c.args.shared.now.key.setting (shelf_of c.floor_of-hold.new.pass) (view_of c.floor_of-hold.new.pass)
+    (suc c.args.var) (slot.Row r) false) (sym c.set.ensures)
+    (may_put_last p x row n c.args.shared.now.key.setting c.floor_of-hold.new.pass c.args.to c.tail-tail.result c.floor_of-hold.result new
+    w.known w.loaded last)
 
 pub returns-clause-hold : goal.returns-clause-hold
 returns-clause-hold c =
@@ -96,15 +102,20 @@ returns-clause-hold c =
     let took = took_is p x row n c.take_row.new.pass c.requires.held c.in-Ok.ensures.ok in
     let floored = floor_is p x row n c.take_row.new.pass c.floor_of-before.new.pass took c.floor_of-before.ensures.pass in
     let seen = tail_is p x row n c.floor_of-before.new.pass c.tail-tail.new.pass c.tail-tail.result floored c.tail-tail.ensures.pass in
-    let walk = subst (λ r. HasWalkedTo r c.args.to c.tail-tail.new.pass c.lifted_row-row.new.pass) c.row.ensures c.lifted_row-row.ensures.pass in
+    let walk = subst (λ r. HasWalkedTo r c.args.to c.tail-tail.new.pass c.lifted_row-row.new.pass) c.row.ensures
+    c.lifted_row-row.ensures.pass in
     let w = c.lifted_row-row.new.pass in
     let new = c.lifted_row-row.result in
     let lifted = lifted_is p x row n c.tail-tail.new.pass w c.args.to c.tail-tail.result seen walk in
     let high = raised_is p x row n w c.raise_hold.new.pass c.args.to c.tail-tail.result new lifted c.raise_hold.ensures.pass in
-    let last = last_is p x row n c.raise_hold.new.pass c.floor_of-hold.new.pass c.args.to c.tail-tail.result c.floor_of-hold.result new w.known w.loaded high c.floor_of-hold.ensures.pass in
-    let same = hold_is p x row n c.raise_hold.new.pass c.args.to c.tail-tail.result c.floor_of-hold.result new w.known w.loaded high c.floor_of-hold.ensures.same in
-    advanced_last p x row n c.tail-tail.new.pass w c.put_row-2.new.pass c.args.to c.tail-tail.result c.floor_of-hold.result c.if-to-before.false same seen walk
-    (end_is p x row n c.floor_of-hold.new.pass c.put_row-2.new.pass c.args.to c.tail-tail.result c.floor_of-hold.result new w.known w.loaded c.requires.held last c.put_row-2.ensures)
+    let last = last_is p x row n c.raise_hold.new.pass c.floor_of-hold.new.pass c.args.to c.tail-tail.result c.floor_of-hold.result new
+    w.known w.loaded high c.floor_of-hold.ensures.pass in
+    let same = hold_is p x row n c.raise_hold.new.pass c.args.to c.tail-tail.result c.floor_of-hold.result new w.known w.loaded high
+    c.floor_of-hold.ensures.same in
+    advanced_last p x row n c.tail-tail.new.pass w c.put_row-2.new.pass c.args.to c.tail-tail.result c.floor_of-hold.result
+    c.if-to-before.false same seen walk
+    (end_is p x row n c.floor_of-hold.new.pass c.put_row-2.new.pass c.args.to c.tail-tail.result c.floor_of-hold.result new w.known
+    w.loaded c.requires.held last c.put_row-2.ensures)
 
 pub take_row-requires-clause-free : goal.take_row-requires-clause-free
 take_row-requires-clause-free c = holds_none c.args.pass.now.own.held (suc c.args.var) c.requires.held

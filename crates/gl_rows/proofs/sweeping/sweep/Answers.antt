@@ -9,7 +9,10 @@ settle-requires c =
     let p = c.args.pass.now in
     let q = c.tail-tail.new.pass in
     let same = may_try z p q c.tail-tail.result c.requires.may c.tail-tail.ensures.pass in
-    record { may = may_settle z p q c.try_rows.new.pass c.requires.may same.0 (ap (λ (x : PassView). x.spare) c.tail-tail.ensures.pass) c.try_rows.ensures.tried.still }
+    record {
+      may = may_settle z p q c.try_rows.new.pass c.requires.may same.0 (ap (λ (x : PassView). x.spare) c.tail-tail.ensures.pass)
+          c.try_rows.ensures.tried.still;
+    }
 
 pub returns-clause-swept : goal.returns-clause-swept
 returns-clause-swept c =
@@ -20,5 +23,6 @@ returns-clause-swept c =
     let cells = c.ring.ensures.is.1 in
     let four = c.ring.ensures.valid.some_cells in
     let some : 0 < z.key.cells = omega arith in
-    swept z p q c.try_rows.new.pass c.settle.new.pass c.tail-tail.result c.target-to.result c.settle.result some c.tail-tail.ensures.pass c.tail-tail.ensures.later same.0
+    swept z p q c.try_rows.new.pass c.settle.new.pass c.tail-tail.result c.target-to.result c.settle.result some c.tail-tail.ensures.pass
+    c.tail-tail.ensures.later same.0
     (c.target-to.ensures.is ∙ ap (λ n. c.tail-tail.result / n * n) cells) c.try_rows.ensures.tried c.settle.ensures.settled

@@ -6,4 +6,8 @@ pub loop-var-init : goal.loop-var-init
 loop-var-init c = (tried_none c.args.to c.args.pass.now, refl)
 
 pub loop-var-preserved : goal.loop-var-preserved
-loop-var-preserved c = (tried_next c.loop-var.var c.args.to c.args.pass.now c.loop-var.pass c.try_row.new.pass c.loop-var.invariant.0 c.try_row.ensures.tried, c.try_row.ensures.window ∙ c.loop-var.invariant.1)
+loop-var-preserved c = (
+  tried_next c.loop-var.var c.args.to c.args.pass.now c.loop-var.pass c.try_row.new.pass c.loop-var.invariant.0
+      c.try_row.ensures.tried,
+  c.try_row.ensures.window ∙ c.loop-var.invariant.1,
+)

@@ -9,7 +9,8 @@ use Rattle.gl_rows.proofs.walking.least_read.Goals as goal
 pub returns-clause-below : goal.returns-clause-below
 returns-clause-below c t i e = elim (cases_lt t c.loop-read.read-index) [
   | inl below ↦ c.loop-read.invariant.1 t i below e
-  | inr past ↦ absurd (let far = c.loop-read-test.false in let gone : read_of c.args.reads.now t ≡ None = get_or_past c.args.reads.now t None (omega arith) in let there = e in cc)
+  | inr past ↦ absurd (let far = c.loop-read-test.false in let gone : read_of c.args.reads.now t
+      ≡ None = get_or_past c.args.reads.now t None (omega arith) in let there = e in cc)
 ]
 
 -- at the read that is looked at next
@@ -21,7 +22,8 @@ loop-read-preserved c =
       (let a = lower.upto in let b = inv.0 in omega arith),
       (λ t i near e. elim (cases_lt t c.loop-read.read-index) [
         | inl below ↦ (let a = lower.upto in let b = inv.1 t i below e in omega arith)
-        | inr past ↦ (let same : t ≡ c.loop-read.read-index = omega arith in lower.below i (sym item ∙ ap (read_of c.args.reads.now) (sym same) ∙ e))
+        | inr past ↦ (let same : t ≡ c.loop-read.read-index = omega arith
+            in lower.below i (sym item ∙ ap (read_of c.args.reads.now) (sym same) ∙ e))
       ]),
       elim lower.named [
         | inl is ↦ elim inv.2 [ inl e ↦ inl (is ∙ e) | inr (t, i, e, at) ↦ inr (t, i, e, at ∙ sym is) ]

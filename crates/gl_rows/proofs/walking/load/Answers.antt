@@ -18,12 +18,14 @@ keep-requires-clause-may c =
     let within = c.requires.to in
     let below : c.loop-pos.pos < c.args.pass.now.seen = omega arith in
     let le : c.args.from ≤ c.loop-pos.pos = omega arith in
-    subst (λ (p : PassView). (c.loop-pos.pos < p.seen) × MayWalk (view_of p) c.loop-pos.pos) (sym inv.0) (below, c.requires.named c.loop-pos.pos le near)
+    subst (λ (p : PassView). (c.loop-pos.pos < p.seen) × MayWalk (view_of p) c.loop-pos.pos) (sym inv.0)
+    (below, c.requires.named c.loop-pos.pos le near)
 
 -- nothing was loaded yet
 pub loop-pos-init : goal.loop-pos-init
 loop-pos-init c = (
-  subst (λ (xs : List Stamp). KnowsFrom c.args.from xs c.args.pass.now c.args.pass.now) (sym c.clear.ensures.items) (knows_none c.args.from c.args.pass.now),
+  subst (λ (xs : List Stamp). KnowsFrom c.args.from xs c.args.pass.now c.args.pass.now) (sym c.clear.ensures.items)
+      (knows_none c.args.from c.args.pass.now),
   omega (arith, ap length c.clear.ensures.items),
   search rules,
   c.clear.ensures.capacity,
@@ -35,14 +37,17 @@ pub loop-pos-preserved : goal.loop-pos-preserved
 loop-pos-preserved c =
     let inv = c.loop-pos.invariant in
     let k = c.keep.ensures.known in
-    let more : length c.keep.new.window.items ≡ length c.loop-pos.window.items + 1 = ap length k.2 ∙ length-append c.loop-pos.window.items (k.0 ∷ []) in (
+    let more : length c.keep.new.window.items ≡ length c.loop-pos.window.items + 1 = ap length k.2
+    ∙ length-append c.loop-pos.window.items (k.0 ∷ []) in (
       subst (λ (xs : List Stamp). KnowsFrom c.args.from xs c.args.pass.now c.keep.new.pass) (sym k.2)
-          (knows_next c.args.from c.loop-pos.pos c.loop-pos.window.items k.0 c.args.pass.now c.loop-pos.pass c.keep.new.pass inv.1 inv.0 c.keep.ensures.pass k.1),
+          (knows_next c.args.from c.loop-pos.pos c.loop-pos.window.items k.0 c.args.pass.now c.loop-pos.pass c.keep.new.pass inv.1 inv.0
+          c.keep.ensures.pass k.1),
       (let at = inv.1 in omega arith),
       subst (All IsStampInRange) (sym k.2) (All-push IsStampInRange c.loop-pos.window.items k.0 inv.2 k.3),
       c.keep.ensures.room ∙ inv.3,
       λ lt. elim (cases_lt c.args.from c.loop-pos.pos) [
         | inl before ↦ inv.4 before
-        | inr first ↦ (let near = c.keep.ensures.ring in let same = ap (λ (p : PassView). p.seen) inv.0 in let from = c.loop-pos.auto.pos in omega arith)
+        | inr first ↦ (let near = c.keep.ensures.ring in let same = ap (λ (p : PassView). p.seen) inv.0 in let from = c.loop-pos.auto.pos
+            in omega arith)
       ],
     )

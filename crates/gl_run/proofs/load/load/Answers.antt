@@ -19,6 +19,8 @@ returns-clause-answer g c =
       ring = c.in_ok-sealed.ensures.ring;
       trims = c.record.ensures.trims;
     } in
-    let of_bank : IsRunOf (bank_program asked.size) inputs options made = subst (λ p. IsRunOf p inputs options made) c.in_ok-program.ensures.program run in
-    let of_none : IsRunOf (bank_program asked.size) [] options made = subst (λ xs. IsRunOf (bank_program asked.size) xs options made) c.empty.ensures of_bank in
+    let of_bank : IsRunOf (bank_program asked.size) inputs options made =
+    subst (λ p. IsRunOf p inputs options made) c.in_ok-program.ensures.program run in
+    let of_none : IsRunOf (bank_program asked.size) [] options made =
+    subst (λ xs. IsRunOf (bank_program asked.size) xs options made) c.empty.ensures of_bank in
     c.page_of.ensures.answer asked (subst (λ o. IsRunOf (bank_program asked.size) [] o made) c.bank_options-options.ensures.value of_none)

@@ -7,5 +7,6 @@ use Rattle.gl_run.proofs.reply.reply.Goals as goal
 pub returns-in-Some-Load-clause-cause : goal.returns-in-Some-Load-clause-cause
 returns-in-Some-Load-clause-cause g c =
     let faults = g.S.Source.faults c.args.source.now in
-    let cause : ReplyCause (Some (commands.Load c.in-Some-Load.options)) faults faults c.load_reply.result = c.load_reply.ensures.cause faults in
+    let cause : ReplyCause (Some (commands.Load c.in-Some-Load.options)) faults faults c.load_reply.result =
+    c.load_reply.ensures.cause faults in
     search rules

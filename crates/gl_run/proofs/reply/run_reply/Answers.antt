@@ -15,6 +15,8 @@ returns-in-Err-TooLong-clause-page g c = λ keep.
     let long : IfSome left (λ xs. LONGEST < length xs) = search rules in
     let over : (bytes : List ℕ) × (LONGEST < length bytes) × Consumes left now bytes = search rules in
     let longer : IfOk c.map_err-in-Err-TooLong.result (λ p. AnswersLonger command p.status p.text.items p.kept) =
-    mapped _ _ c.answer_longer.result c.map_err-in-Err-TooLong.result c.map_err-in-Err-TooLong.ensures.cases c.map_err-in-Err-TooLong.ensures.variant
+    mapped _ _ c.answer_longer.result c.map_err-in-Err-TooLong.result c.map_err-in-Err-TooLong.ensures.cases
+    c.map_err-in-Err-TooLong.ensures.variant
     c.answer_longer.ensures.answer in
-    more_if_ok _ _ c.map_err-in-Err-TooLong.result (λ p answer. long_reply keep (Some command) command LONGEST left now over.0 p refl refl over.1 over.2 long answer) longer
+    more_if_ok _ _ c.map_err-in-Err-TooLong.result
+    (λ p answer. long_reply keep (Some command) command LONGEST left now over.0 p refl refl over.1 over.2 long answer) longer

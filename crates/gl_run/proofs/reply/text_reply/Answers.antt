@@ -15,10 +15,12 @@ returns-in-Err-TooLong-clause-page g c =
     let long : IfSome left (λ xs. most < length xs) = search rules in
     let over : (bytes : List ℕ) × (most < length bytes) × Consumes left now bytes = search rules in
     let longer : IfOk c.map_err-in-Err-TooLong.result (λ p. AnswersLonger c.in-Some.command p.status p.text.items p.kept) =
-    mapped _ _ c.answer_longer.result c.map_err-in-Err-TooLong.result c.map_err-in-Err-TooLong.ensures.cases c.map_err-in-Err-TooLong.ensures.variant
+    mapped _ _ c.answer_longer.result c.map_err-in-Err-TooLong.result c.map_err-in-Err-TooLong.ensures.cases
+    c.map_err-in-Err-TooLong.ensures.variant
     c.answer_longer.ensures.answer in
     more_if_ok _ _ c.map_err-in-Err-TooLong.result
-    (λ p answer. long_reply c.args.keep c.args.asked c.in-Some.command most left now over.0 p c.in-Some.is c.most.ensures over.1 over.2 long answer) longer
+    (λ p answer. long_reply c.args.keep c.args.asked c.in-Some.command most left now over.0 p c.in-Some.is c.most.ensures over.1 over.2
+    long answer) longer
 
 pub returns-in-None-clause-page : goal.returns-in-None-clause-page
 returns-in-None-clause-page g c =

@@ -11,5 +11,6 @@ returns-clause-left g c =
     let written = g.K.Sink.written in
     let replied = c.reply-reply.ensures in
     subst (λ asked. HasLeft asked left now c.finish.result.status) c.run_command_of.ensures.value
-    (left_of c.run_command_of.result left now (faults c.args.sink.now) (faults c.finish.new.sink) (written c.args.sink.now) (written c.finish.new.sink) c.reply-reply.result c.finish.result
+    (left_of c.run_command_of.result left now (faults c.args.sink.now) (faults c.finish.new.sink) (written c.args.sink.now)
+    (written c.finish.new.sink) c.reply-reply.result c.finish.result
     replied.unread replied.accepted replied.read c.finish.ensures)

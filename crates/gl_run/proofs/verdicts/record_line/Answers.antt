@@ -11,5 +11,6 @@ returns-in-Some-clause-recorded c = λ lines recorded.
     let more : (2 * length lines + 1) + 2 ≤ 2 * length (lines ++ line ∷ []) + 1 = omega (arith, length-append lines (line ∷ [])) in
     let is = rw c.in-Some.is at recorded in
     both_on_ok _ _ c.item.result
-    (subst (λ s. OnOk c.item.result (Traces s c.item.new.self)) (sym (after_push lines line before_lines)) (c.item.ensures.traces (after_lines lines before_lines) is.0))
+    (subst (λ s. OnOk c.item.result (Traces s c.item.new.self)) (sym (after_push lines line before_lines))
+    (c.item.ensures.traces (after_lines lines before_lines) is.0))
     (c.item.ensures.most (2 * length lines + 1) (2 * length (lines ++ line ∷ []) + 1) more is.1)

@@ -21,7 +21,8 @@ gather_one-requires-clause-behind c =
     let i = at.invariant in
     let steps = c.in-Some.ensures.steps.0 in
     let all = ap (λ l. at.yielded ++ l) (sym steps) ∙ i.0 ∙ c.into_iter-pass-iterator.ensures.into_iter_gives.0 in
-    subst (λ l. AllByRecursion (λ x. x.0 < c.in-Some.pass.own.id) l) (sym i.5) (next_behind _ c.args.passes.items at.yielded _ c.in-Some.pass c.requires.all all)
+    subst (λ l. AllByRecursion (λ x. x.0 < c.in-Some.pass.own.id) l) (sym i.5)
+    (next_behind _ c.args.passes.items at.yielded _ c.in-Some.pass c.requires.all all)
 
 pub loop-pass-preserved : goal.loop-pass-preserved
 loop-pass-preserved c =
@@ -40,7 +41,8 @@ loop-pass-preserved c =
       (let a = i.1 in omega arith),
       g.table ∙ i.3,
       g.root at.yielded i.4,
-      g.lists ∙ ap (λ l. l ++ kept_lists (shelf_of x ∷ [])) i.5 ∙ sym (ap kept_lists (shelves_more at.yielded x) ∙ kept_more (shelves_of at.yielded) (shelf_of x)),
+      g.lists ∙ ap (λ l. l ++ kept_lists (shelf_of x ∷ [])) i.5
+          ∙ sym (ap kept_lists (shelves_more at.yielded x) ∙ kept_more (shelves_of at.yielded) (shelf_of x)),
     )
 
 all_yielded : {X : Type 0} (xs ys zs : List X) → ys ≡ [] → xs ++ ys ≡ zs → xs ≡ zs
@@ -51,7 +53,8 @@ returns-clause-root c =
     let at = c.loop-pass in
     let i = at.invariant in
     let empty : into_iter_items at.pass-iterator ≡ [] = nothing_left _ (i.1 ∙ c.in-None.ensures.steps.0) in
-    let all : at.yielded ≡ c.args.passes.items = all_yielded at.yielded _ _ empty i.0 ∙ c.into_iter-pass-iterator.ensures.into_iter_gives.0 in
+    let all : at.yielded ≡ c.args.passes.items = all_yielded at.yielded _ _ empty i.0
+    ∙ c.into_iter-pass-iterator.ensures.into_iter_gives.0 in
     subst (λ l. IsRoot at.root.me l) all i.4
 
 pub returns-clause-lists : goal.returns-clause-lists
@@ -59,5 +62,6 @@ returns-clause-lists c =
     let at = c.loop-pass in
     let i = at.invariant in
     let empty : into_iter_items at.pass-iterator ≡ [] = nothing_left _ (i.1 ∙ c.in-None.ensures.steps.0) in
-    let all : at.yielded ≡ c.args.passes.items = all_yielded at.yielded _ _ empty i.0 ∙ c.into_iter-pass-iterator.ensures.into_iter_gives.0 in
+    let all : at.yielded ≡ c.args.passes.items = all_yielded at.yielded _ _ empty i.0
+    ∙ c.into_iter-pass-iterator.ensures.into_iter_gives.0 in
     i.5 ∙ ap (λ l. kept_lists (shelves_of l)) all

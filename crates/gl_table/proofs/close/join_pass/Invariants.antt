@@ -5,4 +5,16 @@ use Rattle.gl_table.specs.Says.{no_tx, no_event, no_key, no_mark, no_held}
 use Rattle.gl_table.proofs.close.join_pass.Given as goal
 
 abbrev pub ghosts-load_tail : goal.ghosts-load_tail
-ghosts-load_tail a = record { view = caught_up a.seat.now.me.0 a.id a.mine.now.entries; setting = trace_setting; key = no_key; object = 0; quiet = false; held = no_held; event = no_event; mark = no_mark; look = None; tx = no_tx; index = 0 }
+ghosts-load_tail a = record {
+  view = caught_up a.seat.now.me.0 a.id a.mine.now.entries;
+  setting = trace_setting;
+  key = no_key;
+  object = 0;
+  quiet = false;
+  held = no_held;
+  event = no_event;
+  mark = no_mark;
+  look = None;
+  tx = no_tx;
+  index = 0;
+}

@@ -7,5 +7,10 @@ use Rattle.gl_table.proofs.hold.turn_by.Goals as goal
 pub loop-preserved : goal.loop-preserved
 loop-preserved c =
     let i = c.loop.invariant in
-    let t = c.turn.ensures in
-    (search rules, search rules, ap (λ m. m.0) t.2 ∙ i.2, ap (λ m. m.1) t.2 ∙ ap turned i.3 ∙ turned_step c.args.seat.now.me.1 c.loop.counter (0, slot.Empty) (omega arith))
+    let t = c.turn.ensures in (
+      search rules,
+      search rules,
+      ap (λ m. m.0) t.2 ∙ i.2,
+      ap (λ m. m.1) t.2 ∙ ap turned i.3
+          ∙ turned_step c.args.seat.now.me.1 c.loop.counter (0, slot.Empty) (omega arith),
+    )

@@ -15,7 +15,8 @@ loop-monitor-preserved c =
       | then-count-gt0 w ↦
           (let t = w.if-count-gt0.true in
           let some : 0 < slice_index counts k = omega arith in
-          subst (AreLeastBelow counts (k + 1)) (sym (w.held-is ∙ w.add.ensures)) (least_taken counts k c.loop-monitor.held some c.loop-monitor.invariant))
+          subst (AreLeastBelow counts (k + 1)) (sym (w.held-is ∙ w.add.ensures))
+          (least_taken counts k c.loop-monitor.held some c.loop-monitor.invariant))
       | else-count-gt0 w ↦
           (let t = w.if-count-gt0.false in
           let none : slice_index counts k ≡ 0 = omega arith in

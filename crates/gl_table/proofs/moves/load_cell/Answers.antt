@@ -3,4 +3,5 @@ use Rattle.gl_table.proofs.Calls.{may_cell}
 use Rattle.gl_table.proofs.moves.load_cell.Goals as goal
 
 pub load-requires : goal.load-requires
-load-requires g c = let n = c.requires.near in let long = c.requires.table.table.words in let o = c.requires.told in (c.requires.table.same, omega arith, may_cell _ _ _ _ _ _ _ o.0 c.requires.ready _ _ _ _ _ _ o.1 o.2 o.3 n.0 n.3 c.requires.may)
+load-requires g c = let n = c.requires.near in let long = c.requires.table.table.words in let o = c.requires.told
+    in (c.requires.table.same, omega arith, may_cell _ _ _ _ _ _ _ o.0 c.requires.ready _ _ _ _ _ _ o.1 o.2 o.3 n.0 n.3 c.requires.may)

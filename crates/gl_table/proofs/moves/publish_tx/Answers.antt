@@ -7,7 +7,13 @@ use Rattle.gl_table.proofs.Calls.{may_commit}
 use Rattle.gl_table.proofs.moves.publish_tx.Goals as goal
 
 pub fetch_add-requires : goal.fetch_add-requires
-fetch_add-requires g c = let long = c.requires.table.table.words in let o = c.requires.told in (c.requires.table.same, omega arith, may_commit _ _ _ _ _ _ _ o.0 c.requires.ready _ _ _ _ _ o.1 o.2 o.3 c.requires.may c.requires.commits)
+fetch_add-requires g c = let long = c.requires.table.table.words in let o = c.requires.told
+    in (
+      c.requires.table.same,
+      omega arith,
+      may_commit _ _ _ _ _ _ _ o.0 c.requires.ready _ _ _ _ _ o.1 o.2 o.3 c.requires.may
+          c.requires.commits,
+    )
 
 -- what is told speaks of the thread's own list and attempt
 pub returns-clause-published : goal.returns-clause-published
@@ -22,4 +28,5 @@ returns-clause-published g c =
     let e = g.B.Told.event in
     subst (λ z. PublishedTx s z y v me n w) o.3
     (subst (λ z. PublishedTx s g.B.Told.tx z v me n w) o.2
-    (subst (λ z. PublishedTx z g.B.Told.tx e.state v me n w) o.1 (subst (λ z. PublishedTx e.shelf g.B.Told.tx e.state z me n w) o.0 c.fetch_add.ensures.2)))
+    (subst (λ z. PublishedTx z g.B.Told.tx e.state v me n w) o.1
+    (subst (λ z. PublishedTx e.shelf g.B.Told.tx e.state z me n w) o.0 c.fetch_add.ensures.2)))

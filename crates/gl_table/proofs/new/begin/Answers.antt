@@ -14,5 +14,7 @@ loop-id-preserved c =
       search rules,
       search rules,
       c.in_ok-cut_pass.ensures.seat.1 ∙ ap (λ k. (blank (shelves_from (c.loop-id.id + 1) k), [])) n,
-      ap (λ l. l ++ fresh_from z (c.loop-id.id + 1) (16 - (c.loop-id.id + 1))) (c.push_reserved.ensures.items ∙ ap (λ p. c.loop-id.passes.items ++ p ∷ []) c.in_ok-cut_pass.ensures.pass) ∙ fresh_next z c.loop-id.id c.loop-id.passes.items (omega arith) ∙ i.4,
+      ap (λ l. l ++ fresh_from z (c.loop-id.id + 1) (16 - (c.loop-id.id + 1))) (c.push_reserved.ensures.items
+          ∙ ap (λ p. c.loop-id.passes.items ++ p ∷ []) c.in_ok-cut_pass.ensures.pass)
+          ∙ fresh_next z c.loop-id.id c.loop-id.passes.items (omega arith) ∙ i.4,
     )

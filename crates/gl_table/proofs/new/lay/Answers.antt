@@ -16,5 +16,7 @@ pub new-requires : goal.new-requires
 new-requires c =
     let key = key_of c.args.layout.now in
     let rule = begins key (first_state c.args.layout.now.main) (first_is key.setting c.args.layout.now.main refl) in
-    subst (λ (ws : List ℕ). Rule key (opening ws c.in_ok-slots.slots.items (blank sixteen))) (sym (c.as_slice.ensures.value ∙ c.in_ok-words.ensures))
-    (subst (λ (l : List Slot). Rule key (opening (no_words (word_count (capacity key))) l (blank sixteen))) (sym c.in_ok-slots.ensures) rule)
+    subst (λ (ws : List ℕ). Rule key (opening ws c.in_ok-slots.slots.items (blank sixteen)))
+    (sym (c.as_slice.ensures.value ∙ c.in_ok-words.ensures))
+    (subst (λ (l : List Slot). Rule key (opening (no_words (word_count (capacity key))) l (blank sixteen))) (sym c.in_ok-slots.ensures)
+    rule)

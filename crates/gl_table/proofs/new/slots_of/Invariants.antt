@@ -4,4 +4,5 @@ use Rattle.gl_state.specs.Starting.{empty_row, first_state}
 use Rattle.gl_table.proofs.new.slots_of.Given as goal
 
 abbrev pub invariant-loop : goal.invariant-loop
-invariant-loop l = (l.slots.items ≡ slot.List (first_state l.main) ∷ replicate l.counter (slot.Row empty_row)) × (vec_len l.slots ≡ l.counter + 1) × (1025 ≤ vec_capacity l.slots)
+invariant-loop l = (l.slots.items ≡ slot.List (first_state l.main) ∷ replicate l.counter (slot.Row empty_row))
+    × (vec_len l.slots ≡ l.counter + 1) × (1025 ≤ vec_capacity l.slots)

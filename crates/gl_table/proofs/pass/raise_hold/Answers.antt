@@ -7,5 +7,9 @@ use Rattle.gl_table.proofs.pass.raise_hold.Goals as goal
 
 pub invariant_of-pass : goal.invariant_of-pass
 invariant_of-pass c =
-    let has = subst (λ (p : PassView). Contains p.own.held (held_at (c.args.var + 1) p.own.held)) (sym c.pass.view_is) c.requires.may.1.held in
-    record { pass = pass_changes _ _ _ _ _ _ c.pass.invariant.pass _ _ _ _ refl refl refl refl refl refl has c.raise_floor.ensures.raised; room = c.pass.invariant.room }
+    let has = subst (λ (p : PassView). Contains p.own.held (held_at (c.args.var + 1) p.own.held)) (sym c.pass.view_is)
+    c.requires.may.1.held in
+    record {
+      pass = pass_changes _ _ _ _ _ _ c.pass.invariant.pass _ _ _ _ refl refl refl refl refl refl has c.raise_floor.ensures.raised;
+      room = c.pass.invariant.room;
+    }

@@ -8,4 +8,7 @@ use Rattle.gl_table.proofs.pass.see_floor.Goals as goal
 pub invariant_of-pass : goal.invariant_of-pass
 invariant_of-pass c =
     let has = subst (λ (p : PassView). Contains p.own.held (held_at (c.args.var + 1) p.own.held)) (sym c.pass.view_is) c.requires.held.0 in
-    record { pass = pass_changes _ _ _ _ _ _ c.pass.invariant.pass _ _ _ _ refl refl refl refl refl refl has c.load_floor.ensures.saw.0; room = c.pass.invariant.room }
+    record {
+      pass = pass_changes _ _ _ _ _ _ c.pass.invariant.pass _ _ _ _ refl refl refl refl refl refl has c.load_floor.ensures.saw.0;
+      room = c.pass.invariant.room;
+    }

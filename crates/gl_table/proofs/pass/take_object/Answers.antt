@@ -10,7 +10,11 @@ use Rattle.gl_table.proofs.Passes.{pass_refuses, took_slot, took_room, pass_take
 use Rattle.gl_table.proofs.pass.take_object.Goals as goal
 
 pub invariant_of-pass : goal.invariant_of-pass
-invariant_of-pass c = record { pass = (pass_refuses _ _ _ _ _ _ c.pass.invariant.pass _ c.args.k _ _ c.take_turn-found.ensures.took c.if-found-ne0.true).0; room = c.pass.invariant.room }
+invariant_of-pass c = record {
+  pass = (pass_refuses _ _ _ _ _ _ c.pass.invariant.pass _ c.args.k _ _ c.take_turn-found.ensures.took
+      c.if-found-ne0.true).0;
+  room = c.pass.invariant.room;
+}
 
 pub exchange-requires : goal.exchange-requires
 exchange-requires c =
@@ -24,8 +28,15 @@ invariant_of-pass-2 c =
     let order = c.in-Ok.ensures.items in
     let cap = c.in-Ok.ensures.capacity in
     let old = c.pass.invariant.room in
-    let is = c.exchange.ensures.3 ∙ ap (λ (m : table.Me Slot View). let r : table.Me Slot View = (m.0, (c.args.k, slot.Empty) ∷ table.rest m.1) in r) s.1 in
-    record { pass = subst (λ l. IsPass c.exchange.new.seat.me c.pass.inside.id c.pass.inside.mine.entries c.pass.inside.seen l c.pass.inside.quiet) (sym order) (pass_takes _ _ _ _ _ _ c.pass.invariant.pass c.args.k s.0 _ (λ o. free o.0 o.1 o.2) c.requires.near is); room = omega arith }
+    let is = c.exchange.ensures.3 ∙ ap (λ (m : table.Me Slot View). let r : table.Me Slot View =
+    (m.0, (c.args.k, slot.Empty) ∷ table.rest m.1) in r) s.1 in
+    record {
+      pass = subst (λ l. IsPass c.exchange.new.seat.me c.pass.inside.id c.pass.inside.mine.entries c.pass.inside.seen l
+          c.pass.inside.quiet) (sym order) (pass_takes _ _ _ _ _ _ c.pass.invariant.pass c.args.k s.0 _ (λ o. free o.0 o.1 o.2)
+          c.requires.near
+          is);
+      room = omega arith;
+    }
 
 pub unreachable-requires : goal.unreachable-requires
 unreachable-requires c =

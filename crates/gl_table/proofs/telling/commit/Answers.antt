@@ -23,7 +23,8 @@ use Rattle.gl_table.proofs.telling.commit.Goals as goal
 
 pub publish_tx-at-requires-clause-may : goal.publish_tx-at-requires-clause-may
 publish_tx-at-requires-clause-may c =
-    let m = subst (λ (p : PassView). MayPublishTx (key_of c.args.board.now.key) p c.args.tx.value c.args.state.now) (sym c.pass.view_is) c.requires.may in
+    let m = subst (λ (p : PassView). MayPublishTx (key_of c.args.board.now.key) p c.args.tx.value c.args.state.now) (sym c.pass.view_is)
+    c.requires.may in
     let mine = c.pass.inside.mine.entries in
     let id = c.pass.inside.id in
     let now = caught_up c.pass.inside.seat.me.0 id mine in
@@ -32,21 +33,27 @@ publish_tx-at-requires-clause-may c =
     let is = c.put_words.ensures.stored ∙ ap (λ l. record now { stored = l }) words in (
       m.held,
       m.old,
-      subst (λ (tx : Tx). MayPublish key (shelf id mine) (caught_up c.put_words.new.seat.me.0 id mine) m.held m.old c.args.state.now (λ n. Commit n tx) (commit_stamp id tx) (pos 0)) (sym c.deref.ensures)
-          (subst (λ (v : View). MayPublish key (shelf id mine) v m.held m.old c.args.state.now (λ n. Commit n c.args.tx.value) (commit_stamp id c.args.tx.value) (pos 0)) (sym is) m.may),
+      subst (λ (tx : Tx). MayPublish key (shelf id mine) (caught_up c.put_words.new.seat.me.0 id mine) m.held m.old c.args.state.now
+          (λ n. Commit n tx) (commit_stamp id tx) (pos 0)) (sym c.deref.ensures)
+          (subst (λ (v : View). MayPublish key (shelf id mine) v m.held m.old c.args.state.now (λ n. Commit n c.args.tx.value)
+          (commit_stamp id c.args.tx.value) (pos 0)) (sym is) m.may),
     )
 
 pub publish_tx-at-requires-clause-commits : goal.publish_tx-at-requires-clause-commits
 publish_tx-at-requires-clause-commits c =
-    let m = subst (λ (p : PassView). MayPublishTx (key_of c.args.board.now.key) p c.args.tx.value c.args.state.now) (sym c.pass.view_is) c.requires.may in
+    let m = subst (λ (p : PassView). MayPublishTx (key_of c.args.board.now.key) p c.args.tx.value c.args.state.now) (sym c.pass.view_is)
+    c.requires.may in
     let mine = c.pass.inside.mine.entries in
     let id = c.pass.inside.id in
     let setting = (key_of c.args.board.now.key).setting in (
       m.block,
       m.judged,
       m.question,
-      subst (λ (tx : Tx). MayCommit setting (shelf id mine) (caught_up c.put_words.new.seat.me.0 id mine) tx m.block m.judged m.question) (sym c.deref.ensures)
-          (subst (λ (v : View). MayCommit setting (shelf id mine) v c.args.tx.value m.block m.judged m.question) (sym c.put_words.ensures.stored) (commit_stored setting (shelf id mine) _ c.args.tx.value m.block m.judged m.question _ m.commits)),
+      subst (λ (tx : Tx). MayCommit setting (shelf id mine) (caught_up c.put_words.new.seat.me.0 id mine) tx m.block m.judged m.question)
+          (sym c.deref.ensures)
+          (subst (λ (v : View). MayCommit setting (shelf id mine) v c.args.tx.value m.block m.judged m.question)
+          (sym c.put_words.ensures.stored) (commit_stored setting (shelf id mine) _ c.args.tx.value m.block m.judged m.question _
+          m.commits)),
     )
 
 told_as : (P : Tx → Type 0) (a b : Tx) → a ≡ b → P a → P b
@@ -62,9 +69,16 @@ invariant_of-pass c =
     let tx = c.args.tx.value in
     let n = c.publish_tx-at.result in
     let items = c.push.ensures.entries in
-    let told = told_as (λ z. PublishedTx (shelf id mine) z (slot.List c.args.state.now) (caught_up c.put_words.new.seat.me.0 id mine) c.put_words.new.seat.me.1 n c.publish_tx-at.new.seat.me) _ tx c.deref.ensures c.publish_tx-at.ensures.published in
+    let told = told_as (λ z. PublishedTx (shelf id mine) z (slot.List c.args.state.now) (caught_up c.put_words.new.seat.me.0 id mine)
+    c.put_words.new.seat.me.1 n c.publish_tx-at.new.seat.me) _ tx c.deref.ensures c.publish_tx-at.ensures.published in
     let kept : IsTxKept tx = told_as IsTxKept _ tx c.deref-2.ensures c.keeps.ensures in
-    record { pass = (pass_tells _ _ _ _ _ _ c.pass.invariant.pass _ (Commit n tx) (commit_stamp id tx) (drew_commit (variables_of tx) (draw id n (Entered (Commit n tx)))) (slot.List c.args.state.now) _ _ n _ _ c.put_words.ensures.stored c.put_words.ensures.seat.2 items told.1 told.2 refl kept).0; room = c.pass.invariant.room }
+    record {
+      pass = (pass_tells _ _ _ _ _ _ c.pass.invariant.pass _ (Commit n tx) (commit_stamp id tx)
+          (drew_commit (variables_of tx) (draw id n (Entered (Commit n tx)))) (slot.List c.args.state.now) _ _ n _ _
+          c.put_words.ensures.stored
+          c.put_words.ensures.seat.2 items told.1 told.2 refl kept).0;
+      room = c.pass.invariant.room;
+    }
 
 pub returns : goal.returns
 returns c =
@@ -74,12 +88,16 @@ returns c =
     let n = c.publish_tx-at.result in
     let z = c.pass.inside.seat.table_id in
     let more = c.push.ensures.entries in
-    let told = told_as (λ z. PublishedTx (shelf id mine) z (slot.List c.args.state.now) (caught_up c.put_words.new.seat.me.0 id mine) c.put_words.new.seat.me.1 n c.publish_tx-at.new.seat.me) _ tx c.deref.ensures c.publish_tx-at.ensures.published in
+    let told = told_as (λ z. PublishedTx (shelf id mine) z (slot.List c.args.state.now) (caught_up c.put_words.new.seat.me.0 id mine)
+    c.put_words.new.seat.me.1 n c.publish_tx-at.new.seat.me) _ tx c.deref.ensures c.publish_tx-at.ensures.published in
     let kept : IsTxKept tx = told_as IsTxKept _ tx c.deref-2.ensures c.keeps.ensures in
-    let r = pass_tells _ _ _ _ _ _ c.pass.invariant.pass _ (Commit n tx) (commit_stamp id tx) (drew_commit (variables_of tx) (draw id n (Entered (Commit n tx)))) (slot.List c.args.state.now) _ _ n _ _ c.put_words.ensures.stored c.put_words.ensures.seat.2 more told.1 told.2 refl kept in
+    let r = pass_tells _ _ _ _ _ _ c.pass.invariant.pass _ (Commit n tx) (commit_stamp id tx)
+    (drew_commit (variables_of tx) (draw id n (Entered (Commit n tx)))) (slot.List c.args.state.now) _ _ n _ _ c.put_words.ensures.stored
+    c.put_words.ensures.seat.2 more told.1 told.2 refl kept in
     let is = r.1 in
     let same = c.publish_tx-at.ensures.seat.0 ∙ c.put_words.ensures.seat.0 in
-    let m = subst (λ (p : PassView). MayPublishTx (key_of c.args.board.now.key) p c.args.tx.value c.args.state.now) (sym c.pass.view_is) c.requires.may in
+    let m = subst (λ (p : PassView). MayPublishTx (key_of c.args.board.now.key) p c.args.tx.value c.args.state.now) (sym c.pass.view_is)
+    c.requires.may in
     let at_tail = subst (λ (v : View). IsTailOf v.held n) c.put_words.ensures.stored told.3 in
     let old = c.pass.inside.mine.spare - 1 in
     let left = c.push.ensures.spare in
@@ -88,7 +106,8 @@ returns c =
       published = ap (λ y. pass_of y id mine' (caught_up c.publish_tx-at.new.seat.me.0 id mine') c.push.new.self.spare) same
           ∙ ap (λ s. pass_of z id mine' (caught_up c.publish_tx-at.new.seat.me.0 id mine') s) left
           ∙ ap (λ v. pass_of z id mine' v old) is
-          ∙ ap (λ l. pass_of z id l (published (caught_up c.pass.inside.seat.me.0 id mine) id mine (Commit n tx) n (commit_stamp id tx) (slot.List c.args.state.now) (drew_commit (variables_of tx) (draw id n (Entered (Commit n tx))))) old) more
+          ∙ ap (λ l. pass_of z id l (published (caught_up c.pass.inside.seat.me.0 id mine) id mine (Commit n tx) n (commit_stamp id tx)
+          (slot.List c.args.state.now) (drew_commit (variables_of tx) (draw id n (Entered (Commit n tx))))) old) more
           ∙ ap (λ (p : PassView). published_tx p tx n c.args.state.now) c.pass.view_is;
       here = subst (λ (p : PassView). n ≡ p.seen) c.pass.view_is (sym (at_tail m.held m.may.tail m.may.held m.may.list m.may.saw) ∙ m.tail);
     }

@@ -7,4 +7,23 @@ use Rattle.gl_table.specs.Says.{no_tx, no_key, no_event}
 use Rattle.gl_table.proofs.telling.mark_plain.Given as goal
 
 abbrev pub ghosts-draw_number : goal.ghosts-draw_number
-ghosts-draw_number a = record { view = caught_up a.seat.now.me.0 a.id a.mine.now.entries; setting = trace_setting; key = no_key; object = a.var; quiet = false; held = held_at (a.var + 1) (caught_up a.seat.now.me.0 a.id a.mine.now.entries).held; event = no_event; mark = record { shelf = shelf a.id a.mine.now.entries; block = block_of a.mine.now.entries; write = a.write; value = a.value; raised = a.raised }; look = None; tx = no_tx; index = 0 }
+ghosts-draw_number a = record {
+  view = caught_up a.seat.now.me.0 a.id a.mine.now.entries;
+  setting = trace_setting;
+  key = no_key;
+  object = a.var;
+  quiet = false;
+  held = held_at (a.var + 1) (caught_up a.seat.now.me.0 a.id a.mine.now.entries).held;
+  event = no_event;
+  mark =
+      record {
+        shelf = shelf a.id a.mine.now.entries;
+        block = block_of a.mine.now.entries;
+        write = a.write;
+        value = a.value;
+        raised = a.raised;
+      };
+  look = None;
+  tx = no_tx;
+  index = 0;
+}

@@ -16,12 +16,19 @@ use Rattle.gl_table.proofs.telling.publish.Goals as goal
 
 pub publish_act-at-requires-clause-may : goal.publish_act-at-requires-clause-may
 publish_act-at-requires-clause-may c =
-    let m = subst (λ (p : PassView). MayPublishAct (key_of c.args.board.now.key) p c.args.act.now c.args.value c.args.state.now) (sym c.pass.view_is) c.requires.may in
+    let m = subst (λ (p : PassView). MayPublishAct (key_of c.args.board.now.key) p c.args.act.now c.args.value c.args.state.now)
+    (sym c.pass.view_is) c.requires.may in
     let mine = c.pass.inside.mine.entries in
     let id = c.pass.inside.id in
-    let is = c.put_words.ensures.stored ∙ ap (λ l. record (caught_up c.pass.inside.seat.me.0 id mine) { stored = l }) c.pack-words.ensures in
-    let fits : FitsSigned w64 c.args.value = search rules in
-    (m.held, m.old, simp to_z-of_z (subst (λ (v : View). MayPublish (key_of c.args.board.now.key) (shelf id mine) v m.held m.old c.args.state.now (λ n. Sync n c.args.act.now c.args.value) (record { thread = id; event = Does c.args.act.now }) c.args.value) (sym is) m.may))
+    let is = c.put_words.ensures.stored ∙ ap (λ l. record (caught_up c.pass.inside.seat.me.0 id mine) { stored = l }) c.pack-words.ensures
+    in
+    let fits : FitsSigned w64 c.args.value = search rules in (
+      m.held,
+      m.old,
+      simp to_z-of_z (subst (λ (v : View). MayPublish (key_of c.args.board.now.key) (shelf id mine) v m.held m.old
+          c.args.state.now (λ n. Sync n c.args.act.now c.args.value) (record { thread = id; event = Does c.args.act.now }) c.args.value)
+          (sym is) m.may),
+    )
 
 pub push-requires-clause-kept : goal.push-requires-clause-kept
 push-requires-clause-kept c = c.requires.may.may.kept
@@ -31,7 +38,11 @@ invariant_of-pass c =
     let fits : FitsSigned w64 c.args.value = search rules in
     let more = simp to_z-of_z at c.push.ensures.entries in
     let told = simp to_z-of_z at c.publish_act-at.ensures.published in
-    record { pass = (pass_publishes _ _ _ _ _ _ c.pass.invariant.pass _ c.args.act.now c.args.value (slot.List c.args.state.now) _ _ _ _ _ c.put_words.ensures.stored c.put_words.ensures.seat.2 more told c.requires.may.may.kept).0; room = c.pass.invariant.room }
+    record {
+      pass = (pass_publishes _ _ _ _ _ _ c.pass.invariant.pass _ c.args.act.now c.args.value (slot.List c.args.state.now) _ _ _ _ _
+          c.put_words.ensures.stored c.put_words.ensures.seat.2 more told c.requires.may.may.kept).0;
+      room = c.pass.invariant.room;
+    }
 
 pub returns : goal.returns
 returns c =
@@ -42,16 +53,22 @@ returns c =
     let n = c.publish_act-at.result in
     let z = c.pass.inside.seat.table_id in
     let more = simp to_z-of_z at c.push.ensures.entries in
-    let is = (pass_publishes _ _ _ _ _ _ c.pass.invariant.pass _ c.args.act.now c.args.value (slot.List c.args.state.now) _ _ _ _ _ c.put_words.ensures.stored c.put_words.ensures.seat.2 more told c.requires.may.may.kept).1 in
+    let is = (pass_publishes _ _ _ _ _ _ c.pass.invariant.pass _ c.args.act.now c.args.value (slot.List c.args.state.now) _ _ _ _ _
+    c.put_words.ensures.stored c.put_words.ensures.seat.2 more told c.requires.may.may.kept).1 in
     let same = c.publish_act-at.ensures.seat.0 ∙ c.put_words.ensures.seat.0 in
-    let m = subst (λ (p : PassView). MayPublishAct (key_of c.args.board.now.key) p c.args.act.now c.args.value c.args.state.now) (sym c.pass.view_is) c.requires.may in
+    let m = subst (λ (p : PassView). MayPublishAct (key_of c.args.board.now.key) p c.args.act.now c.args.value c.args.state.now)
+    (sym c.pass.view_is) c.requires.may in
     let at_tail = subst (λ (v : View). IsTailOf v.held n) c.put_words.ensures.stored told.3 in
     let left = c.push.ensures.spare in
     record {
-      published = ap (λ y. pass_of y id c.push.new.self.entries (caught_up c.publish_act-at.new.seat.me.0 id c.push.new.self.entries) c.push.new.self.spare) same
+      published = ap (λ y. pass_of y id c.push.new.self.entries (caught_up c.publish_act-at.new.seat.me.0 id c.push.new.self.entries)
+          c.push.new.self.spare) same
           ∙ ap (λ s. pass_of z id c.push.new.self.entries (caught_up c.publish_act-at.new.seat.me.0 id c.push.new.self.entries) s) left
           ∙ ap (λ v. pass_of z id c.push.new.self.entries v (c.pass.inside.mine.spare - 1)) is
-          ∙ ap (λ l. pass_of z id l (published (caught_up c.pass.inside.seat.me.0 id mine) id mine (Sync n c.args.act.now c.args.value) n (record { thread = id; event = Does c.args.act.now }) (slot.List c.args.state.now) (λ g. g.drew)) (c.pass.inside.mine.spare - 1)) more
-          ∙ ap (λ (p : PassView). after_storing p (published (view_of p) p.own.id p.own.mine (Sync n c.args.act.now c.args.value) n (record { thread = p.own.id; event = Does c.args.act.now }) (slot.List c.args.state.now) (λ g. g.drew))) c.pass.view_is;
+          ∙ ap (λ l. pass_of z id l (published (caught_up c.pass.inside.seat.me.0 id mine) id mine (Sync n c.args.act.now c.args.value) n
+          (record { thread = id; event = Does c.args.act.now }) (slot.List c.args.state.now) (λ g. g.drew))
+          (c.pass.inside.mine.spare - 1)) more
+          ∙ ap (λ (p : PassView). after_storing p (published (view_of p) p.own.id p.own.mine (Sync n c.args.act.now c.args.value) n
+          (record { thread = p.own.id; event = Does c.args.act.now }) (slot.List c.args.state.now) (λ g. g.drew))) c.pass.view_is;
       here = subst (λ (p : PassView). n ≡ p.seen) c.pass.view_is (sym (at_tail m.held m.may.tail m.may.held m.may.list m.may.saw) ∙ m.tail);
     }

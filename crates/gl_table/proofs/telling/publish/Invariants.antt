@@ -7,4 +7,16 @@ use Rattle.gl_table.specs.Says.{no_tx, no_key, no_mark, no_held}
 use Rattle.gl_table.proofs.telling.publish.Given as goal
 
 abbrev pub ghosts-publish_act : goal.ghosts-publish_act
-ghosts-publish_act a = record { view = caught_up a.seat.now.me.0 a.id a.mine.now.entries; setting = trace_setting; key = no_key; object = 0; quiet = false; held = no_held; event = record { shelf = shelf a.id a.mine.now.entries; act = a.act.now; value = a.value; state = slot.List a.state.now }; mark = no_mark; look = None; tx = no_tx; index = 0 }
+ghosts-publish_act a = record {
+  view = caught_up a.seat.now.me.0 a.id a.mine.now.entries;
+  setting = trace_setting;
+  key = no_key;
+  object = 0;
+  quiet = false;
+  held = no_held;
+  event = record { shelf = shelf a.id a.mine.now.entries; act = a.act.now; value = a.value; state = slot.List a.state.now };
+  mark = no_mark;
+  look = None;
+  tx = no_tx;
+  index = 0;
+}

@@ -16,8 +16,10 @@ use Rattle.gl_table.proofs.telling.put_paid.Goals as goal
 pub bring-requires-clause-there : goal.bring-requires-clause-there
 bring-requires-clause-there c =
     let m = subst (λ (p : PassView). MayPayOn p c.args.var c.args.row) (sym c.pass.view_is) c.requires.may in
-    let object : (held_at (c.args.var + 1) (caught_up c.pass.inside.seat.me.0 c.pass.inside.id c.pass.inside.mine.entries).held).object ≡ c.args.var + 1 = (let e = m.may.object in omega arith) in
-    subst (λ l. Contains l (c.args.var + 1)) (sym c.as_mut_slice.ensures.value) (subst (λ k. Contains c.pass.inside.order.items k) object (is_out _ _ _ _ _ _ c.pass.invariant.pass _ m.may.held))
+    let object : (held_at (c.args.var + 1) (caught_up c.pass.inside.seat.me.0 c.pass.inside.id c.pass.inside.mine.entries).held).object
+    ≡ c.args.var + 1 = (let e = m.may.object in omega arith) in
+    subst (λ l. Contains l (c.args.var + 1)) (sym c.as_mut_slice.ensures.value)
+    (subst (λ k. Contains c.pass.inside.order.items k) object (is_out _ _ _ _ _ _ c.pass.invariant.pass _ m.may.held))
 
 pub leave_paid-requires-clause-back : goal.leave_paid-requires-clause-back
 leave_paid-requires-clause-back c =
@@ -28,7 +30,13 @@ leave_paid-requires-clause-back c =
       c.args.row,
       table.rest c.bring.new.seat.me.1,
       ap (λ (m : table.Me Slot View). m.1) e,
-      (m.taken, m.value, subst (λ (v : View). MayPay (caught_up v c.pass.inside.id mine) (held_at (c.args.var + 1) (caught_up v c.pass.inside.id mine).held) c.args.var m.taken m.value) same m.may, m.is),
+      (
+        m.taken,
+        m.value,
+        subst (λ (v : View). MayPay (caught_up v c.pass.inside.id mine)
+            (held_at (c.args.var + 1) (caught_up v c.pass.inside.id mine).held) c.args.var m.taken m.value) same m.may,
+        m.is,
+      ),
     )
 
 whole : (o m : List ℕ) (n : ℕ) → n ≡ length o → take n (o ++ m) ≡ o
@@ -44,7 +52,8 @@ invariant_of-pass c =
     let kept = c.bring.auto.order in
     let len = c.as_mut_slice.ensures.len in
     let n : c.pass.inside.order.len ≡ length o = omega arith in
-    let items : c.remove.new.self.items ≡ drop 1 o = c.remove.ensures.items ∙ ap (drop 1) (whole o (drop (length o) c.pass.inside.order.items) c.pass.inside.order.len n) in
+    let items : c.remove.new.self.items ≡ drop 1 o = c.remove.ensures.items
+    ∙ ap (drop 1) (whole o (drop (length o) c.pass.inside.order.items) c.pass.inside.order.len n) in
     let perm = subst (λ l. IsPermutation l o) c.as_mut_slice.ensures.value c.bring.ensures.permutation in
     let e = c.exchange.ensures.3 in
     let b = brought (x + 1) c.bring.new.seat.me.1 o c.bring.ensures.carried c.bring.ensures.front in
@@ -52,9 +61,17 @@ invariant_of-pass c =
     let y : Slot = slot.Row c.args.row in
     let front = ap (λ (q : table.Me Slot View). q.1) e in
     let is = c.leave_paid.ensures.left
-    ∙ ap (λ (q : table.Me Slot View). let r : table.Me Slot View = (left (paid (caught_up q.0 id mine) (F q.0) x (Rattle.gl_table.specs.Told.head_slot q.1)) (suc x) false, table.rest q.1) in r) e
-    ∙ ap (λ (v : View). let r : table.Me Slot View = (left (paid (caught_up v id mine) (F v) x y) (suc x) false, table.rest c.bring.new.seat.me.1) in r) c.bring.ensures.place.2 in
+    ∙ ap (λ (q : table.Me Slot View). let r : table.Me Slot View =
+    (left (paid (caught_up q.0 id mine) (F q.0) x (Rattle.gl_table.specs.Told.head_slot q.1)) (suc x) false, table.rest q.1) in r) e
+    ∙ ap (λ (v : View). let r : table.Me Slot View =
+    (left (paid (caught_up v id mine) (F v) x y) (suc x) false, table.rest c.bring.new.seat.me.1) in r) c.bring.ensures.place.2 in
     let cap = c.remove.ensures.capacity in
     let old = c.pass.invariant.room in
     let block = c.as_mut_slice.ensures in
-    record { pass = subst (λ l. IsPass c.leave_paid.new.seat.me id mine c.pass.inside.seen l c.pass.inside.quiet) (sym items) (pass_pays _ _ _ _ _ _ c.pass.invariant.pass _ x y o (table.rest c.bring.new.seat.me.1) _ m.may.held perm c.bring.ensures.front b.1 is); room = omega arith }
+    record {
+      pass = subst (λ l. IsPass c.leave_paid.new.seat.me id mine c.pass.inside.seen l c.pass.inside.quiet) (sym items)
+          (pass_pays _ _ _ _ _ _ c.pass.invariant.pass _ x y o (table.rest c.bring.new.seat.me.1) _ m.may.held perm c.bring.ensures.front
+          b.1
+          is);
+      room = omega arith;
+    }

@@ -12,4 +12,16 @@ invariant-loop-i l =
     × (caught_up l.seat.me.0 l.id l.mine.entries ≡ record (caught_up l.initial.seat.me.0 l.id l.mine.entries) { stored = take l.i l.words })
 
 abbrev pub ghosts-put_word : goal.ghosts-put_word
-ghosts-put_word a = record { view = caught_up a.seat.now.me.0 a.id a.mine.now.entries; setting = trace_setting; key = no_key; object = 0; quiet = false; held = no_held; event = no_event; mark = no_mark; look = None; tx = no_tx; index = 0 }
+ghosts-put_word a = record {
+  view = caught_up a.seat.now.me.0 a.id a.mine.now.entries;
+  setting = trace_setting;
+  key = no_key;
+  object = 0;
+  quiet = false;
+  held = no_held;
+  event = no_event;
+  mark = no_mark;
+  look = None;
+  tx = no_tx;
+  index = 0;
+}

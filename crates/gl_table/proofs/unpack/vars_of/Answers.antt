@@ -8,4 +8,5 @@ loop-j-preserved c = λ xs has n.
     let j = c.loop-j.j in
     let test = c.loop-j-test.true in
     let near : j < length xs = omega arith in
-    c.in-Ok.ensures.ok ∙ ap (λ k. with_one k c.loop-j.vars) (c.id_at.ensures ∙ has.ids j near) ∙ ap (with_one (get_or xs j 0)) (c.loop-j.invariant xs has n) ∙ next_id xs j has.variables.1 near
+    c.in-Ok.ensures.ok ∙ ap (λ k. with_one k c.loop-j.vars) (c.id_at.ensures ∙ has.ids j near)
+    ∙ ap (with_one (get_or xs j 0)) (c.loop-j.invariant xs has n) ∙ next_id xs j has.variables.1 near

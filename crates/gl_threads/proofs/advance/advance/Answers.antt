@@ -19,5 +19,6 @@ pub returns-in-Over-clause-home : goal.returns-in-Over-clause-home
 returns-in-Over-clause-home g c =
     let at : ℕ → Type 0 = λ n. IsFinished c.args.program.now n c.args.shared.now.id c.over.new.self in
     subst at c.go_on.ensures.limit
-    (home_over c.args.program.now c.args.shared.now.id c.go_on.new.machine c.reserve.new.self.own c.over.new.self c.args.txn.now c.in-Over.ending
+    (home_over c.args.program.now c.args.shared.now.id c.go_on.new.machine c.reserve.new.self.own c.over.new.self c.args.txn.now
+    c.in-Over.ending
     c.go_on.ensures.rides (ap (λ (v : PassView). v.own) c.over.ensures) (sym c.in-Over.is ∙ c.asked.ensures.value))

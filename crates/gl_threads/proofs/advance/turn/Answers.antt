@@ -8,34 +8,56 @@ use Rattle.gl_threads.proofs.advance.turn.Goals as goal
 
 pub step-requires : goal.step-requires
 step-requires g c =
-    let answered : IsAnswered c.args.program.now c.args.machine.now c.args.ask c.in-Answered.reply c.args.pass.now.own c.try_gated.new.pass.own c.args.txn.now c.try_gated.new.txn = rw c.in-Answered.is at c.in_ok-reply.ensures.answered in
+    let answered : IsAnswered c.args.program.now c.args.machine.now c.args.ask c.in-Answered.reply c.args.pass.now.own
+    c.try_gated.new.pass.own c.args.txn.now c.try_gated.new.txn = rw c.in-Answered.is at c.in_ok-reply.ensures.answered in
     record {
       fits = c.requires.rides.fits;
       taken =
-          answered_may c.args.program.now c.args.shared.now.id c.args.machine.now c.args.pass.now.own c.args.pass.now.own c.try_gated.new.pass.own c.args.txn.now
+          answered_may c.args.program.now c.args.shared.now.id c.args.machine.now c.args.pass.now.own c.args.pass.now.own
+          c.try_gated.new.pass.own c.args.txn.now
           c.try_gated.new.txn c.args.ask c.in-Answered.reply c.requires.rides c.requires.asked answered;
       start = answered.starts;
     }
 
 pub returns-in-Answered : goal.returns-in-Answered
 returns-in-Answered g c =
-    let answered : IsAnswered c.args.program.now c.args.machine.now c.args.ask c.in-Answered.reply c.args.pass.now.own c.try_gated.new.pass.own c.args.txn.now c.try_gated.new.txn = rw c.in-Answered.is at c.in_ok-reply.ensures.answered in
-    let s = answered_on c.args.program.now c.args.shared.now.id c.args.machine.now c.step.new.self c.args.pass.now.own c.args.pass.now.own c.try_gated.new.pass.own
+    let answered : IsAnswered c.args.program.now c.args.machine.now c.args.ask c.in-Answered.reply c.args.pass.now.own
+    c.try_gated.new.pass.own c.args.txn.now c.try_gated.new.txn = rw c.in-Answered.is at c.in_ok-reply.ensures.answered in
+    let s = answered_on c.args.program.now c.args.shared.now.id c.args.machine.now c.step.new.self c.args.pass.now.own c.args.pass.now.own
+    c.try_gated.new.pass.own
     c.args.txn.now c.try_gated.new.txn c.args.ask c.step.result c.in-Answered.reply c.requires.rides refl c.requires.asked answered
     c.step.ensures.next c.step.ensures.ask c.step.ensures.in_range c.step.ensures.attempt in
-    record { on = s.rides; kept = c.in_ok-reply.ensures.kept; home = tt; limit = s.limit; id = s.id; table = s.table; window = c.try_gated.ensures.window }
+    record {
+      on = s.rides;
+      kept = c.in_ok-reply.ensures.kept;
+      home = tt;
+      limit = s.limit;
+      id = s.id;
+      table = s.table;
+      window = c.try_gated.ensures.window;
+    }
 
 pub returns-in-Again : goal.returns-in-Again
 returns-in-Again g c =
-    let same : c.try_gated.new.pass.own ≡ record c.args.pass.now.own { owed = c.try_gated.new.pass.own.owed } = rw c.in-Again.is at c.in_ok-reply.ensures.again in
+    let same : c.try_gated.new.pass.own ≡ record c.args.pass.now.own { owed = c.try_gated.new.pass.own.owed } =
+    rw c.in-Again.is at c.in_ok-reply.ensures.again in
     let idle : c.try_gated.new.txn ≡ c.args.txn.now = rw c.in-Again.is at c.in_ok-reply.ensures.same in
     let s = rides_again c.args.program.now c.args.shared.now.id c.args.machine.now c.args.pass.now.own c.try_gated.new.pass.own
     c.args.txn.now c.try_gated.new.txn c.requires.rides same idle in
-    record { on = s.rides; kept = c.in_ok-reply.ensures.kept; home = tt; limit = refl; id = s.id; table = s.table; window = c.try_gated.ensures.window }
+    record {
+      on = s.rides;
+      kept = c.in_ok-reply.ensures.kept;
+      home = tt;
+      limit = refl;
+      id = s.id;
+      table = s.table;
+      window = c.try_gated.ensures.window;
+    }
 
 pub sweep-requires : goal.sweep-requires
 sweep-requires g c =
-    let same : c.try_gated.new.pass.own ≡ record c.args.pass.now.own { owed = c.try_gated.new.pass.own.owed } = rw c.in-Full.is at c.in_ok-reply.ensures.again in
+    let same : c.try_gated.new.pass.own ≡ record c.args.pass.now.own { owed = c.try_gated.new.pass.own.owed } =
+    rw c.in-Full.is at c.in_ok-reply.ensures.again in
     let idle : c.try_gated.new.txn ≡ c.args.txn.now = rw c.in-Full.is at c.in_ok-reply.ensures.same in
     let r = rides_again c.args.program.now c.args.shared.now.id c.args.machine.now c.args.pass.now.own c.try_gated.new.pass.own
     c.args.txn.now c.try_gated.new.txn c.requires.rides same idle in
@@ -43,27 +65,33 @@ sweep-requires g c =
     let at : Own → Type 0 = λ v. Rides c.args.program.now c.args.shared.now.id c.args.machine.now v c.try_gated.new.txn in
     record {
       may =
-          may_sweep c.args.program.now c.args.shared.now c.args.machine.now c.reserve.new.self c.try_gated.new.txn c.args.ask (subst at (sym own) r.rides)
+          may_sweep c.args.program.now c.args.shared.now c.args.machine.now c.reserve.new.self c.try_gated.new.txn c.args.ask
+          (subst at (sym own) r.rides)
           c.requires.asked c.requires.asks c.in_ok-reserve-in-Full.ensures.spare;
       window = rw c.try_gated.ensures.window c.requires.window;
     }
 
 pub returns-in_ok-reserve-in-Full : goal.returns-in_ok-reserve-in-Full
 returns-in_ok-reserve-in-Full g c =
-    let same : c.try_gated.new.pass.own ≡ record c.args.pass.now.own { owed = c.try_gated.new.pass.own.owed } = rw c.in-Full.is at c.in_ok-reply.ensures.again in
+    let same : c.try_gated.new.pass.own ≡ record c.args.pass.now.own { owed = c.try_gated.new.pass.own.owed } =
+    rw c.in-Full.is at c.in_ok-reply.ensures.again in
     let idle : c.try_gated.new.txn ≡ c.args.txn.now = rw c.in-Full.is at c.in_ok-reply.ensures.same in
     let r = rides_again c.args.program.now c.args.shared.now.id c.args.machine.now c.args.pass.now.own c.try_gated.new.pass.own
     c.args.txn.now c.try_gated.new.txn c.requires.rides same idle in
     let own : c.reserve.new.self.own ≡ c.try_gated.new.pass.own = ap (λ (v : PassView). v.own) c.in_ok-reserve-in-Full.ensures.own in
     let at : Own → Type 0 = λ v. Rides c.args.program.now c.args.shared.now.id c.args.machine.now v c.try_gated.new.txn in
-    let rides : Rides c.args.program.now c.args.shared.now.id c.args.machine.now c.reserve.new.self.own c.try_gated.new.txn = subst at (sym own) r.rides in
+    let rides : Rides c.args.program.now c.args.shared.now.id c.args.machine.now c.reserve.new.self.own c.try_gated.new.txn =
+    subst at (sym own) r.rides in
     let swept = swept_by c.args.shared.now c.reserve.new.self c.sweep.new.pass c.sweep.result c.sweep.ensures.swept in
-    let s = rides_swept_on c.args.program.now c.args.shared.now.id c.args.machine.now c.reserve.new.self.own c.sweep.new.pass.own c.try_gated.new.txn rides
-    (ask_open c.args.program.now c.args.shared.now.id c.args.machine.now c.reserve.new.self.own c.try_gated.new.txn c.args.ask c.requires.asked c.requires.asks rides) swept in
+    let s = rides_swept_on c.args.program.now c.args.shared.now.id c.args.machine.now c.reserve.new.self.own c.sweep.new.pass.own
+    c.try_gated.new.txn rides
+    (ask_open c.args.program.now c.args.shared.now.id c.args.machine.now c.reserve.new.self.own c.try_gated.new.txn c.args.ask
+    c.requires.asked c.requires.asks rides) swept in
     let kept : Own → Type 0 = λ v. AreKept c.try_gated.new.txn c.try_gated.new.words v in
     record {
       on = s.rides;
-      kept = kept_swept c.try_gated.new.words c.try_gated.new.txn c.reserve.new.self.own c.sweep.new.pass.own swept (subst kept (sym own) c.in_ok-reply.ensures.kept);
+      kept = kept_swept c.try_gated.new.words c.try_gated.new.txn c.reserve.new.self.own c.sweep.new.pass.own swept
+          (subst kept (sym own) c.in_ok-reply.ensures.kept);
       home = tt;
       limit = refl;
       id = s.id ∙ ap (λ (v : Own). v.id) own ∙ r.id;
@@ -73,7 +101,8 @@ returns-in_ok-reserve-in-Full g c =
 
 pub returns-then-is_done : goal.returns-then-is_done
 returns-then-is_done g c =
-    let same : c.try_gated.new.pass.own ≡ record c.args.pass.now.own { owed = c.try_gated.new.pass.own.owed } = rw c.in-Unforked.is at c.in_ok-reply.ensures.again in
+    let same : c.try_gated.new.pass.own ≡ record c.args.pass.now.own { owed = c.try_gated.new.pass.own.owed } =
+    rw c.in-Unforked.is at c.in_ok-reply.ensures.again in
     let idle : c.try_gated.new.txn ≡ c.args.txn.now = rw c.in-Unforked.is at c.in_ok-reply.ensures.same in
     let s = rides_again c.args.program.now c.args.shared.now.id c.args.machine.now c.args.pass.now.own c.try_gated.new.pass.own
     c.args.txn.now c.try_gated.new.txn c.requires.rides same idle in
@@ -91,8 +120,17 @@ returns-then-is_done g c =
 
 pub returns-else-is_done : goal.returns-else-is_done
 returns-else-is_done g c =
-    let same : c.try_gated.new.pass.own ≡ record c.args.pass.now.own { owed = c.try_gated.new.pass.own.owed } = rw c.in-Unforked.is at c.in_ok-reply.ensures.again in
+    let same : c.try_gated.new.pass.own ≡ record c.args.pass.now.own { owed = c.try_gated.new.pass.own.owed } =
+    rw c.in-Unforked.is at c.in_ok-reply.ensures.again in
     let idle : c.try_gated.new.txn ≡ c.args.txn.now = rw c.in-Unforked.is at c.in_ok-reply.ensures.same in
     let s = rides_again c.args.program.now c.args.shared.now.id c.args.machine.now c.args.pass.now.own c.try_gated.new.pass.own
     c.args.txn.now c.try_gated.new.txn c.requires.rides same idle in
-    record { on = s.rides; kept = c.in_ok-reply.ensures.kept; home = tt; limit = refl; id = s.id; table = s.table; window = c.try_gated.ensures.window }
+    record {
+      on = s.rides;
+      kept = c.in_ok-reply.ensures.kept;
+      home = tt;
+      limit = refl;
+      id = s.id;
+      table = s.table;
+      window = c.try_gated.ensures.window;
+    }

@@ -12,17 +12,21 @@ deal-requires g c = record {
 
 pub gather-requires-clause-dealt : goal.gather-requires-clause-dealt
 gather-requires-clause-dealt g c =
-    (crews_through c.args.program.now c.args.options.now.steps c.args.shared.now.id c.args.options.now.workers c.in_ok-crews.crews.items c.run_crews.new.crews.items
-    c.in_ok-crews.ensures.dealt c.run_crews.ensures.long c.run_crews.ensures.done (sym c.has_stopped.ensures ∙ c.if-has_stopped.false)).dealt
+    (crews_through c.args.program.now c.args.options.now.steps c.args.shared.now.id c.args.options.now.workers c.in_ok-crews.crews.items
+    c.run_crews.new.crews.items
+    c.in_ok-crews.ensures.dealt c.run_crews.ensures.long c.run_crews.ensures.done (sym c.has_stopped.ensures
+    ∙ c.if-has_stopped.false)).dealt
 
 pub gather-requires-clause-done : goal.gather-requires-clause-done
 gather-requires-clause-done g c =
-    (crews_through c.args.program.now c.args.options.now.steps c.args.shared.now.id c.args.options.now.workers c.in_ok-crews.crews.items c.run_crews.new.crews.items
+    (crews_through c.args.program.now c.args.options.now.steps c.args.shared.now.id c.args.options.now.workers c.in_ok-crews.crews.items
+    c.run_crews.new.crews.items
     c.in_ok-crews.ensures.dealt c.run_crews.ensures.long c.run_crews.ensures.done (sym c.has_stopped.ensures ∙ c.if-has_stopped.false)).done
 
 pub returns : goal.returns
 returns g c = record {
-  done = back_done c.args.program.now c.args.options.now.steps c.args.shared.now.id c.in_ok-back.back.items c.in_ok-back.ensures.all c.in_ok-back.ensures.back;
+  done = back_done c.args.program.now c.args.options.now.steps c.args.shared.now.id c.in_ok-back.back.items c.in_ok-back.ensures.all
+      c.in_ok-back.ensures.back;
   runs = back_runs c.args.program.now c.args.options.now.steps c.args.shared.now.id c.in_ok-back.back.items c.in_ok-back.ensures.back;
   sparing = back_spared c.args.program.now c.args.options.now.steps c.args.shared.now.id c.in_ok-back.back.items c.in_ok-back.ensures.back;
 }

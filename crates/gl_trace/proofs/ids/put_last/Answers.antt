@@ -11,4 +11,5 @@ returns-then-reaches-clause-refused c = λ _.
 pub returns-in-Ok-clause-put : goal.returns-in-Ok-clause-put
 returns-in-Ok-clause-put c = λ _.
     let none : list_any (λ x. nat_le c.args.id x) c.args.ids.now ≡ false = search rules in
-    grows c.args.ids.now c.insert.new.self c.args.id c.requires.set none (λ h. true≢false (sym (c.in-Ok.ensures.full.1 h))) c.in-Ok.ensures.ok
+    grows c.args.ids.now c.insert.new.self c.args.id c.requires.set none (λ h. true≢false (sym (c.in-Ok.ensures.full.1 h)))
+    c.in-Ok.ensures.ok

@@ -12,4 +12,5 @@ loop-var-preserved c =
     c.in-Ok.ensures.ok
     ∙ ap (λ p. with_part key p c.loop-var.looks) c.look_at.ensures
     ∙ ap (λ l. with_part key (f (get_or c.ids-var-items.result.now c.loop-var.var-index 0)) l) c.loop-var.invariant
-    ∙ part_next key f (λ x. refl) c.ids-var-items.result.now c.args.reads.now c.loop-var.var-index c.ids-var-items.ensures.same c.keeps.ensures.1 c.loop-var-test.true
+    ∙ part_next key f (λ x. refl) c.ids-var-items.result.now c.args.reads.now c.loop-var.var-index c.ids-var-items.ensures.same
+    c.keeps.ensures.1 c.loop-var-test.true

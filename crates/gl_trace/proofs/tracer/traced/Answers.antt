@@ -9,7 +9,8 @@ use Rattle.gl_trace.proofs.tracer.traced.Goals as goal
 at : (c : goal.After-item-arg-1) → IsLineAt c.index-lines-i.result (get_or c.args.judged.now c.loop-i.i NoAccess)
 at c =
     let line : TraceLine = c.index-lines-i.result in
-    let same : line ≡ get_or c.args.trace.now c.loop-i.i line = c.index-lines-i.is ∙ ap (λ l. get_or l c.loop-i.i line) c.lines-lines.ensures in
+    let same : line ≡ get_or c.args.trace.now c.loop-i.i line = c.index-lines-i.is
+    ∙ ap (λ l. get_or l c.loop-i.i line) c.lines-lines.ensures in
     let below : c.loop-i.i < length c.args.trace.now = omega (arith, c.loop-i-test.true, ap length c.lines-lines.ensures) in
     subst (λ (l : TraceLine). IsLineAt l (get_or c.args.judged.now c.loop-i.i NoAccess)) (sym same)
     (line_at c.args.trace.now c.args.judged.now c.keeps.ensures c.requires c.loop-i.i line NoAccess below)
@@ -37,7 +38,8 @@ loop-i-preserved c =
     let rest = judged_lines (drop (k + 1) lines) (drop (k + 1) judged) in
     let count : length judged ≡ length lines = c.requires.count ∙ ap length (sym c.lines-lines.ensures) in
     let left : judged_lines (drop k lines) (drop k judged) ≡ (line, said) ∷ rest =
-    lines_left lines judged count k line NoAccess c.loop-i-test.true ∙ ap (λ (l : TraceLine). (l, said) ∷ rest) (sym c.index-lines-i.is) in (
+    lines_left lines judged count k line NoAccess c.loop-i-test.true ∙ ap (λ (l : TraceLine). (l, said) ∷ rest) (sym c.index-lines-i.is)
+    in (
       (
         with_item line.1 line.2 said before.0,
         c.in_ok-item.ensures.traces before.0 before.1,

@@ -10,4 +10,5 @@ loop-var-preserved c =
     let key : Pair → ℕ = λ p. p.var in
     c.in-Ok.ensures.ok
     ∙ ap (λ l. with_part key (f (get_or c.ids-var-items.result.now c.loop-var.var-index 0)) l) c.loop-var.invariant
-    ∙ part_next key f (λ x. refl) c.ids-var-items.result.now c.args.writes.now c.loop-var.var-index c.ids-var-items.ensures.same c.keeps.ensures.1 c.loop-var-test.true
+    ∙ part_next key f (λ x. refl) c.ids-var-items.result.now c.args.writes.now c.loop-var.var-index c.ids-var-items.ensures.same
+    c.keeps.ensures.1 c.loop-var-test.true

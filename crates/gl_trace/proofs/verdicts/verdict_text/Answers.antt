@@ -18,5 +18,7 @@ pub returns : goal.returns
 returns c =
     let trace = c.args.trace.now in
     let judged = c.args.judged.now in
-    let text : c.into_bytes.result.items ≡ flat_map (λ p. verdict_line p.0.0 p.1) (judged_lines trace judged) ++ races_line (count_by is_race judged) = grind (arith, common_steps) in
-    text ∙ ap (λ js. flat_map (λ p. verdict_line p.0.0 p.1) (judged_lines trace judged) ++ races_line (count_by is_race js)) (sym (all_said trace judged c.requires.count))
+    let text : c.into_bytes.result.items ≡ flat_map (λ p. verdict_line p.0.0 p.1) (judged_lines trace judged)
+    ++ races_line (count_by is_race judged) = grind (arith, common_steps) in
+    text ∙ ap (λ js. flat_map (λ p. verdict_line p.0.0 p.1) (judged_lines trace judged) ++ races_line (count_by is_race js))
+    (sym (all_said trace judged c.requires.count))

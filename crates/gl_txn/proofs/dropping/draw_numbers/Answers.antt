@@ -15,23 +15,30 @@ mark_open-nth-requires-clause-table c =
 
 pub mark_open-nth-requires-clause-near : goal.mark_open-nth-requires-clause-near
 mark_open-nth-requires-clause-near c =
-    near_var c.args.rows.now c.loop-taken.taken-index c.taken-item.result (at_item c.args.rows.now c.loop-taken.taken-index c.taken-item.result c.loop-taken-test.true c.taken-item.is) c.requires.may.held.are c.loop-taken.numbers c.loop-taken.invariant.1
+    near_var c.args.rows.now c.loop-taken.taken-index c.taken-item.result
+    (at_item c.args.rows.now c.loop-taken.taken-index c.taken-item.result c.loop-taken-test.true c.taken-item.is) c.requires.may.held.are
+    c.loop-taken.numbers c.loop-taken.invariant.1
 
 pub mark_open-nth-requires-clause-may : goal.mark_open-nth-requires-clause-may
 mark_open-nth-requires-clause-may c =
     let m = c.requires.may in
     let at = at_item c.args.rows.now c.loop-taken.taken-index c.taken-item.result c.loop-taken-test.true c.taken-item.is in
-    may_number c.args.pass.now c.loop-taken.pass m.list c.args.rows.now m.tails c.loop-taken.numbers m (c.loop-taken.invariant.0 m.list m.tails m.held) c.taken-item.result.var c.taken-item.result
+    may_number c.args.pass.now c.loop-taken.pass m.list c.args.rows.now m.tails c.loop-taken.numbers m
+    (c.loop-taken.invariant.0 m.list m.tails m.held) c.taken-item.result.var c.taken-item.result
     (found_there c.args.rows.now c.loop-taken.taken-index c.taken-item.result at m.held.are c.loop-taken.numbers c.loop-taken.invariant.1)
     (not_numbered c.args.rows.now c.loop-taken.taken-index c.taken-item.result at m.held.are c.loop-taken.numbers c.loop-taken.invariant.1)
 
 pub add-requires-clause-there : goal.add-requires-clause-there
 add-requires-clause-there c =
-    near_var c.args.rows.now c.loop-taken.taken-index c.taken-item.result (at_item c.args.rows.now c.loop-taken.taken-index c.taken-item.result c.loop-taken-test.true c.taken-item.is) c.requires.may.held.are c.loop-taken.numbers c.loop-taken.invariant.1
+    near_var c.args.rows.now c.loop-taken.taken-index c.taken-item.result
+    (at_item c.args.rows.now c.loop-taken.taken-index c.taken-item.result c.loop-taken-test.true c.taken-item.is) c.requires.may.held.are
+    c.loop-taken.numbers c.loop-taken.invariant.1
 
 pub add-requires-clause-last : goal.add-requires-clause-last
 add-requires-clause-last c =
-    rises_on c.args.rows.now c.loop-taken.taken-index c.taken-item.result (at_item c.args.rows.now c.loop-taken.taken-index c.taken-item.result c.loop-taken-test.true c.taken-item.is) c.requires.may.held.are c.loop-taken.numbers c.loop-taken.invariant.1
+    rises_on c.args.rows.now c.loop-taken.taken-index c.taken-item.result
+    (at_item c.args.rows.now c.loop-taken.taken-index c.taken-item.result c.loop-taken-test.true c.taken-item.is) c.requires.may.held.are
+    c.loop-taken.numbers c.loop-taken.invariant.1
 
 pub loop-taken-preserved : goal.loop-taken-preserved
 loop-taken-preserved c =
@@ -43,6 +50,8 @@ loop-taken-preserved c =
     let out = not_numbered c.args.rows.now c.loop-taken.taken-index r at m.held.are c.loop-taken.numbers c.loop-taken.invariant.1 in
     let is = c.add.ensures in (
       (λ list tails a. subst (λ (l : List Number). HasDrawn c.args.pass.now c.mark_open-nth.new.pass list c.args.rows.now tails l) (sym is)
-          (number_more c.args.pass.now c.loop-taken.pass list c.args.rows.now tails c.loop-taken.numbers m (c.loop-taken.invariant.0 list tails a) r.var r there out c.mark_open-nth.new.pass n c.mark_open-nth.ensures.opened c.mark_open-nth.ensures.above)),
+          (number_more c.args.pass.now c.loop-taken.pass list c.args.rows.now tails c.loop-taken.numbers m
+          (c.loop-taken.invariant.0 list tails a) r.var r there out c.mark_open-nth.new.pass n c.mark_open-nth.ensures.opened
+          c.mark_open-nth.ensures.above)),
       ap numbered is ∙ numbered_on c.args.rows.now c.loop-taken.taken-index r at m.held.are c.loop-taken.numbers c.loop-taken.invariant.1 n,
     )

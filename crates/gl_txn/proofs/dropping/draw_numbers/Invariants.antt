@@ -8,4 +8,5 @@ use Rattle.gl_txn.proofs.dropping.draw_numbers.Given as goal
 
 abbrev pub invariant-loop-taken : goal.invariant-loop-taken
 invariant-loop-taken l =
-    ((list : Option Held) (tails : List ℕ) → AreHeld l.fn.pass.own.held list l.rows tails undrawn → HasDrawn l.fn.pass l.pass list l.rows tails l.numbers) × (numbered l.numbers ≡ take l.taken-index (vars_of l.rows))
+    ((list : Option Held) (tails : List ℕ) → AreHeld l.fn.pass.own.held list l.rows tails undrawn
+    → HasDrawn l.fn.pass l.pass list l.rows tails l.numbers) × (numbered l.numbers ≡ take l.taken-index (vars_of l.rows))

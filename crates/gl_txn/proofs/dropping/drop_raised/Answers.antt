@@ -20,8 +20,10 @@ abort-requires-clause-may c =
     let e = c.as_slice.ensures.value in
     let races = c.requires.raised in
     let d : HasDrawn p q None rows (p.seen ∷ []) numbers = subst (λ (rows : List TakenRow). HasDrawn p q None rows (p.seen ∷ []) numbers) e
-    (c.draw_numbers.ensures.drawn None (p.seen ∷ []) (subst (λ (rows : List TakenRow). AreHeld p.own.held None rows (p.seen ∷ []) undrawn) (sym e) races.held)) in
-    let all : numbered numbers ≡ vars_of rows = subst (λ (rows : List TakenRow). numbered numbers ≡ vars_of rows) e c.draw_numbers.ensures.all in
+    (c.draw_numbers.ensures.drawn None (p.seen ∷ [])
+    (subst (λ (rows : List TakenRow). AreHeld p.own.held None rows (p.seen ∷ []) undrawn) (sym e) races.held)) in
+    let all : numbered numbers ≡ vars_of rows =
+    subst (λ (rows : List TakenRow). numbered numbers ≡ vars_of rows) e c.draw_numbers.ensures.all in
     let t = c.deref_mut.ensures.value in
     subst (λ (t : Tx). MayAbort q (record { looks = t.looks; writes = t.writes; numbers = numbers }) (Raised c.args.var)) (sym t)
     (may_refuse c.args.tx.value p q rows c.args.var numbers c.requires.draws races d all c.requires.may.runs)
@@ -35,8 +37,10 @@ abort-requires-clause-spare c =
     let e = c.as_slice.ensures.value in
     let races = c.requires.raised in
     let d : HasDrawn p q None rows (p.seen ∷ []) numbers = subst (λ (rows : List TakenRow). HasDrawn p q None rows (p.seen ∷ []) numbers) e
-    (c.draw_numbers.ensures.drawn None (p.seen ∷ []) (subst (λ (rows : List TakenRow). AreHeld p.own.held None rows (p.seen ∷ []) undrawn) (sym e) races.held)) in
-    let all : numbered numbers ≡ vars_of rows = subst (λ (rows : List TakenRow). numbered numbers ≡ vars_of rows) e c.draw_numbers.ensures.all in
+    (c.draw_numbers.ensures.drawn None (p.seen ∷ [])
+    (subst (λ (rows : List TakenRow). AreHeld p.own.held None rows (p.seen ∷ []) undrawn) (sym e) races.held)) in
+    let all : numbered numbers ≡ vars_of rows =
+    subst (λ (rows : List TakenRow). numbered numbers ≡ vars_of rows) e c.draw_numbers.ensures.all in
     let t = c.deref_mut.ensures.value in
     subst (λ (z : PassView). 0 < z.spare) (sym d.is) c.requires.spare
 
@@ -49,8 +53,10 @@ put_rows-requires-clause-table c =
     let e = c.as_slice.ensures.value in
     let races = c.requires.raised in
     let d : HasDrawn p q None rows (p.seen ∷ []) numbers = subst (λ (rows : List TakenRow). HasDrawn p q None rows (p.seen ∷ []) numbers) e
-    (c.draw_numbers.ensures.drawn None (p.seen ∷ []) (subst (λ (rows : List TakenRow). AreHeld p.own.held None rows (p.seen ∷ []) undrawn) (sym e) races.held)) in
-    let all : numbered numbers ≡ vars_of rows = subst (λ (rows : List TakenRow). numbered numbers ≡ vars_of rows) e c.draw_numbers.ensures.all in
+    (c.draw_numbers.ensures.drawn None (p.seen ∷ [])
+    (subst (λ (rows : List TakenRow). AreHeld p.own.held None rows (p.seen ∷ []) undrawn) (sym e) races.held)) in
+    let all : numbered numbers ≡ vars_of rows =
+    subst (λ (rows : List TakenRow). numbered numbers ≡ vars_of rows) e c.draw_numbers.ensures.all in
     let t = c.deref_mut.ensures.value in
     ap (λ (z : PassView). z.own.table) c.abort.ensures ∙ ap (λ (z : PassView). z.own.table) d.is ∙ c.requires.table
 
@@ -63,8 +69,10 @@ put_rows-requires-clause-held c =
     let e = c.as_slice.ensures.value in
     let races = c.requires.raised in
     let d : HasDrawn p q None rows (p.seen ∷ []) numbers = subst (λ (rows : List TakenRow). HasDrawn p q None rows (p.seen ∷ []) numbers) e
-    (c.draw_numbers.ensures.drawn None (p.seen ∷ []) (subst (λ (rows : List TakenRow). AreHeld p.own.held None rows (p.seen ∷ []) undrawn) (sym e) races.held)) in
-    let all : numbered numbers ≡ vars_of rows = subst (λ (rows : List TakenRow). numbered numbers ≡ vars_of rows) e c.draw_numbers.ensures.all in
+    (c.draw_numbers.ensures.drawn None (p.seen ∷ [])
+    (subst (λ (rows : List TakenRow). AreHeld p.own.held None rows (p.seen ∷ []) undrawn) (sym e) races.held)) in
+    let all : numbered numbers ≡ vars_of rows =
+    subst (λ (rows : List TakenRow). numbered numbers ≡ vars_of rows) e c.draw_numbers.ensures.all in
     let t = c.deref_mut.ensures.value in
     let tx : Tx = record { looks = c.deref_mut.result.now.looks; writes = c.deref_mut.result.now.writes; numbers = numbers } in
     let are : numbered numbers ≡ variables_of tx = all ∙ races.of ∙ ap (λ (t : Tx). variables_of t) (sym t) in
@@ -79,8 +87,10 @@ returns-clause-dropped c =
     let e = c.as_slice.ensures.value in
     let races = c.requires.raised in
     let d : HasDrawn p q None rows (p.seen ∷ []) numbers = subst (λ (rows : List TakenRow). HasDrawn p q None rows (p.seen ∷ []) numbers) e
-    (c.draw_numbers.ensures.drawn None (p.seen ∷ []) (subst (λ (rows : List TakenRow). AreHeld p.own.held None rows (p.seen ∷ []) undrawn) (sym e) races.held)) in
-    let all : numbered numbers ≡ vars_of rows = subst (λ (rows : List TakenRow). numbered numbers ≡ vars_of rows) e c.draw_numbers.ensures.all in
+    (c.draw_numbers.ensures.drawn None (p.seen ∷ [])
+    (subst (λ (rows : List TakenRow). AreHeld p.own.held None rows (p.seen ∷ []) undrawn) (sym e) races.held)) in
+    let all : numbered numbers ≡ vars_of rows =
+    subst (λ (rows : List TakenRow). numbered numbers ≡ vars_of rows) e c.draw_numbers.ensures.all in
     let t = c.deref_mut.ensures.value in
     let tx : Tx = record { looks = c.deref_mut.result.now.looks; writes = c.deref_mut.result.now.writes; numbers = numbers } in
     let are : numbered numbers ≡ variables_of tx = all ∙ races.of ∙ ap (λ (t : Tx). variables_of t) (sym t) in
@@ -88,5 +98,6 @@ returns-clause-dropped c =
       ended = tx;
       looks = ap (λ (t : Tx). t.looks) t;
       writes = ap (λ (t : Tx). t.writes) t;
-      is = raise_stored p q rows (p.seen ∷ []) numbers (variables_of tx) are d tx c.args.var c.abort.new.self c.put_rows.new.pass c.abort.ensures c.put_rows.ensures.pass;
+      is = raise_stored p q rows (p.seen ∷ []) numbers (variables_of tx) are d tx c.args.var c.abort.new.self c.put_rows.new.pass
+          c.abort.ensures c.put_rows.ensures.pass;
     }

@@ -18,9 +18,12 @@ returns-in-Some-clause-cause g c =
     let tx = c.args.tx.value in
     let k = c.in-Some.change in
     let looks = subst (λ (t : Tx). AreVariables (map (λ l. l.var) t.looks)) c.deref.ensures c.keeps.ensures in
-    let f = subst (λ (rows : List TakenRow). IsFirstChange tx.looks rows k) c.as_slice.ensures.value (subst (λ (t : Tx). IsFirstChange t.looks c.as_slice.result.now k) c.deref-2.ensures c.in-Some.ensures) in
-    subst (λ (f : TxEnd). IsCauseBy c.args.shared.now (attempt_in tx) f (shelf_of p) p.seen p.reads rows c.drop_changed.new.pass) (sym c.drop_changed.ensures.end)
-    (changed_cause c.args.shared.now p c.drop_changed.new.pass rows tx c.requires.holds looks k f (Changed k.var k.read k.found) c.drop_changed.ensures.dropped)
+    let f = subst (λ (rows : List TakenRow). IsFirstChange tx.looks rows k) c.as_slice.ensures.value
+    (subst (λ (t : Tx). IsFirstChange t.looks c.as_slice.result.now k) c.deref-2.ensures c.in-Some.ensures) in
+    subst (λ (f : TxEnd). IsCauseBy c.args.shared.now (attempt_in tx) f (shelf_of p) p.seen p.reads rows c.drop_changed.new.pass)
+    (sym c.drop_changed.ensures.end)
+    (changed_cause c.args.shared.now p c.drop_changed.new.pass rows tx c.requires.holds looks k f (Changed k.var k.read k.found)
+    c.drop_changed.ensures.dropped)
 
 pub drop_changed-requires-clause-of : goal.drop_changed-requires-clause-of
 drop_changed-requires-clause-of g c = c.requires.holds.of

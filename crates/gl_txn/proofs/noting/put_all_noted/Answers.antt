@@ -9,4 +9,5 @@ pub returns : goal.returns
 returns c =
     let inv = c.loop.invariant in
     let empty = empty_of c.loop.rows.items (let n = inv.2 in let e = c.loop-test.false in let f = c.len-end.ensures in omega arith) in
-    noted_all c.args.pass.now c.loop.pass c.args.base.now c.args.at inv.0 (subst (λ (l : List TakenRow). AreCommitted c.loop.pass l c.args.base.now c.args.at) empty inv.1)
+    noted_all c.args.pass.now c.loop.pass c.args.base.now c.args.at inv.0
+    (subst (λ (l : List TakenRow). AreCommitted c.loop.pass l c.args.base.now c.args.at) empty inv.1)

@@ -6,15 +6,21 @@ use Rattle.gl_txn.proofs.noting.put_noted.Goals as goal
 
 pub put_row-requires-clause-near : goal.put_row-requires-clause-near
 put_row-requires-clause-near c =
-    let held = subst (λ (l : List TakenRow). AreCommitted c.args.pass.now l c.args.base.now c.args.at) c.in-Some.ensures.items c.requires.held in
-    noted_near c.args.shared.now.key.setting c.args.pass.now c.pop.new.self.items c.args.base.now c.args.at c.in-Some.taken held c.store.new.kept
+    let held = subst (λ (l : List TakenRow). AreCommitted c.args.pass.now l c.args.base.now c.args.at) c.in-Some.ensures.items
+    c.requires.held in
+    noted_near c.args.shared.now.key.setting c.args.pass.now c.pop.new.self.items c.args.base.now c.args.at c.in-Some.taken held
+    c.store.new.kept
 
 pub put_row-requires-clause-may : goal.put_row-requires-clause-may
 put_row-requires-clause-may c =
-    let held = subst (λ (l : List TakenRow). AreCommitted c.args.pass.now l c.args.base.now c.args.at) c.in-Some.ensures.items c.requires.held in
-    may_put_noted c.args.shared.now.key.setting c.args.pass.now c.pop.new.self.items c.args.base.now c.args.at c.in-Some.taken held c.store.new.kept c.store.ensures
+    let held = subst (λ (l : List TakenRow). AreCommitted c.args.pass.now l c.args.base.now c.args.at) c.in-Some.ensures.items
+    c.requires.held in
+    may_put_noted c.args.shared.now.key.setting c.args.pass.now c.pop.new.self.items c.args.base.now c.args.at c.in-Some.taken held
+    c.store.new.kept c.store.ensures
 
 pub returns-clause-held : goal.returns-clause-held
 returns-clause-held c =
-    let held = subst (λ (l : List TakenRow). AreCommitted c.args.pass.now l c.args.base.now c.args.at) c.in-Some.ensures.items c.requires.held in
-    noted_fewer c.args.shared.now.key.setting c.args.pass.now c.pop.new.self.items c.args.base.now c.args.at c.in-Some.taken held c.store.new.kept c.put_row.new.pass c.put_row.ensures
+    let held = subst (λ (l : List TakenRow). AreCommitted c.args.pass.now l c.args.base.now c.args.at) c.in-Some.ensures.items
+    c.requires.held in
+    noted_fewer c.args.shared.now.key.setting c.args.pass.now c.pop.new.self.items c.args.base.now c.args.at c.in-Some.taken held
+    c.store.new.kept c.put_row.new.pass c.put_row.ensures

@@ -4,4 +4,5 @@ use Rattle.gl_txn.specs.Holding.{HaveTaken, HaveWrites}
 use Rattle.gl_txn.proofs.taken.take_rows.Given as goal
 
 abbrev pub invariant-loop-var : goal.invariant-loop-var
-invariant-loop-var l = HaveTaken l.fn.pass l.pass (take l.var-index l.ids) l.rows.items × HaveWrites l.writes l.rows.items × (vec_capacity l.rows ≡ vec_capacity l.fn.rows)
+invariant-loop-var l = HaveTaken l.fn.pass l.pass (take l.var-index l.ids) l.rows.items × HaveWrites l.writes l.rows.items
+    × (vec_capacity l.rows ≡ vec_capacity l.fn.rows)

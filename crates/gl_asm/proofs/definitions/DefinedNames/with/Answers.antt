@@ -7,4 +7,5 @@ pub invariant_of-result : goal.invariant_of-result
 invariant_of-result c =
     let noted : IsNoted c.self.inside.index c.note.new.index c.key.result (length c.self.inside.list.items) = search rules in
     subst (λ ds. IsIndex ds c.note.new.index) (sym c.in_ok-push.ensures.items)
-    (index_more c.self.inside.list.items c.args.definition c.self.inside.index c.note.new.index c.key.result c.key.ensures.scope c.key.ensures.name c.self.invariant noted)
+    (index_more c.self.inside.list.items c.args.definition c.self.inside.index c.note.new.index c.key.result c.key.ensures.scope
+    c.key.ensures.name c.self.invariant noted)

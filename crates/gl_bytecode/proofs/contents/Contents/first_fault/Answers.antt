@@ -14,7 +14,8 @@ returns-in-Some c =
     let found = MatchOption-at_some _ _ c.in-Some.fault c.in-Some.is c.in_ok-fault.ensures in
     record {
       function = c.function-item.result;
-      there = rw found.0 (slice_get_read c.args.self.now.functions (length c.args.self.now.functions) c.loop-number.number c.function-item.result refl within at);
+      there = rw found.0 (slice_get_read c.args.self.now.functions (length c.args.self.now.functions) c.loop-number.number
+          c.function-item.result refl within at);
       first = found.1;
       before = rw found.0 c.loop-number.invariant.1;
     }
@@ -33,5 +34,6 @@ loop-number-preserved c =
     (rw c.loop-number.invariant.0 at c.function-item.is) in
     let right : IsRight c.args.self.now c.function-item.result = MatchOption-at_none _ _ c.in_default.is c.in_ok-fault.ensures in (
       c.loop-number.invariant.0,
-      holds_of_more (IsRight c.args.self.now) c.args.self.now.functions c.loop-number.number c.function-item.result within at right c.loop-number.invariant.1,
+      holds_of_more (IsRight c.args.self.now) c.args.self.now.functions c.loop-number.number c.function-item.result within at right
+          c.loop-number.invariant.1,
     )

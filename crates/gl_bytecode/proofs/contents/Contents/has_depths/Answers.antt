@@ -10,7 +10,8 @@ loop-claim-init c =
     omega (arith, c.len.ensures, c.function.inside.code.ok.0, ap (λ (G : Function). length G.code) c.function.view_is) in
     let catches = ap (λ (G : Function). G.catches) c.function.view_is in
     begins c.args.self.now F c.in_ok-depths.depths.items c.in_ok-claims.claims.items c.len.result c.requires.named c.requires.ended code
-    (c.in_ok-depths.ensures.items_if_clones_equal (λ y e. search rules)) (c.in_ok-claims.ensures ∙ ap first_claims (c.deref.ensures.value ∙ catches))
+    (c.in_ok-depths.ensures.items_if_clones_equal (λ y e. search rules)) (c.in_ok-claims.ensures
+    ∙ ap first_claims (c.deref.ensures.value ∙ catches))
 
 pub returns : goal.returns
 returns c =

@@ -9,4 +9,7 @@ returns-clause-ok c =
     let many : c.len-last.result ≡ length functions.items = omega (arith, functions.ok.0, c.len-last.ensures) in
     let some : 0 < length functions.items = (rw (sym c.self.view_is) at c.requires.there) in
     on_ok_then c.push.result _ _ c.push.ensures.ok
-    (λ is. rw (sym c.self.view_is) (ap (λ Fs. let D : Draft = record { classes = c.self.inside.classes.items; functions = Fs; main = c.self.inside.main } in D) (written_last (λ F. record F { code = F.code ++ c.args.instr ∷ [] }) functions.items c.len-last.result _ _ many some c.index_mut-function.ensures.value is)))
+    (λ is. rw (sym c.self.view_is) (ap (λ Fs. let D : Draft =
+    record { classes = c.self.inside.classes.items; functions = Fs; main = c.self.inside.main } in D)
+    (written_last (λ F. record F { code = F.code ++ c.args.instr ∷ [] }) functions.items c.len-last.result _ _ many some
+    c.index_mut-function.ensures.value is)))

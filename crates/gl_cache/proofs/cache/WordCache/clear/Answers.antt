@@ -2,12 +2,16 @@ use Rattle.gl_cache.proofs.Places.{later_slots, later_words, wiped_slots, wiped_
 use Rattle.gl_cache.proofs.cache.WordCache.clear.Goals as goal
 
 pub invariant_of-self : goal.invariant_of-self
-invariant_of-self c = record { slots = wiped_slots c.wipe.new.slots.items c.none-self-inside.result.words c.wipe.ensures c.none-self-inside.ensures }
+invariant_of-self c = record {
+  slots = wiped_slots c.wipe.new.slots.items c.none-self-inside.result.words c.wipe.ensures
+      c.none-self-inside.ensures;
+}
 
 pub invariant_of-self-else-self : goal.invariant_of-self-else-self
 invariant_of-self-else-self c = record {
   slots =
-      later_slots c.self.inside.slots.items c.self.inside.stamp c.self.inside.changed.words c.none-self-inside.result.words c.self.invariant.slots
+      later_slots c.self.inside.slots.items c.self.inside.stamp c.self.inside.changed.words c.none-self-inside.result.words
+      c.self.invariant.slots
       c.none-self-inside.ensures;
 }
 

@@ -13,7 +13,8 @@ returns-in-Some c =
     let e = (are.changed c.in-Some.var).0 l.1 in
     let at : Words → Type 0 = λ ws. IsChanged ws c.in-Some.var c.index-slot.result.now.value in
     let there : IsChanged c.args.self.now c.in-Some.var c.index-slot.result.now.value =
-    subst at c.self.view_is (changed_value c.self.inside.slots.items c.self.inside.stamp c.in-Some.var c.index-slot.result.now e.0 within c.index-slot.ensures e.1) in
+    subst at c.self.view_is (changed_value c.self.inside.slots.items c.self.inside.stamp c.in-Some.var c.index-slot.result.now e.0 within
+    c.index-slot.ensures e.1) in
     simp to_z-of_z (
       l.0,
       there,

@@ -8,6 +8,7 @@ use Rattle.gl_core.proofs.tables.Tables.acquired_all.Given as goal
 
 abbrev pub invariant-loop-var : goal.invariant-loop-var
 invariant-loop-var l = record {
-  known : (u : ℕ) → max (at l.known u) (most_of (clocks_in l.self) (drop l.var-index l.var-items) u) ≡ taken (clocks_in l.self) (record { thread = l.thread; event = Commit l.variables }) u;
+  known : (u : ℕ) → max (at l.known u) (most_of (clocks_in l.self) (drop l.var-index l.var-items) u)
+      ≡ taken (clocks_in l.self) (record { thread = l.thread; event = Commit l.variables }) u;
   cost : l.ticks ≤ l.fn.ticks + THREADS * l.var-index;
 }

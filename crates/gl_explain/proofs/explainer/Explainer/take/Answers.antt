@@ -16,7 +16,8 @@ explain-requires-clause-lines g c =
     let a = c.requires.awaits in
     let kept = c.args.self.now.kept.items in
     let t : Told = record { line = c.args.line; thread = c.args.thread; item = c.args.item.now; judged = c.in_ok-judged.judged } in
-    let f = known_facts kept a.done t c.known_at-known.result c.args.self.now.detector c.step.new.self a.told.kept a.lines a.told.right a.told.follows a.told.are_kept c.in_ok-judged.ensures.right c.known_at-known.ensures in
+    let f = known_facts kept a.done t c.known_at-known.result c.args.self.now.detector c.step.new.self a.told.kept a.lines a.told.right
+    a.told.follows a.told.are_kept c.in_ok-judged.ensures.right c.known_at-known.ensures in
     subst (λ ks. (i : ℕ) (k : Kept) → slice_get ks i ≡ Some k → IsLineItem k.told.item) (sym c.deref.ensures.value) f.near
 
 pub explain-requires-clause-race : goal.explain-requires-clause-race
@@ -24,7 +25,8 @@ explain-requires-clause-race g c =
     let a = c.requires.awaits in
     let kept = c.args.self.now.kept.items in
     let t : Told = record { line = c.args.line; thread = c.args.thread; item = c.args.item.now; judged = c.in_ok-judged.judged } in
-    let f = known_facts kept a.done t c.known_at-known.result c.args.self.now.detector c.step.new.self a.told.kept a.lines a.told.right a.told.follows a.told.are_kept c.in_ok-judged.ensures.right c.known_at-known.ensures in
+    let f = known_facts kept a.done t c.known_at-known.result c.args.self.now.detector c.step.new.self a.told.kept a.lines a.told.right
+    a.told.follows a.told.are_kept c.in_ok-judged.ensures.right c.known_at-known.ensures in
     subst (λ ks. (var : ℕ) → t.judged ≡ Raised var → (i : ℕ) × IsCulprit (told_of ks) t var i) (sym c.deref.ensures.value) f.race
 
 pub explain-requires-clause-tells : goal.explain-requires-clause-tells
@@ -32,7 +34,8 @@ explain-requires-clause-tells g c =
     let a = c.requires.awaits in
     let kept = c.args.self.now.kept.items in
     let t : Told = record { line = c.args.line; thread = c.args.thread; item = c.args.item.now; judged = c.in_ok-judged.judged } in
-    let f = known_facts kept a.done t c.known_at-known.result c.args.self.now.detector c.step.new.self a.told.kept a.lines a.told.right a.told.follows a.told.are_kept c.in_ok-judged.ensures.right c.known_at-known.ensures in
+    let f = known_facts kept a.done t c.known_at-known.result c.args.self.now.detector c.step.new.self a.told.kept a.lines a.told.right
+    a.told.follows a.told.are_kept c.in_ok-judged.ensures.right c.known_at-known.ensures in
     subst (λ ks. Tells ks t c.known_at-known.result) (sym c.deref.ensures.value) f.tells_so
 
 pub returns : goal.returns
@@ -41,13 +44,18 @@ returns g c = record {
       let kept = c.args.self.now.kept.items in
       let t : Told = record { line = c.args.line; thread = c.args.thread; item = c.args.item.now; judged = c.in_ok-judged.judged } in
       let k : Kept = record { told = t; own = c.own_at-own.result; mark = c.mark_of-mark.result } in
-      let f = known_facts kept done t c.known_at-known.result c.args.self.now.detector c.step.new.self x.kept lines x.right x.follows x.are_kept c.in_ok-judged.ensures.right c.known_at-known.ensures in
+      let f = known_facts kept done t c.known_at-known.result c.args.self.now.detector c.step.new.self x.kept lines x.right x.follows
+      x.are_kept c.in_ok-judged.ensures.right c.known_at-known.ensures in
       let items : c.push.new.self.items ≡ c.args.self.now.kept.items ++ k ∷ [] = search rules in
       let was : IsWritten (told_of c.deref.result.now) (string_bytes c.args.self.now.text) =
-      subst (λ ks. IsWritten (told_of ks) (string_bytes c.args.self.now.text)) (sym c.deref.ensures.value) (subst (λ ds. IsWritten ds (string_bytes c.args.self.now.text)) (sym x.kept) x.written) in
-      let written : IsWritten (told_of kept ++ t ∷ []) (string_bytes c.explain.new.text) = subst (λ ks. IsWritten (told_of ks ++ t ∷ []) (string_bytes c.explain.new.text)) c.deref.ensures.value (c.in_ok-explain.ensures was) in (
+      subst (λ ks. IsWritten (told_of ks) (string_bytes c.args.self.now.text)) (sym c.deref.ensures.value)
+      (subst (λ ds. IsWritten ds (string_bytes c.args.self.now.text)) (sym x.kept) x.written) in
+      let written : IsWritten (told_of kept ++ t ∷ []) (string_bytes c.explain.new.text) =
+      subst (λ ks. IsWritten (told_of ks ++ t ∷ []) (string_bytes c.explain.new.text)) c.deref.ensures.value
+      (c.in_ok-explain.ensures was) in (
         c.in_ok-judged.judged,
-        told_on kept done t c.known_at-known.result c.own_at-own.result c.mark_of-mark.result c.args.self.now.detector (record { detector = c.step.new.self; kept = c.push.new.self; text = c.explain.new.text })
+        told_on kept done t c.known_at-known.result c.own_at-own.result c.mark_of-mark.result c.args.self.now.detector
+            (record { detector = c.step.new.self; kept = c.push.new.self; text = c.explain.new.text })
             x.kept x.follows x.are_kept f c.in_ok-judged.ensures.ready items c.own_at-own.ensures c.mark_of-mark.ensures written,
       );
 }

@@ -15,6 +15,7 @@ returns-in-Some-clause-moved c =
       reply = c.in-Some.reply;
       chosen = chosen;
       first =
-          told_quietly c.args.program.now p c.tell.new.self c.in-Some.reply (quiet_is p list (ask_of p.config.stage) c.in-Some.reply c.keeps.ensures chosen)
+          told_quietly c.args.program.now p c.tell.new.self c.in-Some.reply
+          (quiet_is p list (ask_of p.config.stage) c.in-Some.reply c.keeps.ensures chosen)
           c.tell.ensures.told;
     }

@@ -18,11 +18,13 @@ unreachable-requires-in_default-put c =
 
 pub invariant_of-self : goal.invariant_of-self
 invariant_of-self c =
-    let put : c.put.new.self ≡ with_part pair_var (record { var = c.args.var; value = c.args.value }) c.self.inside.looks = simp (to_z-of_z, c.ranges.value) at c.in-Ok-put.ensures.ok in
+    let put : c.put.new.self ≡ with_part pair_var (record { var = c.args.var; value = c.args.value }) c.self.inside.looks =
+    simp (to_z-of_z, c.ranges.value) at c.in-Ok-put.ensures.ok in
     c.in-Ok.ensures.ok ∙ look_more c.args.var c.args.value c.self.inside.looks c.self.inside.writes c.self.inside.all c.self.invariant
     ∙ ap (λ l. vars_of l c.self.inside.writes) (sym put)
 
 pub returns : goal.returns
 returns c =
-    let put : c.put.new.self ≡ with_part pair_var (record { var = c.args.var; value = c.args.value }) c.self.inside.looks = simp (to_z-of_z, c.ranges.value) at c.in-Ok-put.ensures.ok in
+    let put : c.put.new.self ≡ with_part pair_var (record { var = c.args.var; value = c.args.value }) c.self.inside.looks =
+    simp (to_z-of_z, c.ranges.value) at c.in-Ok-put.ensures.ok in
     look_result c.args.self.now c.self.inside.looks c.self.inside.writes c.put.new.self c.args.var c.args.value c.self.view_is put

@@ -14,4 +14,5 @@ returns c =
     ∙ map-append use_seen c.index_mut.result.now.items (record { place = c.args.place; number = c.args.number } ∷ []) in
     let is = pushed ∙ ap (λ l. map use_seen l.items ++ (seen c.args.place, c.args.number) ∷ []) c.index_mut.ensures.value in
     let added = set_one (λ l. map use_seen l.items) lists (seen c.args.place) c.args.var c.args.number _ c.push.new.self less is in
-    λ x. added x ∙ ap (λ us. get_or us x [] ++ map (λ k. use_of (seen c.args.place) k) (if c.args.var == x then c.args.number ∷ [] else [])) c.self.view_is
+    λ x. added x ∙ ap (λ us. get_or us x [] ++ map (λ k. use_of (seen c.args.place) k) (if c.args.var == x then c.args.number ∷ []
+    else [])) c.self.view_is

@@ -9,7 +9,8 @@ pub add_entry-requires : goal.add_entry-requires
 add_entry-requires c =
     let list = c.args.list.now in
     let entry = c.index-list-i in
-    entry_kept (map seen list) c.requires.2 c.loop-i.i (seen entry.result) (entry_at list c.loop-i.i entry.result entry.is c.loop-i-test.true)
+    entry_kept (map seen list) c.requires.2 c.loop-i.i (seen entry.result)
+    (entry_at list c.loop-i.i entry.result entry.is c.loop-i-test.true)
 
 pub loop-i-preserved : goal.loop-i-preserved
 loop-i-preserved c =

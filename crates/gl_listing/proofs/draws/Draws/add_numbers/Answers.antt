@@ -14,5 +14,6 @@ add-requires c =
 pub loop-i-preserved : goal.loop-i-preserved
 loop-i-preserved c =
     let at : slice_get c.args.numbers.now c.loop-i.i ≡ Some c.in-Some.number = sym c.at.ensures ∙ c.in-Some.is in
-    picked_more (λ (p : Number). p.nth) (λ (p : Number). p.var) (seen c.args.place) c.args.numbers.now c.loop-i.i c.args.self.now c.loop-i.self
+    picked_more (λ (p : Number). p.nth) (λ (p : Number). p.var) (seen c.args.place) c.args.numbers.now c.loop-i.i c.args.self.now
+    c.loop-i.self
     c.loop-i.invariant c.in-Some.number c.add.new.self at c.in_ok-add.ensures

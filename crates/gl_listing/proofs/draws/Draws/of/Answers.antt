@@ -23,13 +23,16 @@ loop-thread-preserved c =
       | in-Some+in_ok-add_list w ↦
           λ x. (let gathered = uses_of (draws_on x) (below t made) in
           let more : uses_of (draws_on x) (below (t + 1) made) ≡ gathered ++ uses_from (draws_on x) t 0 (map seen w.in-Some.list.now) =
-          gathers_next (draws_on x) t made c.keeps.ensures.0 ∙ ap (λ o. gathered ++ uses_from (draws_on x) t 0 (unwrap_or o [])) w.in-Some.ensures in
+          gathers_next (draws_on x) t made c.keeps.ensures.0
+          ∙ ap (λ o. gathered ++ uses_from (draws_on x) t 0 (unwrap_or o [])) w.in-Some.ensures in
           let now = ap (λ d. get_or d x []) w.draws-is in
-          now ∙ w.in_ok-add_list.ensures x ∙ ap (λ us. us ++ uses_from (draws_on x) t 0 (map seen w.in-Some.list.now)) (c.loop-thread.invariant x) ∙ sym more)
+          now ∙ w.in_ok-add_list.ensures x ∙ ap (λ us. us ++ uses_from (draws_on x) t 0 (map seen w.in-Some.list.now))
+          (c.loop-thread.invariant x) ∙ sym more)
       | in_default w ↦
           λ x. (let gathered = uses_of (draws_on x) (below t made) in
           let more : uses_of (draws_on x) (below (t + 1) made) ≡ gathered =
-          gathers_next (draws_on x) t made c.keeps.ensures.0 ∙ ap (λ o. gathered ++ uses_from (draws_on x) t 0 (unwrap_or o [])) w.in_default.ensures
+          gathers_next (draws_on x) t made c.keeps.ensures.0
+          ∙ ap (λ o. gathered ++ uses_from (draws_on x) t 0 (unwrap_or o [])) w.in_default.ensures
           ∙ append-nil gathered in
           ap (λ d. get_or d x []) w.draws-is ∙ c.loop-thread.invariant x ∙ sym more)
     ]
@@ -37,4 +40,5 @@ loop-thread-preserved c =
 pub returns : goal.returns
 returns c =
     let made = c.args.made.now in
-    λ x. c.loop-thread.invariant x ∙ ap (λ n. uses_of (draws_on x) (below n made)) (omega arith) ∙ ap (uses_of (draws_on x)) (all_below made c.keeps.ensures.1)
+    λ x. c.loop-thread.invariant x ∙ ap (λ n. uses_of (draws_on x) (below n made)) (omega arith)
+    ∙ ap (uses_of (draws_on x)) (all_below made c.keeps.ensures.1)

@@ -11,5 +11,6 @@ pub invariant_of-self : goal.invariant_of-self
 invariant_of-self c =
     let list : ThreadList = record { thread = c.args.thread; entries = c.args.entries } in
     let more = ap (map list_seen) c.push_reserved.ensures.items ∙ map-append list_seen c.self.inside.lists.items _ in
-    let behind = subst (λ (r : RoomView). Rattle.std.specs.List.AllByRecursion (λ l. l.0 < c.args.thread) r.lists) (sym c.self.view_is) c.requires.behind in
+    let behind = subst (λ (r : RoomView). Rattle.std.specs.List.AllByRecursion (λ l. l.0 < c.args.thread) r.lists) (sym c.self.view_is)
+    c.requires.behind in
     subst IsRecord (sym more) (record_longer _ (list_seen list) c.self.invariant behind c.requires.list)

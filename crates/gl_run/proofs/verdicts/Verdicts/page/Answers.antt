@@ -9,7 +9,10 @@ use Rattle.gl_run.proofs.verdicts.Verdicts.page.Goals as goal
 pub kept_of-requires : goal.kept_of-requires
 kept_of-requires c =
     let e = c.requires in
-    record { room = recorded_room (map line_of e.done) (2 * TRACE_LINES + 1) c.args.self.tracer (omega (arith, lines_length e.done, e.lines.few)) e.said.recorded }
+    record {
+      room = recorded_room (map line_of e.done) (2 * TRACE_LINES + 1) c.args.self.tracer
+          (omega (arith, lines_length e.done, e.lines.few)) e.said.recorded;
+    }
 
 pub returns : goal.returns
 returns c = λ done said lines.

@@ -15,7 +15,8 @@ record_line-requires-clause-few g c =
     let a = c.requires.awaits in
     let line : TraceLine = (c.args.line, c.args.thread, c.args.item.now) in
     let judged = c.in_ok-judged.judged in
-    let on = said_on a.done line judged c.args.self.now.detector c.step.new.self c.in_ok-judged.ensures.right a.said.right a.said.follows a.lines in
+    let on = said_on a.done line judged c.args.self.now.detector c.step.new.self c.in_ok-judged.ensures.right a.said.right a.said.follows
+    a.lines in
     (said_next a.done line judged a.lines on.0).few
 
 pub record_line-requires-clause-suits : goal.record_line-requires-clause-suits
@@ -23,19 +24,33 @@ record_line-requires-clause-suits g c =
     let a = c.requires.awaits in
     let line : TraceLine = (c.args.line, c.args.thread, c.args.item.now) in
     let judged = c.in_ok-judged.judged in
-    let on = said_on a.done line judged c.args.self.now.detector c.step.new.self c.in_ok-judged.ensures.right a.said.right a.said.follows a.lines in
+    let on = said_on a.done line judged c.args.self.now.detector c.step.new.self c.in_ok-judged.ensures.right a.said.right a.said.follows
+    a.lines in
     (said_next a.done line judged a.lines on.0).suits
 
 pub with_one-self-requires : goal.with_one-self-requires
 with_one-self-requires g c =
     let a = c.requires.awaits in
-    omega (arith, a.said.races, few_races a.done, a.lines.few, length-append (lines_said a.done) ((c.args.line, c.args.thread, c.args.item.now) ∷ []))
+    omega (
+      arith,
+      a.said.races,
+      few_races a.done,
+      a.lines.few,
+      length-append (lines_said a.done)
+          ((c.args.line, c.args.thread, c.args.item.now) ∷ []),
+    )
 
 pub record_line-requires-clause-room : goal.record_line-requires-clause-room
 record_line-requires-clause-room g c =
     let a = c.requires.awaits in
     recorded_room (map line_of a.done) (2 * TRACE_LINES) c.args.self.now.tracer
-    (omega (arith, lines_length a.done, a.lines.few, length-append (lines_said a.done) ((c.args.line, c.args.thread, c.args.item.now) ∷ []))) a.said.recorded
+    (omega (
+      arith,
+      lines_length a.done,
+      a.lines.few,
+      length-append (lines_said a.done) ((c.args.line, c.args.thread, c.args.item.now)
+          ∷ []),
+    )) a.said.recorded
 
 pub returns-clause-said : goal.returns-clause-said
 returns-clause-said g c = λ done said lines.

@@ -21,7 +21,8 @@ invariant_of-result c =
     record {
       levels = c.in_ok-none.ensures ∙ sym (ap levels_of none ∙ levels_none);
       long = ap length rights ∙ length-replicate {A = Option (ℕ × Bool)} VARIABLES None;
-      rights = λ x near. ap (λ (l : List (Option (ℕ × Bool))). slice_index_or l x None) rights ∙ get_or-replicate {A = Option (ℕ × Bool)} VARIABLES x None None near ∙ sym (ap (λ l. right_of l x) none);
+      rights = λ x near. ap (λ (l : List (Option (ℕ × Bool))). slice_index_or l x None) rights
+          ∙ get_or-replicate {A = Option (ℕ × Bool)} VARIABLES x None None near ∙ sym (ap (λ l. right_of l x) none);
       blocks = (let b = block in omega arith);
       kept = subst (All IsEntryKept) (sym none) (All-nil IsEntryKept);
     }

@@ -13,7 +13,8 @@ use Rattle.gl_table.proofs.own_list.OwnList.push.Goals as goal
 pub note-requires-clause-few : goal.note-requires-clause-few
 note-requires-clause-few c = λ o.
     let mine = map seen c.self.inside.list.items in
-    let is : slice_index c.self.inside.levels o ≡ slice_index (levels_of mine) o = ap (λ (l : List ℕ). slice_index l o) c.self.invariant.levels in
+    let is : slice_index c.self.inside.levels o
+    ≡ slice_index (levels_of mine) o = ap (λ (l : List ℕ). slice_index l o) c.self.invariant.levels in
     let few = levels_few mine o in
     let long : length mine ≡ length c.self.inside.list.items = length-map c.self.inside.list.items seen in
     let fields = c.self.inside.list.ok in
@@ -37,7 +38,8 @@ pub invariant_of-self : goal.invariant_of-self
 invariant_of-self c =
     let e = seen c.args.entry in
     let mine = map seen c.self.inside.list.items in
-    let more : map seen c.push_reserved.new.self.items ≡ mine ++ e ∷ [] = ap (map seen) c.push_reserved.ensures.items ∙ map-append seen c.self.inside.list.items _ in
+    let more : map seen c.push_reserved.new.self.items ≡ mine ++ e ∷ [] = ap (map seen) c.push_reserved.ensures.items
+    ∙ map-append seen c.self.inside.list.items _ in
     let i = c.self.invariant in
     let n = ap length more in
     let m : length (mine ++ e ∷ []) ≡ length mine + 1 = length-append mine (e ∷ []) in
@@ -46,7 +48,8 @@ invariant_of-self c =
     record {
       levels = c.note.ensures ∙ ap (λ l. levels_entry l e) i.levels ∙ sym (ap levels_of more ∙ levels_push mine e);
       long = ap length c.note-2.ensures.rights ∙ rights_long c.self.inside.rights.rights e i.long;
-      rights = rights_push c.self.inside.rights.rights c.note-2.new.self.rights mine (map seen c.push_reserved.new.self.items) e i.long i.rights c.note-2.ensures.rights more;
+      rights = rights_push c.self.inside.rights.rights c.note-2.new.self.rights mine (map seen c.push_reserved.new.self.items) e i.long
+          i.rights c.note-2.ensures.rights more;
       blocks = omega arith;
       kept = subst (All IsEntryKept) (sym more) (All-push IsEntryKept mine e i.kept c.requires.kept);
     }

@@ -15,7 +15,11 @@ push-requires-clause-kept c =
 pub invariant_of-self : goal.invariant_of-self
 invariant_of-self c =
     let m = subst (λ (p : PassView). MayAbort p c.args.tx.value c.args.why) (sym c.self.view_is) c.requires.may in
-    record { pass = (pass_aborts _ _ _ _ _ _ c.self.invariant.pass c.args.tx.value c.args.why _ m (subst IsTxKept c.deref.ensures c.keeps.ensures) c.push.ensures.entries).0; room = c.self.invariant.room }
+    record {
+      pass = (pass_aborts _ _ _ _ _ _ c.self.invariant.pass c.args.tx.value c.args.why _ m
+          (subst IsTxKept c.deref.ensures c.keeps.ensures) c.push.ensures.entries).0;
+      room = c.self.invariant.room;
+    }
 
 pub returns : goal.returns
 returns c =
@@ -23,7 +27,8 @@ returns c =
     let m = subst (λ (p : PassView). MayAbort p c.args.tx.value c.args.why) (sym c.self.view_is) c.requires.may in
     let more = c.push.ensures.entries in
     let e : Entry = Abort c.args.tx.value c.args.why in
-    let is = (pass_aborts _ _ _ _ _ _ c.self.invariant.pass c.args.tx.value c.args.why _ m (subst IsTxKept c.deref.ensures c.keeps.ensures) more).1 in
+    let is = (pass_aborts _ _ _ _ _ _ c.self.invariant.pass c.args.tx.value c.args.why _ m (subst IsTxKept c.deref.ensures c.keeps.ensures)
+    more).1 in
     let id = c.self.inside.id in
     let z = c.self.inside.seat.table_id in
     let now = caught_up c.self.inside.seat.me.0 id mine in

@@ -11,7 +11,8 @@ use Rattle.gl_table.proofs.pass.Pass.cached.Goals as goal
 
 pub push-requires-clause-kept : goal.push-requires-clause-kept
 push-requires-clause-kept c =
-    let m = subst (λ (p : PassView). MayCache (shelf_of p) (view_of p) c.args.var c.args.nth c.args.write c.args.value) (sym c.self.view_is) (may_cache c.args.self.now c.args.var c.args.nth c.args.write c.args.value c.requires.may) in
+    let m = subst (λ (p : PassView). MayCache (shelf_of p) (view_of p) c.args.var c.args.nth c.args.write c.args.value)
+    (sym c.self.view_is) (may_cache c.args.self.now c.args.var c.args.nth c.args.write c.args.value c.requires.may) in
     right_in_range _ _ _ _ _ _ c.self.invariant.pass.kept m
 
 pub invariant_of-self : goal.invariant_of-self
@@ -19,17 +20,25 @@ invariant_of-self c =
     let mine = c.self.inside.mine.entries in
     let fits : FitsSigned w64 c.args.value = search rules in
     let more = simp to_z-of_z at c.push.ensures.entries in
-    let m = subst (λ (p : PassView). MayCache (shelf_of p) (view_of p) c.args.var c.args.nth c.args.write c.args.value) (sym c.self.view_is) (may_cache c.args.self.now c.args.var c.args.nth c.args.write c.args.value c.requires.may) in
-    record { pass = (pass_adds _ _ _ _ _ _ c.self.invariant.pass (Plain c.args.var c.args.nth true c.args.write c.args.value false) _ (λ u e. (shelf c.self.inside.id mine, refl, m, e)) refl refl refl c.self.invariant.pass.out refl (right_in_range _ _ _ _ _ _ c.self.invariant.pass.kept m) more).0; room = c.self.invariant.room }
+    let m = subst (λ (p : PassView). MayCache (shelf_of p) (view_of p) c.args.var c.args.nth c.args.write c.args.value)
+    (sym c.self.view_is) (may_cache c.args.self.now c.args.var c.args.nth c.args.write c.args.value c.requires.may) in
+    record {
+      pass = (pass_adds _ _ _ _ _ _ c.self.invariant.pass (Plain c.args.var c.args.nth true c.args.write c.args.value false) _
+          (λ u e. (shelf c.self.inside.id mine, refl, m, e)) refl refl refl c.self.invariant.pass.out refl
+          (right_in_range _ _ _ _ _ _ c.self.invariant.pass.kept m) more).0;
+      room = c.self.invariant.room;
+    }
 
 pub returns : goal.returns
 returns c =
     let mine = c.self.inside.mine.entries in
     let fits : FitsSigned w64 c.args.value = search rules in
     let more = simp to_z-of_z at c.push.ensures.entries in
-    let m = subst (λ (p : PassView). MayCache (shelf_of p) (view_of p) c.args.var c.args.nth c.args.write c.args.value) (sym c.self.view_is) (may_cache c.args.self.now c.args.var c.args.nth c.args.write c.args.value c.requires.may) in
+    let m = subst (λ (p : PassView). MayCache (shelf_of p) (view_of p) c.args.var c.args.nth c.args.write c.args.value)
+    (sym c.self.view_is) (may_cache c.args.self.now c.args.var c.args.nth c.args.write c.args.value c.requires.may) in
     let e : Entry = Plain c.args.var c.args.nth true c.args.write c.args.value false in
-    let is = (pass_adds _ _ _ _ _ _ c.self.invariant.pass e _ (λ u e. (shelf c.self.inside.id mine, refl, m, e)) refl refl refl c.self.invariant.pass.out refl (right_in_range _ _ _ _ _ _ c.self.invariant.pass.kept m) more).1 in
+    let is = (pass_adds _ _ _ _ _ _ c.self.invariant.pass e _ (λ u e. (shelf c.self.inside.id mine, refl, m, e)) refl refl refl
+    c.self.invariant.pass.out refl (right_in_range _ _ _ _ _ _ c.self.invariant.pass.kept m) more).1 in
     let id = c.self.inside.id in
     let z = c.self.inside.seat.table_id in
     let now = caught_up c.self.inside.seat.me.0 id mine in

@@ -12,7 +12,11 @@ pub invariant_of-self : goal.invariant_of-self
 invariant_of-self c =
     let mine = c.self.inside.mine.entries in
     let m = may_end c.self.inside.id mine (ap (λ (p : PassView). life_of p.own.mine) c.self.view_is ∙ c.requires.ends) in
-    record { pass = (pass_adds _ _ _ _ _ _ c.self.invariant.pass (Over c.args.ending) _ (λ u e. (shelf c.self.inside.id mine, refl, m, e)) refl refl refl c.self.invariant.pass.out refl tt c.push.ensures.entries).0; room = c.self.invariant.room }
+    record {
+      pass = (pass_adds _ _ _ _ _ _ c.self.invariant.pass (Over c.args.ending) _ (λ u e. (shelf c.self.inside.id mine, refl, m, e))
+          refl refl refl c.self.invariant.pass.out refl tt c.push.ensures.entries).0;
+      room = c.self.invariant.room;
+    }
 
 pub returns : goal.returns
 returns c =
@@ -20,7 +24,8 @@ returns c =
     let m = may_end c.self.inside.id mine (ap (λ (p : PassView). life_of p.own.mine) c.self.view_is ∙ c.requires.ends) in
     let e : Entry = Over c.args.ending in
     let more = c.push.ensures.entries in
-    let is = (pass_adds _ _ _ _ _ _ c.self.invariant.pass e _ (λ u e. (shelf c.self.inside.id mine, refl, m, e)) refl refl refl c.self.invariant.pass.out refl tt more).1 in
+    let is = (pass_adds _ _ _ _ _ _ c.self.invariant.pass e _ (λ u e. (shelf c.self.inside.id mine, refl, m, e)) refl refl refl
+    c.self.invariant.pass.out refl tt more).1 in
     let id = c.self.inside.id in
     let z = c.self.inside.seat.table_id in
     let now = caught_up c.self.inside.seat.me.0 id mine in

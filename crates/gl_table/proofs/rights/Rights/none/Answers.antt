@@ -16,7 +16,10 @@ returns c =
     let end = c.loop.auto.counter-end in
     let n : c.loop.counter ≡ 1024 = omega arith in
     let first : Right = record { block = 0; nth = 0; write = false } in
-    let all : All (λ (p : Right). p.block ≤ 0) c.loop.places.items = subst (All (λ (p : Right). p.block ≤ 0)) (sym i.0) (All-replicate (λ (p : Right). p.block ≤ 0) c.loop.counter first (omega arith)) in
+    let all : All (λ (p : Right). p.block ≤ 0) c.loop.places.items =
+    subst (All (λ (p : Right). p.block ≤ 0)) (sym i.0) (All-replicate (λ (p : Right). p.block ≤ 0) c.loop.counter first (omega arith)) in
     let long : length c.loop.places.items ≡ 1024 = ap length i.0 ∙ length-replicate c.loop.counter first ∙ n in
-    let none : map (right_in 1) c.loop.places.items ≡ replicate {A = Option (ℕ × Bool)} VARIABLES None = none_begun 0 c.loop.places.items all ∙ ap (λ k. replicate {A = Option (ℕ × Bool)} k None) long in
+    let none : map (right_in 1) c.loop.places.items
+    ≡ replicate {A = Option (ℕ × Bool)} VARIABLES None = none_begun 0 c.loop.places.items all
+    ∙ ap (λ k. replicate {A = Option (ℕ × Bool)} k None) long in
     ap (λ (l : List (Option (ℕ × Bool))). let r : RightsView = record { rights = l; block = 1 } in r) none

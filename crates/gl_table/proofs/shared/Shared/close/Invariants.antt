@@ -5,4 +5,16 @@ use Rattle.gl_table.specs.Says.{no_tx, no_event, no_mark, no_held}
 use Rattle.gl_table.proofs.shared.Shared.close.Given as goal
 
 abbrev pub ghosts-load_last : goal.ghosts-load_last
-ghosts-load_last a = record { view = a.seat.now.me.0; setting = trace_setting; key = key_of a.board.now.key; object = 0; quiet = false; held = no_held; event = no_event; mark = no_mark; look = None; tx = no_tx; index = 0 }
+ghosts-load_last a = record {
+  view = a.seat.now.me.0;
+  setting = trace_setting;
+  key = key_of a.board.now.key;
+  object = 0;
+  quiet = false;
+  held = no_held;
+  event = no_event;
+  mark = no_mark;
+  look = None;
+  tx = no_tx;
+  index = 0;
+}

@@ -8,4 +8,5 @@ pub returns : goal.returns
 returns c =
     let all = spans_at c.args.self.now.start c.args.self.now.text in
     same_option c.nth.result (slice_get all c.args.i)
-    (nth_from_yields_List c.nth.result c.nth.new.self c.args.i c.nth.ensures.ran (YieldsList-from_first (λ s. s) (λ s. s) all c.spans.ensures))
+    (nth_from_yields_List c.nth.result c.nth.new.self c.args.i c.nth.ensures.ran
+    (YieldsList-from_first (λ s. s) (λ s. s) all c.spans.ensures))

@@ -8,4 +8,5 @@ pub returns : goal.returns
 returns c =
     let all = words c.args.self.now.text in
     matched (λ w. w.now) c.nth.result (slice_get all c.args.i)
-    (nth_from_yields_List c.nth.result c.nth.new.self c.args.i c.nth.ensures.ran (YieldsList-from_first (λ w. w.now) (λ s. s) all c.words.ensures))
+    (nth_from_yields_List c.nth.result c.nth.new.self c.args.i c.nth.ensures.ran
+    (YieldsList-from_first (λ w. w.now) (λ s. s) all c.words.ensures))

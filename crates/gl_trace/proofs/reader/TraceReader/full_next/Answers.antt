@@ -17,9 +17,11 @@ returns-in-Err-clause-fault c = λ text made is.
     let here = c.loop-line.invariant.0 text made is in
     let reads : Reads text old.lines.given (line.text ∷ c.next_line.new.self.left) made old.standing =
     subst (λ l. Reads text old.lines.given l made old.standing) c.in-Some.ensures.line here.reads in
-    let fault : line_fault (steps_of made) line.number line.text ≡ Some c.in-Err.kind = c.in-Err.ensures.fault (steps_of made) here.reads.tracks in
+    let fault : line_fault (steps_of made) line.number line.text
+    ≡ Some c.in-Err.kind = c.in-Err.ensures.fault (steps_of made) here.reads.tracks in
     rw c.number-number.ensures
-    (numbered_fault text line.text old.lines.given line.number c.in-Err.kind c.next_line.new.self.left made old.standing c.in-Some.ensures.number.0 here.short reads fault)
+    (numbered_fault text line.text old.lines.given line.number c.in-Err.kind c.next_line.new.self.left made old.standing
+    c.in-Some.ensures.number.0 here.short reads fault)
 
 pub returns-in-Ok-Some-clause-line : goal.returns-in-Ok-Some-clause-line
 returns-in-Ok-Some-clause-line c = λ text made is.
@@ -39,8 +41,10 @@ returns-in-Ok-Some-clause-line c = λ text made is.
       short = here.short;
       reads =
           rw c.number-number.ensures
-          (numbered_step text line.text old.lines.given line.number c.next_line.new.self.given c.next_line.new.self.left made old.standing c.take.new.self step
-          c.in-Some.ensures.number.0 c.in-Some.ensures.number.1 reads few says clean (c.take.ensures.tracks (steps_of made) here.reads.tracks)
+          (numbered_step text line.text old.lines.given line.number c.next_line.new.self.given c.next_line.new.self.left made old.standing
+          c.take.new.self step
+          c.in-Some.ensures.number.0 c.in-Some.ensures.number.1 reads few says clean
+          (c.take.ensures.tracks (steps_of made) here.reads.tracks)
           (rw c.in-Some.ensures.number.0 within) range kept);
     }
 
@@ -57,7 +61,8 @@ loop-line-preserved c = (
       record {
         short = here.short;
         reads =
-            numbered_silent text line.text old.lines.given line.number c.next_line.new.self.given c.next_line.new.self.left made old.standing
+            numbered_silent text line.text old.lines.given line.number c.next_line.new.self.given c.next_line.new.self.left made
+            old.standing
             c.in-Some.ensures.number.0 c.in-Some.ensures.number.1 reads c.in-Ok-None.ensures.few says clean;
       },
   (let e = ap length c.in-Some.ensures.line in omega (arith, c.loop-line.invariant.1)),

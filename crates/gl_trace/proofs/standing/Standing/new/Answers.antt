@@ -11,4 +11,5 @@ returns-clause-tracks c = record {
 }
 
 pub returns-clause-within : goal.returns-clause-within
-returns-clause-within c = λ m h. subst (λ (o : Option (ℕ × ℕ)). IfSome o (λ h. (0 < h.1) × (h.1 ≤ 0))) (sym (get_or-replicate MONITORS m None None h)) tt
+returns-clause-within c = λ m h. subst (λ (o : Option (ℕ × ℕ)). IfSome o (λ h. (0 < h.1) × (h.1 ≤ 0)))
+    (sym (get_or-replicate MONITORS m None None h)) tt

@@ -20,7 +20,8 @@ returns-clause-tx c = λ s h.
     let numbers : c.numbers_of-numbers.result ≡ map (number own) (with_all c.args.writes.now reads) =
     c.numbers_of-numbers.ensures
     ∙ map_same (number (slice_index c.draw_each.new.numbers)) (number own) c.in-Some.all c.keeps-2.ensures.2
-    (λ x below. ap (λ (n : ℕ). record { var = x; nth = n }) (c.draw_each.ensures x below ∙ ap (λ n. n + look_count reads x) (h.numbers x below)))
+    (λ x below. ap (λ (n : ℕ). record { var = x; nth = n }) (c.draw_each.ensures x below
+    ∙ ap (λ n. n + look_count reads x) (h.numbers x below)))
     ∙ ap (map (number own)) c.in-Some.ensures.0 in
     λ i. record { looks = looks i; writes = c.writes_of.ensures i; numbers = numbers i }
 
@@ -29,4 +30,5 @@ returns-clause-drawn c = λ x below.
     let reads = c.args.reads in
     c.draw_each-2.ensures x below
     ∙ ap (λ n. n + look_count c.in-Some.all x) (c.draw_each.ensures x below)
-    ∙ ap (λ n. slice_index c.args.self.now.numbers x + look_count reads x + n) (ap (λ (l : List ℕ). look_count l x) c.in-Some.ensures.0 ∙ own_is_all reads c.args.writes.now x)
+    ∙ ap (λ n. slice_index c.args.self.now.numbers x + look_count reads x + n) (ap (λ (l : List ℕ). look_count l x) c.in-Some.ensures.0
+    ∙ own_is_all reads c.args.writes.now x)

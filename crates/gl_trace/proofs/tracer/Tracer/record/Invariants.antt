@@ -7,5 +7,6 @@ use Rattle.gl_trace.proofs.tracer.Tracer.record.Given as goal
 -- the threads below this one are over
 abbrev pub invariant-loop-thread : goal.invariant-loop-thread
 invariant-loop-thread l =
-    ((lines : List Line) → Traces (after_lines lines before_lines) l.fn.self → Traces (with_endings l.thread (after_lines lines before_lines)) l.self)
+    ((lines : List Line) → Traces (after_lines lines before_lines) l.fn.self
+    → Traces (with_endings l.thread (after_lines lines before_lines)) l.self)
     × IsUpTo (2 * TRACE_LINES + 1 + l.thread) l.self

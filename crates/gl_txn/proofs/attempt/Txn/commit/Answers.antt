@@ -8,5 +8,7 @@ use Rattle.gl_txn.proofs.attempt.Txn.commit.Goals as goal
 
 pub end_attempt-requires-2-clause-may : goal.end_attempt-requires-2-clause-may
 end_attempt-requires-2-clause-may g c =
-    may_try_writes c.args.shared.now c.args.pass.now (txn_view c.self.inside) (record { looks = c.deref_mut.result.now.looks; writes = c.replace-writes.new.dest }) (ap (λ (t : Tx). t.looks) c.deref_mut.ensures.value)
+    may_try_writes c.args.shared.now c.args.pass.now (txn_view c.self.inside)
+    (record { looks = c.deref_mut.result.now.looks; writes = c.replace-writes.new.dest })
+    (ap (λ (t : Tx). t.looks) c.deref_mut.ensures.value)
     (subst (λ (a : Attempting). MayTry c.args.shared.now c.args.pass.now a) (sym c.self.view_is) c.requires.may)

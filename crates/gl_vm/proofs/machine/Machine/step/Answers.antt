@@ -12,7 +12,8 @@ returns-clause-fits c =
 
 pub returns-clause-inside : goal.returns-clause-inside
 returns-clause-inside c =
-    rw (c.asked.ensures.value, c.advance.ensures) (attends_on c.args.program.now c.args.self.now c.args.reply c.requires.fits c.requires.taken).attends
+    rw (c.asked.ensures.value, c.advance.ensures)
+    (attends_on c.args.program.now c.args.self.now c.args.reply c.requires.fits c.requires.taken).attends
 
 pub returns-clause-attempt : goal.returns-clause-attempt
 returns-clause-attempt c =
