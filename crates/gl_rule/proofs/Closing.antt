@@ -1,6 +1,6 @@
 -- The table at the end, where one seat has the lists of all threads.
-use Rattle.std.proofs.Common.{◌≡◌, ◌≢◌, ℕ, zero, suc, ◌+◌, ◌<◌, ◌≤◌, ◌==◌, List, [], ◌∷◌, ◌++◌, length, sym, refl, ap, subst, arith, ◌∙◌, inl, inr, true, false, eq-eqb, ne_eqb}
-use Rattle.std.specs.Prelude.{ℤ, Contains, ◌⊎◌}
+use Rattle.std.proofs.Common.{◌≡◌, ◌≢◌, ℕ, zero, suc, ◌+◌, ◌*◌, ◌<◌, ◌≤◌, ◌==◌, List, [], ◌∷◌, ◌++◌, length, sym, refl, ap, subst, arith, ◌∙◌, inl, inr, true, false, eq-eqb, ne_eqb}
+use Rattle.std.specs.Prelude.{ℤ, Contains, ◌⊎◌, ◌^◌}
 use Rattle.std.proofs.lemmas.List.Elements.{All-contains}
 use native.Mathlib.Decide.{ℕ_discrete}
 use mathlib.Core.Option.{some, some-injective}
@@ -10,6 +10,7 @@ use Rattle.gl_model.specs.declared.event.Act.TheVariants.{Fork}
 use Rattle.gl_model.specs.declared.event.Event.TheVariants.{Act as Does}
 use Rattle.gl_model.specs.declared.limits.TheConstants.{THREADS}
 use Rattle.gl_model.specs.Edges.{EventAt}
+use Rattle.gl_model.specs.Elements.{IsStampInRange}
 use Rattle.gl_model.specs.Entries.{Entry, Sync}
 use Rattle.gl_model.specs.Form.{At, ListForm, value_of}
 use Rattle.gl_model.specs.Machine.{State, Step, start, NeverForked, Forked, Ended}
@@ -21,8 +22,10 @@ use Rattle.gl_draws.specs.Events.{AreEvents}
 use Rattle.gl_draws.specs.Ties.{AreDrawn}
 use Rattle.gl_draws.proofs.ClosedNumbers.{numbered_law}
 use Rattle.gl_draws.proofs.Closing.{is_list, positions_rise}
+use Rattle.gl_draws.proofs.DrawCounts.{draws_bound}
 use Rattle.gl_draws.proofs.DrawPlaces.{draw_among}
 use Rattle.gl_draws.proofs.DrawTies.{with_here}
+use Rattle.gl_draws.proofs.Forming.{log_bound}
 use Rattle.gl_draws.proofs.Running.{first_stage}
 use Rattle.gl_rule.specs.declared.slot.Slot.{Slot}
 use Rattle.gl_rule.specs.Objects.{Key, Board, board, capacity, objects}
@@ -203,6 +206,10 @@ module _ (key : Key) (w : World) (st : table.State Slot View) (id : ℕ) (v : Vi
       draws = w.draws;
       until = w.until;
       trims = w.trims;
+      few_events = (let m : length w.log ≤ 16 * 2 ^ 50 = log_bound IsStampInRange 16 (2 ^ 50) w.log (λ d k. k.0) H.whole.positions.kept
+          H.whole.positions.few in omega arith);
+      few_draws = λ x. (let m : length (w.draws x)
+          ≤ 16 * (2 ^ 51 + 2) = draws_bound 16 (2 ^ 51 + 2) (w.draws x) (H.whole.numbers.threads x) (H.whole.numbers.few x) in omega arith);
       events = events;
       tied = record { at = drawn };
       hold = H.whole.verdicts;

@@ -1,6 +1,7 @@
 pub mod Aborting
 pub mod Acting
 pub mod Caching
+pub mod Bounding
 pub mod Closing
 pub mod Committing
 pub mod Drawing

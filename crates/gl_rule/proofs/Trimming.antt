@@ -24,7 +24,7 @@ use Rattle.gl_rule.proofs.Closing.{closes, events}
 use Rattle.gl_rule.proofs.Ending.{all_quiet, none, paid}
 
 module _ (setting : Setting) (low : ℕ) (R : Lists) (c : IsClosed setting low R) where
-  trims_of : (p : Place) (l : ℕ) → EntryAt R p (Trim l) → Contains c.trims (p.thread, l)
+  pub trims_of : (p : Place) (l : ℕ) → EntryAt R p (Trim l) → Contains c.trims (p.thread, l)
   trims_of p l at = elim (cases_lt p.thread THREADS) [
     | inl near ↦ (c.lows p.thread near).made p.index l at
     | inr far ↦ absurd (let z : At [] p.index (Trim l) = subst (λ es. At es p.index (Trim l)) (c.beyond p.thread far) at in cc)

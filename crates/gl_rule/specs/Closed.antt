@@ -1,5 +1,5 @@
 -- What is known of the lists of all passes when a table is closed, and when a pass is done.
-use Rattle.std.specs.Prelude.{◌≡◌, ◌⊎◌, Bool, ℕ, ℤ, ◌<◌, ◌≤◌, true, false, ◌==◌, if◌then◌else◌, List, [], ◌∷◌}
+use Rattle.std.specs.Prelude.{◌≡◌, ◌⊎◌, Bool, ℕ, ℤ, ◌<◌, ◌≤◌, true, false, ◌==◌, ◌+◌, ◌^◌, if◌then◌else◌, List, [], ◌∷◌, length}
 use Rattle.gl_model.specs.declared.event.Stamp.{Stamp}
 use Rattle.gl_model.specs.Entries.{Entry, Plain}
 use Rattle.gl_model.specs.Form.{At, IsOver, ListForm, Numbered, IsMachineRun}
@@ -27,6 +27,9 @@ pub record IsClosed (setting : Setting) (low : ℕ) (R : Lists) : Type 0 where
   pub draws : ℕ → List Draw
   pub until : ℕ → ℕ → ℕ
   pub trims : List (ℕ × ℕ)
+  -- so few are made by 16 threads
+  pub few_events : length log ≤ 2 ^ 54
+  pub few_draws : (x : ℕ) → length (draws x) ≤ 2 ^ 55 + 32
   pub events : (t : ℕ) → AreEvents log t (R t)
   pub tied : AreTied R draws
   pub hold : (x : ℕ) → DrawsHold log x (draws x)

@@ -10,6 +10,7 @@ use Rattle.gl_model.specs.Lawful.{IsLawful}
 use Rattle.gl_model.specs.Records.{Lists, Place, EntryAt, IsEventList}
 use Rattle.gl_draws.specs.Cached.{IsEntryRising}
 use Rattle.gl_rule.specs.declared.slot.Slot.{Slot}
+use Rattle.gl_rule.specs.Bounded.{IsBounded}
 use Rattle.gl_rule.specs.Closed.{IsDone, lists_in}
 use Rattle.gl_rule.specs.Objects.{Key}
 use Rattle.gl_rule.specs.Rule.{Rule}
@@ -41,6 +42,12 @@ abbrev pub ClosedIsTrimmed : Type 0
 ClosedIsTrimmed =
     (key : Key) (s : table.State Slot View) (id : ℕ) (v : View) → Rule key s → get_elem? s.views id ≡ some v → HasAll v →
     (h : List Stamp) × IsEventList h (lists_in v.shelves) × AreTrims key.cells key.segments (lists_in v.shelves) (length h)
+
+-- and its positions, numbers and low marks are bounded, where a segment has a cell
+abbrev pub ClosedIsBounded : Type 0
+ClosedIsBounded =
+    (key : Key) (s : table.State Slot View) (id : ℕ) (v : View) → 0 < key.cells → Rule key s → get_elem? s.views id ≡ some v → HasAll v →
+    IsBounded (lists_in v.shelves)
 
 -- by segments: the greatest low is at most the segment of the tail, and with the ring's segments it is above that of the last event
 abbrev pub TrimsBySegments : Type 0

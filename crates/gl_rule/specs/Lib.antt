@@ -20,6 +20,7 @@ pub mod Commits
 pub mod Adding
 pub mod Opened
 pub mod Closed
+pub mod Bounded
 pub mod Laws
 pub mod Steps
 pub mod Safe

@@ -2,7 +2,7 @@
 #![tactic(auto)]
 
 ghost use Rattle.gl_rule.specs.Agreeing.{KnownEventsAgree, KnownSetsAgree, KnownTestsAgree, OwnPlainStands, OwnCommitStands};
-ghost use Rattle.gl_rule.specs.Laws.{ClosedIsLawful, ClosedIsTrimmed, TrimsBySegments};
+ghost use Rattle.gl_rule.specs.Laws.{ClosedIsLawful, ClosedIsTrimmed, ClosedIsBounded, TrimsBySegments};
 ghost use Rattle.gl_rule.specs.Levels.{LevelsTell, MonitorsTell, QuestionsTell};
 ghost use Rattle.gl_rule.specs.Safe.{TablesAreSafe, OverwritesUnnamed};
 ghost use Rattle.gl_rule.specs.Steps.{TakesTurn, LeavesTurn, WritesBack, LoadsTail, LoadsHold, LoadsFloor, LoadsStop, LoadsCell, LoadsEvent, StoresWord, SetsStop, RaisesHold, RaisesLow, PublishesAct, PublishesCommit, MarksPlain, MarksOpen, RecordsAdded, Begins, EntersSeat, SplitsSeat, JoinsSeats};
@@ -81,9 +81,10 @@ pub fn tables_are_safe()
 {}
 
 /// Where one pass has the lists of all threads, each of them done, and holds nothing, the record of these lists is
-/// lawful, and its Trims are those of the ring.
+/// lawful, its Trims are those of the ring, and its positions, numbers and low marks are bounded.
 pub fn closed_tables_are_lawful()
     ensures lawful { ClosedIsLawful }
     ensures trims { ClosedIsTrimmed }
+    ensures bounded { ClosedIsBounded }
     ensures segments { TrimsBySegments }
 {}

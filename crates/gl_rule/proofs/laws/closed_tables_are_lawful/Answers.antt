@@ -1,3 +1,4 @@
+use Rattle.gl_rule.proofs.Bounding.{table_bounded}
 use Rattle.gl_rule.proofs.Ending.{table_lawful}
 use Rattle.gl_rule.proofs.Trimming.{trimmed, by_segments}
 use Rattle.gl_rule.proofs.laws.closed_tables_are_lawful.Goals as goal
@@ -10,3 +11,6 @@ returns-clause-trims c = λ key s id v rule here h. trimmed key s id v rule here
 
 pub returns-clause-segments : goal.returns-clause-segments
 returns-clause-segments c = by_segments
+
+pub returns-clause-bounded : goal.returns-clause-bounded
+returns-clause-bounded c = λ key s id v cells rule here h. table_bounded key s id v rule here h cells
