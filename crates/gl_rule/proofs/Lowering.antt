@@ -231,8 +231,9 @@ raises_low key slots id to v c s one may st rule long here fits =
     let held : Fits key b' (record w { trims = w.trims }) id v =
     fits_holds key b b' w w.trims id v turns cells (λ g p nz. other g.object nz) rises (λ r a z. z) mine in
     let own : Fits key b' w' id u = record {
-      tries = tries_saw w.stopped w.takers (s' ∷ []) v.reads (Hold 0 m) tt (λ r g by own is. absurd (cc))
-          (tries_moved w.stopped w.takers v s s' one L.thread mine.tries);
+      tries = tries_saw w.stopped w.takers (s' ∷ []) (v.reads ++ Hold 0 n ∷ []) (Hold 0 m) tt (λ r g by own is. absurd (cc))
+          (tries_saw w.stopped w.takers (s' ∷ []) v.reads (Hold 0 n) tt (λ r g by own is. absurd (cc))
+          (tries_moved w.stopped w.takers v s s' one L.thread mine.tries));
       turns = record {
         held = all_map O Q1 v.held
             (λ g p. record {
@@ -255,7 +256,8 @@ raises_low key slots id to v c s one may st rule long here fits =
         own = one_shelf (AreBelow v.seen) s' L.below;
         known = mine.knowledge.known;
         tails = held.knowledge.tails;
-        reads = All-push (ReadFits b'.hold) v.reads (Hold 0 m) held.knowledge.reads
+        reads = All-push (ReadFits b'.hold) (v.reads ++ Hold 0 n ∷ []) (Hold 0 m)
+            (All-push (ReadFits b'.hold) v.reads (Hold 0 n) held.knowledge.reads (near, (let e = hit in omega arith)))
             (near, (let e = hit in omega arith));
         loaded = mine.knowledge.loaded;
       };

@@ -165,10 +165,9 @@ both v u = record v { shelves = v.shelves ++ u.shelves; seen = max v.seen u.seen
 abbrev pub saw_floor : View → Held → ℕ → View
 saw_floor v h n = record v { held = record h { floor = Some n } ∷ without h.object v.held; reads = v.reads ++ Hold h.object n ∷ [] }
 
--- the first segment was n and became at least to; thread t, which has stored l, stores a Trim where it rose
+-- the first segment was n and became at least to, and both were seen; thread t, which has stored l, stores a Trim where it rose
 abbrev pub lowered : View → ℕ → List Entry → ℕ → ℕ → View
 lowered v t l n to = record v {
   shelves = (if nat_lt n to then shelf t (l ++ Trim to ∷ []) else shelf t l) ∷ [];
-  reads = v.reads
-      ++ Hold 0 (max n to) ∷ [];
+  reads = (v.reads ++ Hold 0 n ∷ []) ++ Hold 0 (max n to) ∷ [];
 }
