@@ -9,6 +9,7 @@ use Rattle.gl_rule.specs.Objects.{Key}
 use Rattle.gl_rule.specs.Opened.{shelves_from}
 use Rattle.gl_rule.specs.Rule.{Rule}
 use Rattle.gl_rule.specs.View.{View, Shelf, shelf, blank}
+use Rattle.gl_rule.proofs.Bounding.{table_bounded}
 use Rattle.gl_rule.proofs.Ending.{table_lawful}
 use Rattle.gl_rule.proofs.Frames.{reviews, loads_word}
 use Rattle.gl_rule.proofs.Seats.{splits}
@@ -30,6 +31,7 @@ load_tells key slots id v c s rule long here fits =
       record {
         lawful = λ h rising. table_lawful key w s id v H here h.held h.all h.done rising;
         trims = λ h. let t = trimmed key s id v rule here h in record { events = t.0; listed = t.1; trims = t.2 };
+        bounded = λ cells h. table_bounded key s id v rule here h cells;
       },
     )
 

@@ -16,6 +16,7 @@ use Rattle.gl_model.specs.Lists.{lists_of}
 use Rattle.gl_model.specs.Rising.{Rises}
 use Rattle.gl_draws.specs.Cached.{IsEntryRising}
 use Rattle.gl_rule.specs.declared.slot.Slot.{Slot}
+use Rattle.gl_rule.specs.Bounded.{IsBounded}
 use Rattle.gl_rule.specs.Closed.{IsDone, kept_lists, lists_in, with_list}
 use Rattle.gl_rule.specs.Laws.{HasAll}
 use Rattle.gl_rule.specs.Objects.{Key}
@@ -184,10 +185,11 @@ list_kept (l ∷ ls) t i e all at = here (l.0 == t) refl (list_kept ls t i e all
 pub record_rising : (ls : List (ℕ × List Entry)) (t i : ℕ) (e : Entry) → IsRecord ls → At (lists_of ls t) i e → IsEntryRising e
 record_rising ls t i e is at = entry_rising e (list_kept ls t i e is.1 at)
 
--- so the record of the lists is lawful, and its Trims are those of the ring
+-- so the record of the lists is lawful, its Trims are those of the ring, and it is bounded
 pub closed_record : (key : Key) (z : TableId) (ps : List PassView) (me w : table.Me Slot View) (ls : List (ℕ × List Entry))
     → AreAllDone z ps → IsRoot me ps → ClosedTold key me.0 w → ls ≡ kept_lists (shelves_of ps) → IsRecord ls
     → IsLawful key.setting (lists_of ls) × IsTrimmed key (lists_of ls) × ((t : ℕ) → lists_of ls t ≡ mine_at ps t)
+    × (0 < key.cells → IsBounded (lists_of ls))
 closed_record key z ps me w ls are root told is kept =
     let whole = has_all z ps me are root in
     let here : (t : ℕ) → lists_of ls t ≡ mine_at ps t = λ t. ap (λ l. lists_of l t) is ∙ kept_are (shelves_of ps) t (rises z ps are) in
@@ -195,4 +197,9 @@ closed_record key z ps me w ls are root told is kept =
     let same : lists_in me.0.shelves ≡ lists_of ls = λ i t. (each t) i in
     let rising : (d : Place) (e : Entry) → EntryAt (lists_in me.0.shelves) d e
     → IsEntryRising e = λ d e at. record_rising ls d.thread d.index e kept (subst (λ l. At l d.index e) (each d.thread) at) in
-    (subst (IsLawful key.setting) same (told.lawful whole rising), subst (IsTrimmed key) same (told.trims whole), here)
+    (
+      subst (IsLawful key.setting) same (told.lawful whole rising),
+      subst (IsTrimmed key) same (told.trims whole),
+      here,
+      λ cells. subst IsBounded same (told.bounded cells whole),
+    )

@@ -1,5 +1,5 @@
 -- What a table is closed to.
-use Rattle.std.specs.Prelude.{◌≡◌, ℕ, List, [], length, map, slice_get, Some, Contains}
+use Rattle.std.specs.Prelude.{◌≡◌, ◌<◌, ℕ, List, [], length, map, slice_get, Some, Contains}
 use Rattle.atomic_table.specs.Seated.{TableId}
 use Rattle.gl_model.specs.declared.event.Stamp.{Stamp}
 use Rattle.gl_model.specs.declared.limits.TheConstants.{THREADS}
@@ -7,6 +7,7 @@ use Rattle.gl_model.specs.Entries.{Entry}
 use Rattle.gl_model.specs.Lawful.{IsLawful}
 use Rattle.gl_model.specs.Records.{Lists, Place, EntryAt, IsEventList}
 use Rattle.gl_draws.specs.Cached.{IsEntryRising}
+use Rattle.gl_rule.specs.Bounded.{IsBounded}
 use Rattle.gl_rule.specs.Closed.{IsDone, lists_in}
 use Rattle.gl_rule.specs.Laws.{HasAll, AreTrims}
 use Rattle.gl_rule.specs.Objects.{Key}
@@ -39,11 +40,12 @@ pub record IsTrimmed (key : Key) (R : Lists) : Type 0 where
   pub listed : IsEventList events R
   pub trims : AreTrims key.cells key.segments R (length events)
 
--- the record of these lists is lawful, where one seat has all of them
+-- the record of these lists is lawful, its Trims are those of the ring, and it is bounded, where one seat has all of them
 pub record ClosedTold (key : Key) (v : View) (w : Seat) : Type 0 where
   pub lawful : HasAll v → ((d : Place) (e : Entry) → EntryAt (lists_in v.shelves) d e → IsEntryRising e)
       → IsLawful key.setting (lists_in v.shelves)
   pub trims : HasAll v → IsTrimmed key (lists_in v.shelves)
+  pub bounded : 0 < key.cells → HasAll v → IsBounded (lists_in v.shelves)
 
 -- a seat that has taken in the lists of these passes, each done
 pub record IsRoot (me : Seat) (ps : List PassView) : Type 0 where

@@ -6,6 +6,7 @@ ghost use Rattle.gl_model.specs.Kept.{IsEntryKept};
 ghost use Rattle.gl_model.specs.Lawful.{IsLawful};
 ghost use Rattle.gl_model.specs.Lists.{lists_of};
 ghost use Rattle.gl_model.specs.declared.limits.TheConstants.{THREADS};
+ghost use Rattle.gl_rule.specs.Bounded.{IsBounded};
 ghost use Rattle.gl_rule.specs.Closed.{kept_lists};
 ghost use Rattle.gl_table.specs.Ending.{IsDonePass, AreAllDone, IsRoot, IsTrimmed, shelves_of, mine_at};
 ghost use Rattle.gl_table.specs.KeyOf.{key_of};
@@ -81,13 +82,14 @@ fn gather(board: &Board, root: &mut Seat, room: &mut RecordRoom, passes: Vec<Pas
 
 impl Shared {
     /// Ends the table, whose passes are all given back, in the order of their numbers, each done. The record has their lists that are not
-    /// empty. It takes its memory first; the Err hands all back as it was.
+    /// empty; its positions, numbers and low marks are below 2^56. It takes its memory first; the Err hands all back as it was.
     pub fn close(self, passes: Vec<Pass>) -> Result<Sealed, (Shared, Vec<Pass>, AllocError)>
         requires all { AreAllDone self.id passes.items }
         ensures key { IfOk result (λ s. s.key ≡ self.key) }
         ensures lists { IfOk result (λ s. (t : ℕ) → lists_of s.entries t ≡ mine_at passes.items t) }
         ensures lawful { IfOk result (λ s. IsLawful self.key.setting (lists_of s.entries)) }
         ensures trims { IfOk result (λ s. IsTrimmed self.key (lists_of s.entries)) }
+        ensures bounded { IfOk result (λ s. IsBounded (lists_of s.entries)) }
         ensures err { IfErr result (λ e. (e.0 ≡ self) × (e.1 ≡ passes)) }
     {
         let Ok(mut room) = RecordRoom::with_capacity(*passes.allocator(), 16) else {

@@ -2,6 +2,7 @@
 ghost use Rattle.std.specs.Prelude.{◌≡◌};
 ghost use Rattle.gl_model.specs.Lawful.{IsLawful};
 ghost use Rattle.gl_model.specs.Lists.{lists_of};
+ghost use Rattle.gl_rule.specs.Bounded.{IsBounded};
 ghost use Rattle.gl_table.specs.Ending.{IsTrimmed};
 ghost use Rattle.gl_table.specs.KeyOf.{key_of};
 
@@ -34,6 +35,7 @@ impl Sealed {
     pub(crate) fn of(whole: Record, layout: Layout) -> Sealed
         requires lawful { IsLawful (key_of layout).setting (lists_of whole) }
         requires trims { IsTrimmed (key_of layout) (lists_of whole) }
+        requires bounded { IsBounded (lists_of whole) }
         ensures { (result.entries ≡ whole) × (result.key ≡ key_of layout) }
     {
         Sealed {
@@ -42,11 +44,13 @@ impl Sealed {
         }
     }
 
-    /// The lists of the threads that began. They are lawful in all that does not speak of the program, and their Trims are those of the ring.
+    /// The lists of the threads that began. They are lawful in all that does not speak of the program, their Trims are those of the ring, and
+    /// their positions, numbers and low marks are below 2^56.
     pub fn record(&self) -> &Record
         ensures is { result.now ≡ self.now.entries }
         ensures lawful { IsLawful self.now.key.setting (lists_of self.now.entries) }
         ensures trims { IsTrimmed self.now.key (lists_of self.now.entries) }
+        ensures bounded { IsBounded (lists_of self.now.entries) }
     {
         &self.record
     }

@@ -1,6 +1,7 @@
-use Rattle.std.proofs.Common.{[], sym, ap, subst, ◌∙◌, arith}
+use Rattle.std.proofs.Common.{[], sym, ap, subst, ◌∙◌, arith, ◌≤◌}
 use Rattle.atomic_table.specs.Table as table
 use Rattle.gl_model.specs.Lists.{lists_of}
+use Rattle.gl_segments.specs.declared.TheConstants.{LEAST_CELLS}
 use Rattle.gl_rule.specs.declared.slot.Slot.{Slot}
 use Rattle.gl_rule.specs.View.{View}
 use Rattle.gl_rule.proofs.Seats.{enters}
@@ -35,6 +36,15 @@ of-requires-clause-trims c =
     let all = subst (λ (v : TableView). AreAllDone v.id c.args.passes.items) (sym c.self.view_is) c.requires.all in
     (closed_record (key_of c.self.inside.layout) _ c.args.passes.items _ _ c.record-record.result all c.gather.ensures.root told
     (c.record-record.ensures ∙ c.gather.ensures.lists) c.keeps.ensures).1
+
+pub of-requires-clause-bounded : goal.of-requires-clause-bounded
+of-requires-clause-bounded c =
+    let told = subst (λ (k : Layout). ClosedTold (key_of k) c.gather.new.root.me.0 c.load_last.new.seat.me) c.self.invariant.key
+    c.load_last.ensures.closed in
+    let all = subst (λ (v : TableView). AreAllDone v.id c.args.passes.items) (sym c.self.view_is) c.requires.all in
+    let cells : LEAST_CELLS ≤ c.self.inside.layout.ring.cells = c.self.invariant.ring.some_cells in
+    (closed_record (key_of c.self.inside.layout) _ c.args.passes.items _ _ c.record-record.result all c.gather.ensures.root told
+    (c.record-record.ensures ∙ c.gather.ensures.lists) c.keeps.ensures).3 (omega arith)
 
 pub returns-clause-lists : goal.returns-clause-lists
 returns-clause-lists c =
