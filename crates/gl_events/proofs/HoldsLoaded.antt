@@ -119,7 +119,8 @@ settled z p q r least n low l is to = record {
   answer = is;
   own = ap (λ (x : PassView). x.own) to ∙ own_lowered q n (least / z.key.cells)
       ∙ ap (λ (x : PassView). record x.own { mine = x.own.mine ++ trims n (least / z.key.cells) }) l.is;
-  reads = ap (λ (x : PassView). x.reads) to ∙ ap (λ m. q.reads ++ Hold 0 m ∷ []) (sym is);
+  reads = ap (λ (x : PassView). x.reads) to ∙ ap (λ m. (q.reads ++ Hold 0 n ∷ []) ++ Hold 0 m ∷ []) (sym is)
+      ∙ append_assoc q.reads (Hold 0 n ∷ []) (Hold 0 low ∷ []);
   seen = ap (λ (x : PassView). x.seen) to ∙ ap (λ (x : PassView). x.seen) l.is;
   known = ap (λ (x : PassView). x.known) to ∙ ap (λ (x : PassView). x.known) l.is;
   quiet = ap (λ (x : PassView). x.quiet) to ∙ ap (λ (x : PassView). x.quiet) l.is;

@@ -31,7 +31,7 @@ pub record AreLoaded (k : ℕ) (p q : PassView) (least : ℕ) : Type 0 where
 abbrev pub trims : ℕ → ℕ → List Entry
 trims before to = if nat_lt before to then Trim to ∷ [] else []
 
--- the holds of all variables were loaded, and the first segment, which was found as `before`, is at least that of the least
+-- the holds of all variables were loaded, and the first segment, which was read as `before`, is at least that of the least
 pub record IsSettled (z : TableView) (p q : PassView) (low : ℕ) : Type 0 where
   pub loaded : PassView
   pub least : ℕ
@@ -39,7 +39,7 @@ pub record IsSettled (z : TableView) (p q : PassView) (low : ℕ) : Type 0 where
   pub before : ℕ
   pub answer : low ≡ max before (least / z.key.cells)
   pub own : q.own ≡ record p.own { mine = p.own.mine ++ trims before (least / z.key.cells) }
-  pub reads : q.reads ≡ loaded.reads ++ Hold 0 low ∷ []
+  pub reads : q.reads ≡ loaded.reads ++ (Hold 0 before ∷ Hold 0 low ∷ [])
   pub seen : q.seen ≡ p.seen
   pub known : q.known ≡ p.known
   pub quiet : q.quiet ≡ p.quiet

@@ -1,12 +1,12 @@
 -- A sweep: what the tries of rows and the raise of the first segment say together.
 use Rattle.std.proofs.Common.{◌≡◌, ℕ, suc, ◌+◌, ◌-◌, ◌*◌, ◌/◌, ◌<◌, ◌≤◌, max, List, [], ◌∷◌, ◌++◌, Ok, Err, refl, sym, ap, subst, arith, ◌∙◌, inl, inr, true, false, Bool, append_assoc, append-nil, lit<}
 use borrow.Author.Tests.{ltb-true}
-use Rattle.std.specs.Prelude.{◌⊎◌, Contains, Result, IfOk, IfErr, nat_lt, if◌then◌else◌}
+use Rattle.std.specs.Prelude.{◌≢◌, ◌⊎◌, Contains, Result, IfOk, IfErr, nat_lt, if◌then◌else◌}
+use Rattle.std.proofs.lemmas.Bool.{ltb-false, le-ltb}
 use Rattle.std.proofs.lemmas.List.Elements.{Contains-append_left, Contains-append_right}
 use Rattle.std.proofs.Math.Nat.{le-div_iff_mul-le, le-max_right}
 use native.Mathlib.Decide.{ℕ_discrete}
-use Rattle.gl_events.specs.Settling.{MaySettle, IsSettled, IsOpen}
-use Rattle.gl_events.specs.Settling as settling
+use Rattle.gl_events.specs.Settling.{MaySettle, IsSettled, IsOpen, trims}
 use Rattle.gl_model.specs.declared.limits.TheConstants.{VARIABLES}
 use Rattle.gl_model.specs.Entries.{Trim}
 use Rattle.gl_rule.specs.declared.slot.Slot.TheVariants as slot
@@ -19,13 +19,17 @@ use Rattle.gl_rows.specs.Sweeping.{IsFar, IsStill, IsTried, AreTried, IsSwept}
 use Rattle.gl_rows.specs.Walks.{ReadBusy}
 
 -- more reads say no less
-far_left : (x to : ℕ) (a b : List Read) → IsFar x to a → IsFar x to (a ++ b)
-far_left x to a b (inl (m, has, le)) = inl (m, Contains-append_left a b (Hold (suc x) m) has, le)
-far_left x to a b (inr (by, has)) = inr (by, Contains-append_left a b (Busy (suc x) by) has)
+far_left : (t x to : ℕ) (a b : List Read) → IsFar t x to a → IsFar t x to (a ++ b)
+far_left t x to a b (inl (m, has, le)) = inl (m, Contains-append_left a b (Hold (suc x) m) has, le)
+far_left t x to a b (inr (by, has, other)) = inr (by, Contains-append_left a b (Busy (suc x) by) has, other)
 
-far_right : (x to : ℕ) (a b : List Read) → IsFar x to b → IsFar x to (a ++ b)
-far_right x to a b (inl (m, has, le)) = inl (m, Contains-append_right a b (Hold (suc x) m) has, le)
-far_right x to a b (inr (by, has)) = inr (by, Contains-append_right a b (Busy (suc x) by) has)
+far_right : (t x to : ℕ) (a b : List Read) → IsFar t x to b → IsFar t x to (a ++ b)
+far_right t x to a b (inl (m, has, le)) = inl (m, Contains-append_right a b (Hold (suc x) m) has, le)
+far_right t x to a b (inr (by, has, other)) = inr (by, Contains-append_right a b (Busy (suc x) by) has, other)
+
+-- what was read by a pass, whose number is as it was
+far_of : (x to : ℕ) (p q : PassView) (a : List Read) → q.own ≡ p.own → IsFar q.own.id x to a → IsFar p.own.id x to a
+far_of x to p q a same far = subst (λ (o : Own). IsFar o.id x to a) same far
 
 still_trans : (p q r : PassView) → IsStill p q → IsStill q r → IsStill p r
 still_trans p q r a b = record {
@@ -55,10 +59,11 @@ tried_far x to n p q is le = record {
   far = inl (n, subst (λ h. Contains (h ∷ []) (Hold (suc x) n)) (sym (at_once x n)) (0, omega arith, refl), le);
 }
 
-holds_far : (x to hold : ℕ) (row : _) (holds : List Read) → LoadedHolds x to hold holds → IsFar x to (Taken (suc x) (slot.Row row) ∷ holds)
-holds_far x to hold row holds (inl (le, is)) =
+holds_far : (t x to hold : ℕ) (row : _) (holds : List Read) → LoadedHolds x to hold holds
+    → IsFar t x to (Taken (suc x) (slot.Row row) ∷ holds)
+holds_far t x to hold row holds (inl (le, is)) =
     inl (hold, subst (λ hs. Contains (Taken (suc x) (slot.Row row) ∷ hs) (Hold (suc x) hold)) (sym is) (1, omega arith, refl), le)
-holds_far x to hold row holds (inr (before, below, same, is)) =
+holds_far t x to hold row holds (inr (before, below, same, is)) =
     inl (
       hold,
       subst (λ hs. Contains (Taken (suc x) (slot.Row row) ∷ hs) (Hold (suc x) hold)) (sym is) (2, omega arith, refl),
@@ -75,14 +80,16 @@ tried_by x to n p q r (Ok hold) is done busy still =
       further = (Hold (x + 1) n ∷ []) ++ (Taken (suc x) (slot.Row h.row) ∷ h.holds);
       reads = h.reads ∙ ap (λ (z : PassView). z.reads ++ Taken (suc x) (slot.Row h.row) ∷ h.holds) is
           ∙ append_assoc p.reads (Hold (x + 1) n ∷ []) (Taken (suc x) (slot.Row h.row) ∷ h.holds);
-      far = far_right x to (Hold (x + 1) n ∷ []) (Taken (suc x) (slot.Row h.row) ∷ h.holds) (holds_far x to hold h.row h.holds h.loaded);
+      far = far_right p.own.id x to (Hold (x + 1) n ∷ []) (Taken (suc x) (slot.Row h.row) ∷ h.holds)
+          (holds_far p.own.id x to hold h.row h.holds h.loaded);
     }
 tried_by x to n p q r (Err b) is done busy still = record {
   still = still_trans p q r (still_saw p q (Hold (x + 1) n) is) still;
   further = (Hold (x + 1) n ∷ []) ++ Busy (suc x) b.by ∷ [];
   reads = busy.reads ∙ ap (λ (z : PassView). z.reads ++ Busy (suc x) b.by ∷ []) is
       ∙ append_assoc p.reads (Hold (x + 1) n ∷ []) (Busy (suc x) b.by ∷ []);
-  far = far_right x to (Hold (x + 1) n ∷ []) (Busy (suc x) b.by ∷ []) (inr (b.by, (0, omega arith, refl)));
+  far = far_right p.own.id x to (Hold (x + 1) n ∷ []) (Busy (suc x) b.by ∷ [])
+      (inr (b.by, (0, omega arith, refl), subst (λ (z : PassView). b.by ≢ z.own.id) is busy.other));
 }
 
 -- no row yet
@@ -96,8 +103,9 @@ tried_next k to p q r a t = record {
   further = a.further ++ t.further;
   reads = t.reads ∙ ap (λ (l : List Read). l ++ t.further) a.reads ∙ append_assoc p.reads a.further t.further;
   far = λ x near. elim (ℕ_discrete x k) [
-    | yes e ↦ subst (λ y. IsFar y to (a.further ++ t.further)) (sym e) (far_right k to a.further t.further t.far)
-    | no ne ↦ far_left x to a.further t.further (a.far x (omega arith))
+    | yes e ↦ subst (λ y. IsFar p.own.id y to (a.further ++ t.further)) (sym e)
+        (far_right p.own.id k to a.further t.further (far_of k to p q t.further a.still.own t.far))
+    | no ne ↦ far_left p.own.id x to a.further t.further (a.far x (omega arith))
   ];
 }
 
@@ -120,14 +128,16 @@ may_settle z p q r may own spare still =
       goes_on = subst (λ (o : Own). IsOpen o.mine) (sym all) may.goes_on;
     }
 
-one_trim : (before to low : ℕ) → low ≡ max before to → (settling.trims before to ≡ []) ⊎ (settling.trims before to ≡ Trim low ∷ [])
-one_trim before to low is = by (nat_lt before to) refl
+-- a Trim of the segment that was asked for, where it lies above the first one, is one of what that became, where it rose
+same_trims : (before to low : ℕ) → low ≡ max before to → trims before to ≡ trims before low
+same_trims before to low is = by (nat_lt before to) refl
   where
-    by : (b : Bool) → nat_lt before to ≡ b → ((if nat_lt before to then Trim to ∷ [] else []) ≡ [])
-        ⊎ ((if nat_lt before to then Trim to ∷ [] else []) ≡ Trim low ∷ [])
-    by true e = inr (ap (λ c. if c then Trim to ∷ [] else []) e
-        ∙ ap (λ n. Trim n ∷ []) (let same : to ≡ low = (let b = ltb-true before to e in omega arith) in same))
-    by false e = inl (ap (λ c. if c then Trim to ∷ [] else []) e)
+    by : (b : Bool) → nat_lt before to ≡ b → trims before to ≡ trims before low
+    by true e = ap (trims before) (let same : to ≡ low = (let b = ltb-true before to e in omega arith) in same)
+    by false e =
+        let le : to ≤ before = ltb-false before to e in
+        let below : low ≤ before = omega arith in
+        ap (λ b. if b then Trim to ∷ [] else []) e ∙ sym (ap (λ b. if b then Trim low ∷ [] else []) (le-ltb before low below))
 
 -- the whole
 pub swept : (z : TableView) (p q r s : PassView) (tail to low : ℕ) → 0 < z.key.cells → q ≡ after p (saw_tail (view_of p) tail)
@@ -140,26 +150,26 @@ swept z p q r s tail to low some is later own to_is tried settles =
     let answer = settles.answer in
     let up : settles.least / z.key.cells ≤ low =
     subst (λ n. settles.least / z.key.cells ≤ n) (sym answer) (le-max_right settles.before (settles.least / z.key.cells)) in
-    let end = tried.further ++ (l.further ++ Hold 0 low ∷ []) in
+    let last : List Read = Hold 0 settles.before ∷ Hold 0 low ∷ [] in
+    let end = tried.further ++ (l.further ++ last) in
     record {
-      trims = settling.trims settles.before (settles.least / z.key.cells);
-      one = one_trim settles.before (settles.least / z.key.cells) low answer;
-      own = settles.own ∙ ap (λ (x : Own). record x { mine = x.mine ++ settling.trims settles.before (settles.least / z.key.cells) })
-          (tried.still.own ∙ own);
+      before = settles.before;
+      own = settles.own ∙ ap (λ (x : Own). record x { mine = x.mine ++ trims settles.before (settles.least / z.key.cells) })
+          (tried.still.own ∙ own)
+          ∙ ap (λ l. record p.own { mine = p.own.mine ++ l }) (same_trims settles.before (settles.least / z.key.cells) low answer);
       tries = tried.further;
       holds = l.further;
-      reads = settles.reads ∙ ap (λ (x : PassView). x.reads ++ Hold 0 low ∷ []) l.is ∙ append_assoc r.reads l.further (Hold 0 low ∷ [])
-          ∙ ap (λ (x : List Read). x ++ (l.further ++ Hold 0 low ∷ [])) tried.reads
-          ∙ append_assoc q.reads tried.further (l.further ++ Hold 0 low ∷ []) ∙ ap (λ (x : List Read). x ++ end) reads_q;
+      reads = settles.reads ∙ ap (λ (x : PassView). x.reads ++ last) l.is ∙ append_assoc r.reads l.further last
+          ∙ ap (λ (x : List Read). x ++ (l.further ++ last)) tried.reads
+          ∙ append_assoc q.reads tried.further (l.further ++ last) ∙ ap (λ (x : List Read). x ++ end) reads_q;
       tail = tail;
       later = (later, (let a = tried.still.later in let b = settles.seen in let c = ap (λ (x : PassView). x.seen) is in omega arith));
-      far = λ x near. subst (λ n. IsFar x n tried.further) to_is (tried.far x near);
+      far = λ x near. subst (λ n. IsFar p.own.id x n tried.further) to_is (far_of x to p q tried.further own (tried.far x near));
       least = settles.least;
       each = l.each;
       is_one = o;
-      before = settles.before;
       low_is = answer;
-      reaches = elim (tried.far o.0 o.1) [
+      reaches = elim (far_of o.0 to p q tried.further own (tried.far o.0 o.1)) [
         | inl (m, has, far) ↦ inl (
             let old = subst (λ (x : List Read). Contains x (Hold (suc o.0) m)) (sym tried.reads)
             (Contains-append_right q.reads tried.further (Hold (suc o.0) m) has) in
@@ -169,13 +179,14 @@ swept z p q r s tail to low some is later own to_is tried settles =
             (le-div_iff_mul-le {k = z.key.cells} {x = tail / z.key.cells} {y = settles.least} some).1
             (subst (λ n. n ≤ settles.least) to_is le) in
             omega arith)
-        | inr (by, has) ↦ inr (
+        | inr (by, has, other) ↦ inr (
           o.0,
           by,
           settles.least,
-          Contains-append_left tried.further (l.further ++ Hold 0 low ∷ []) (Busy (suc o.0) by) has,
-          Contains-append_right tried.further (l.further ++ Hold 0 low ∷ []) (Hold (suc o.0) settles.least)
-              (Contains-append_left l.further (Hold 0 low ∷ []) (Hold (suc o.0) settles.least) o.2),
+          Contains-append_left tried.further (l.further ++ last) (Busy (suc o.0) by) has,
+          other,
+          Contains-append_right tried.further (l.further ++ last) (Hold (suc o.0) settles.least)
+              (Contains-append_left l.further last (Hold (suc o.0) settles.least) o.2),
           up,
         )
       ];

@@ -1,5 +1,5 @@
 -- A pass that loads events.
-use Rattle.std.specs.Prelude.{◌≡◌, ◌⊎◌, ℕ, suc, ◌+◌, ◌<◌, List, [], ◌∷◌, ◌++◌, length, Contains}
+use Rattle.std.specs.Prelude.{◌≡◌, ◌≢◌, ◌⊎◌, ℕ, suc, ◌+◌, ◌<◌, List, [], ◌∷◌, ◌++◌, length, Contains}
 use Rattle.gl_model.specs.declared.event.Stamp.{Stamp}
 use Rattle.gl_model.specs.declared.row.Info.{Info}
 use Rattle.gl_model.specs.declared.row.Row.{Row}
@@ -34,9 +34,10 @@ pub record HasWalkedTo (row : Row) (to : ℕ) (p q : PassView) : Type 0 where
 abbrev pub HasWalked : Row → PassView → PassView → Type 0
 HasWalked row p q = HasWalkedTo row p.seen p q
 
--- the pass read the turn of x's row as held by this one, and did nothing else
+-- the pass read the turn of x's row as held by this one, which is another, and did nothing else
 pub record ReadBusy (x by : ℕ) (p q : PassView) : Type 0 where
   pub near : by < 16
+  pub other : by ≢ p.own.id
   pub reads : q.reads ≡ p.reads ++ Busy (suc x) by ∷ []
   pub own : q.own ≡ p.own
   pub spare : q.spare ≡ p.spare
