@@ -38,7 +38,7 @@ allows_begun setting = (pos 0, first_state setting, record { may = refl; effect 
 -- an event of that list is the one at position 0
 at_begun : (setting : Setting) (p : ℕ) (s : Stamp) → EventAt (begun setting) p s
     → (p ≡ 0) × (s ≡ record { thread = 0; event = Does (Begin setting.main) })
-at_begun setting zero s e = (refl, (let same : record { thread = 0; event = Does (Begin setting.main) } ≡ s = cc in same))
+at_begun setting zero s e = (refl, (let same : record { thread = 0; event = Does (Begin setting.main) } ≡ s = cc in sym same))
 at_begun setting (suc p) s e = absurd (cc)
 
 -- a pass of another thread that has made no event cannot tell the list from the table's
@@ -88,7 +88,7 @@ write_stands setting row w = record {
   };
   thread = w.thread;
   write_mark = w.write;
-  commit_mark = rw w.commit ((λ n. absurd n), (λ n. absurd n));
+  commit_mark = rw w.commit ((λ n. n), (λ n. n));
   owner = first_state setting;
   before = allows_begun setting;
   held = rw w.held (owned_by_none setting);
@@ -119,15 +119,15 @@ thread_is t e = cc
 
 fails_at : (setting : Setting) (t : ℕ) (xs : List ℕ) (i : Info) → t ≢ 0 → i.pos ≡ 1
     → ((y : Element) → Has i.set y ↔ (y ≡ Thread 0)) → Fails (begun setting) i t (Some xs)
-fails_at setting t xs i other pos set ordered = elim at_one [
+fails_at setting t xs i other stands set ordered = elim at_one [
   | inl tx ↦ tx_is_no_thread ((set Tx).0 tx)
   | inr (inl own) ↦ other (thread_is t ((set (Thread t)).0 own))
   | inr (inr acquired) ↦ (let v = acquired.1.1.0 in var_is_no_thread v
-      (sym acquired.1.1.1.1 ∙ (set acquired.1.0).0 acquired.1.2))
+      (sym acquired.1.1.2 ∙ (set acquired.1.0).0 acquired.1.2))
 ]
   where
     at_one : IsOrderedOrExcepted (Has i.set) t (Some xs)
-    at_one = subst (λ n. IsOrderedOrExcepted (Rattle.gl_model.specs.Locksets.AfterAll (Has i.set) (drop n (begun setting))) t (Some xs)) pos
+    at_one = subst (λ n. IsOrderedOrExcepted (Rattle.gl_model.specs.Locksets.AfterAll (Has i.set) (drop n (begun setting))) t (Some xs)) stands
         ordered
 
 of_one : (r u : TakenRow) → Contains (r ∷ []) u → r ≡ u
