@@ -18,3 +18,5 @@ pub mod Stages
 pub mod Ready
 pub mod Causes
 pub mod NewLooks
+pub mod Apart
+pub mod GoingOn

@@ -294,8 +294,8 @@ module _ (p q r : PassView) (rows : List TakenRow) (tx : Tx) (h : HoldsRows p ro
       (fits_before setting (shelf_of p) r.seen r.known more l (subst (λ ks. IsFitting setting (shelf_of p) r.seen ks l) e fits))) stand
 
   pub is_clear_by : AreClear r base tx.writes rows → (setting : Setting) (s : PassView) (more : List (ℕ × Stamp)) → s.known ≡ r.known
-      ++ more → r.seen ≤ s.seen → IsClear setting (attempt_in tx) (shelf_of p) p.seen rows s
-  is_clear_by clear setting s more known within = record {
+      ++ more → (most : ℕ) → r.seen ≤ most → IsClear setting (attempt_in tx) (shelf_of p) p.seen most rows s
+  is_clear_by clear setting s more known most within = record {
     unchanged = unchanged_all tx rows looks unchanged;
     upto = r.seen;
     later = (let e = seen_j in omega arith);
@@ -311,7 +311,7 @@ module _ (p q r : PassView) (rows : List TakenRow) (tx : Tx) (h : HoldsRows p ro
   pub done_cause : (z : TableView) → AreClear r base tx.writes rows → (e : TxEnd) (s : PassView) → ReachedEnd z e r s
       → IsCauseBy z (attempt_in tx) e (shelf_of p) p.seen p.reads rows s
   done_cause z clear (end.Done at) s d = record {
-    clear = is_clear_by clear z.key.setting s d.more d.known (let a = d.later in let b = d.here in let c = d.seen in omega arith);
+    clear = is_clear_by clear z.key.setting s d.more d.known at (let a = d.later in let b = d.here in omega arith);
     list = d.list;
     low = d.low;
     tail = d.tail;
@@ -327,11 +327,11 @@ module _ (p q r : PassView) (rows : List TakenRow) (tx : Tx) (h : HoldsRows p ro
       → IsWaitBy z (attempt_in tx) w (shelf_of p) p.seen p.reads rows s
   wait_cause z clear (wait.Busy by) s d = record {
     near = d.near;
-    clear = is_clear_by clear z.key.setting s [] (d.known ∙ sym (append-nil r.known)) (let c = d.seen in omega arith);
+    clear = is_clear_by clear z.key.setting s [] (d.known ∙ sym (append-nil r.known)) s.seen (let c = d.seen in omega arith);
     reads = d.reads ∙ ap (λ (l : List Read). l ++ Busy 0 by ∷ []) reads_j;
   }
   wait_cause z clear (wait.RingFull low tail) s d = record {
-    clear = is_clear_by clear z.key.setting s [] (d.known ∙ sym (append-nil r.known)) (let a = d.later in let c = d.seen in omega arith);
+    clear = is_clear_by clear z.key.setting s [] (d.known ∙ sym (append-nil r.known)) s.seen (let a = d.later in let c = d.seen in omega arith);
     list = d.list;
     reads = d.reads ∙ ap (λ (l : List Read). l ++ (Taken 0 (slot.List d.list) ∷ Hold 0 low ∷ [])) reads_j;
     seen = d.seen;
@@ -347,6 +347,7 @@ module _ (p q r : PassView) (rows : List TakenRow) (tx : Tx) (h : HoldsRows p ro
         reads = ap (λ (u : PassView). u.reads) d.is ∙ reads_j;
         unchanged = unchanged_all tx rows looks unchanged;
         later = (let e = seen_j in omega arith);
+        reaches = λ u c. subst (IsWithin u.row) (sym (same_seen ∙ seen_j)) (rows_within p rows tx h n reaches u c);
         row = f.row;
         of = in_at rows f.place f.row f.there;
         here = sym f.var;

@@ -70,26 +70,29 @@ OverEach setting s n known rows P = (l : List Stamp) → IsFitting setting s n k
 abbrev pub RacesAt : ℕ → Attempting → List Stamp → TakenRow → Type 0
 RacesAt t a l r = SomeFails l r.row (asked t a r.var)
 
--- no word was changed, and the commit completes no race, judged up to a tail that was loaded after the rows were taken: s is the pass's list before, and
--- from what it had seen then
-pub record IsClear (setting : Setting) (a : Attempting) (s : Shelf) (from : ℕ) (rows : List TakenRow) (q : PassView) : Type 0 where
+-- each Info of the rows stands at this tail or before
+abbrev pub AreWithin : List TakenRow → ℕ → Type 0
+AreWithin rows tail = (r : TakenRow) → Contains rows r → IsWithin r.row tail
+
+-- no word was changed, and the commit completes no race, judged up to a tail that is at most most and was loaded after the rows were taken: s is the
+-- pass's list before, and from what it had seen then
+pub record IsClear (setting : Setting) (a : Attempting) (s : Shelf) (from most : ℕ) (rows : List TakenRow) (q : PassView) : Type 0 where
   pub unchanged : AreUnchanged a rows
   pub upto : ℕ
   pub later : from ≤ upto
-  pub within : upto ≤ q.seen
-  -- each Info of the rows stands at that tail or before
-  pub reaches : (r : TakenRow) → Contains rows r → IsWithin r.row upto
+  pub within : upto ≤ most
+  pub reaches : AreWithin rows upto
   pub unraced : OverEach setting s upto q.known rows (λ l. (r : TakenRow) → Contains rows r → RacesAt s.thread a l r → ⊥)
 
 -- there is room for an event at this tail, where the ring begins with the segment low
 abbrev pub HasRoomAt : TableView → ℕ → ℕ → Type 0
 HasRoomAt z low tail = tail < low * z.key.cells + capacity z.key
 
--- why the attempt was committed: nothing speaks against it, and the list was free and had room. It stands at the tail that was loaded then. What was
--- read before is what its rows' turns gave
+-- why the attempt was committed: nothing speaks against it, up to a tail at or before its own position, and the list was free and had room. It stands
+-- at the tail that was loaded then. What was read before is what its rows' turns gave
 pub record WasDone (z : TableView) (a : Attempting) (at : ℕ) (s : Shelf) (from : ℕ) (before : List Read) (rows : List TakenRow)
     (q : PassView) : Type 0 where
-  pub clear : IsClear z.key.setting a s from rows q
+  pub clear : IsClear z.key.setting a s from at rows q
   pub list : ListView
   pub low : ℕ
   pub tail : ℕ
@@ -112,12 +115,14 @@ pub record WasChanged (a : Attempting) (var : ℕ) (read found : ℤ) (before : 
   pub other : read ≢ found
   pub least : AreUnchangedBelow var a rows
 
--- why it was dropped as racy: no word was changed, and at the least such variable the commit completes a race
+-- why it was dropped as racy: no word was changed, and at the least such variable the commit completes a race, judged up to a tail that was loaded
+-- after the rows were taken
 pub record WasRaised (setting : Setting) (a : Attempting) (var : ℕ) (s : Shelf) (from : ℕ) (before : List Read) (rows : List TakenRow)
     (q : PassView) : Type 0 where
   pub reads : q.reads ≡ before
   pub unchanged : AreUnchanged a rows
   pub later : from ≤ q.seen
+  pub reaches : AreWithin rows q.seen
   pub row : TakenRow
   pub of : Contains rows row
   pub here : row.var ≡ var
@@ -138,13 +143,13 @@ IsCause z a e p q = (rows : List TakenRow) × (vars_of rows ≡ variables_in a.l
 pub record ListWasBusy (z : TableView) (a : Attempting) (by : ℕ) (s : Shelf) (from : ℕ) (before : List Read) (rows : List TakenRow)
     (q : PassView) : Type 0 where
   pub near : by < THREADS
-  pub clear : IsClear z.key.setting a s from rows q
+  pub clear : IsClear z.key.setting a s from q.seen rows q
   pub reads : q.reads ≡ before ++ Busy 0 by ∷ []
 
 -- nothing speaks against the commit, and the list had no room
 pub record RingWasFull (z : TableView) (a : Attempting) (low tail : ℕ) (s : Shelf) (from : ℕ) (before : List Read) (rows : List TakenRow)
     (q : PassView) : Type 0 where
-  pub clear : IsClear z.key.setting a s from rows q
+  pub clear : IsClear z.key.setting a s from q.seen rows q
   pub list : ListView
   pub reads : q.reads ≡ before ++ (Taken 0 (slot.List list) ∷ Hold 0 low ∷ [])
   pub seen : q.seen ≡ tail

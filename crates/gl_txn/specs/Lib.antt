@@ -11,3 +11,4 @@ pub mod Noting
 pub mod Publishing
 pub mod Stages
 pub mod Holding
+pub mod Laws

@@ -6,12 +6,16 @@ mod attempt;
 mod changing;
 mod dropping;
 mod ending;
+mod laws;
 mod looking;
 mod noting;
 mod publishing;
 mod racing;
 mod stops;
 mod taken;
+#[cfg(test)]
+mod tests;
 
 pub use attempt::Txn;
+pub use laws::causes_tell_the_ends_apart;
 pub use stops::{TxEnd, TxStop, TxWait};
