@@ -49,10 +49,15 @@ done
 ./goldi check </ >"$work/out"
 same "a folder as input: status" 2 $?
 same "a folder as input: output" "" "$(cat "$work/out")"
+./goldi run </ >"$work/out"
+same "a folder as the program: status" 2 $?
+same "a folder as the program: output" "" "$(cat "$work/out")"
 ./goldi check <&- >"$work/out"
 same "no input: status" 2 $?
 ./goldi check <examples/ordered_fork.trace >/dev/full
 same "a full device: status" 3 $?
+./goldi run <examples/exceptions.program >/dev/full
+same "a run to a full device: status" 3 $?
 ./goldi >/dev/full
 same "usage to a full device: status" 3 $?
 ./goldi check <examples/ordered_fork.trace >&-

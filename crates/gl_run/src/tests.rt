@@ -9,7 +9,7 @@ use std::test::Fail;
 use std::thread::Threads;
 
 // The words of a command line.
-fn words(alloc: Global, given: &[&str]) -> Result<Vec<String>, Fail> {
+pub(crate) fn words(alloc: Global, given: &[&str]) -> Result<Vec<String>, Fail> {
     let mut words = Vec::new(alloc);
     for word in given {
         words.push(String::from_str(alloc, word)?)?;
