@@ -25,7 +25,7 @@ use Rattle.gl_journal.specs.Fields.{Word, choice_in}
 use Rattle.gl_journal.specs.Forms.{count_of, form_of, operands_of}
 use Rattle.gl_journal.specs.Rows.{entry_row, tx_words}
 use Rattle.gl_journal.specs.SyncKinds.{act_of, arg_of, kind_in, kind_of, most_of, word_of}
-use Rattle.gl_journal.specs.Written.{IsActTyped, IsEntryStamped, IsEntryTyped, IsTxStamped, IsTxTyped, IsValue}
+use Rattle.gl_journal.specs.Written.{IsActTyped, IsEntryStamped, IsEntryTyped, IsTxStamped, IsTxTyped, IsValue, NamesFew, TxNamesFew}
 use Rattle.gl_journal.proofs.BackLists.{tx_are_words, tx_back}
 use Rattle.gl_journal.proofs.WrittenLines.{AreWords, IsWord, IsWordByte}
 use Rattle.gl_journal.proofs.WrittenNumbers.{natural_back, numeral_decimal, numeral_is_word, numeral_signed, value_back_in}
@@ -155,10 +155,10 @@ sync_back at a value low range small is =
     (rw (natural_back (most_of (kind_of a)) (arg_of a) arg (omega (arith, most_small (kind_of a))))
     (rw (value_back_in value is) (ap (λ b. Ok (Sync at b value)) (act_back a range)))))
 
-commit_back : (at : ℕ) (tx : Tx) → at ≤ MOST_STAMP → IsTxKept tx → IsTxTyped tx → IsTxStamped tx → commit_in (decimal at ∷ tx_words tx)
+commit_back : (at : ℕ) (tx : Tx) → at ≤ MOST_STAMP → IsTxKept tx → IsTxTyped tx → IsTxStamped tx → TxNamesFew tx → commit_in (decimal at ∷ tx_words tx)
     ≡ Ok (Commit at tx)
 unfolding commit_in
-commit_back at tx low kept typed few = rw (natural_back MOST_STAMP at low (omega arith)) (rw (tx_back tx kept typed few) refl)
+commit_back at tx low kept typed few named = rw (natural_back MOST_STAMP at low (omega arith)) (rw (tx_back tx kept typed few named) refl)
 
 plain_back : (var nth : ℕ) (cached write : Bool) (value : _) (raised : Bool) → var < VARIABLES → nth ≤ MOST_STAMP → IsValue value
     → plain_in (decimal var ∷ decimal nth ∷ (if write then codes "wr" else codes "rd") ∷ signed_decimal value
@@ -174,18 +174,18 @@ plain_back var nth cached write value raised low few is =
     (rw (choice_back raised (codes "ok") (codes "race") refl refl) refl)))))
 
 changed_back : (tx : Tx) (var : ℕ) (read found : _) → var < VARIABLES → IsValue read → IsValue found → IsTxKept tx → IsTxTyped tx
-    → IsTxStamped tx
+    → IsTxStamped tx → TxNamesFew tx
     → changed_in (decimal var ∷ signed_decimal read ∷ signed_decimal found ∷ tx_words tx) ≡ Ok (Abort tx (Changed var read found))
 unfolding changed_in
-changed_back tx var read found low old new kept typed few =
+changed_back tx var read found low old new kept typed few named =
     rw (natural_back (VARIABLES - 1) var (omega arith) (omega arith))
-    (rw (value_back_in read old) (rw (value_back_in found new) (rw (tx_back tx kept typed few) refl)))
+    (rw (value_back_in read old) (rw (value_back_in found new) (rw (tx_back tx kept typed few named) refl)))
 
-raised_back : (tx : Tx) (var : ℕ) → var < VARIABLES → IsTxKept tx → IsTxTyped tx → IsTxStamped tx → raised_in (decimal var ∷ tx_words tx)
+raised_back : (tx : Tx) (var : ℕ) → var < VARIABLES → IsTxKept tx → IsTxTyped tx → IsTxStamped tx → TxNamesFew tx → raised_in (decimal var ∷ tx_words tx)
     ≡ Ok (Abort tx (Raised var))
 unfolding raised_in
-raised_back tx var low kept typed few = rw (natural_back (VARIABLES - 1) var (omega arith) (omega arith))
-    (rw (tx_back tx kept typed few) refl)
+raised_back tx var low kept typed few named = rw (natural_back (VARIABLES - 1) var (omega arith) (omega arith))
+    (rw (tx_back tx kept typed few named) refl)
 
 trim_back : (low : ℕ) → low ≤ MOST_STAMP → trim_in (decimal low ∷ []) ≡ Ok (Trim low)
 unfolding trim_in
@@ -241,17 +241,17 @@ some_words (Over Halt) = omega arith
 some_words (Over Spent) = omega arith
 some_words (Over (Uncaught code)) = omega arith
 
-pub entry_back : (e : Entry) → IsEntryKept e → IsEntryTyped e → IsEntryStamped e
+pub entry_back : (e : Entry) → IsEntryKept e → IsEntryTyped e → IsEntryStamped e → NamesFew e
     → entry_in (form_for e) (operands_of (forms.Entry (form_for e)) (entry_row e)) ≡ Ok e
-entry_back (Sync at act value) kept typed few = sync_back at act value few kept typed.0 typed.1
-entry_back (Commit at tx) kept typed few = commit_back at tx few.0 kept typed few.1
-entry_back (Plain var nth cached write value raised) kept typed few = plain_back var nth cached write value raised kept few typed
-entry_back (Abort tx (Changed var read found)) kept typed few = changed_back tx var read found kept.1 typed.1.0 typed.1.1 kept.0 typed.0 few
-entry_back (Abort tx (Raised var)) kept typed few = raised_back tx var kept.1 kept.0 typed.0 few
-entry_back (Trim low) kept typed few = trim_back low few
-entry_back (Over Halt) kept typed few = refl
-entry_back (Over Spent) kept typed few = refl
-entry_back (Over (Uncaught code)) kept typed few = uncaught_back code typed
+entry_back (Sync at act value) kept typed few named = sync_back at act value few kept typed.0 typed.1
+entry_back (Commit at tx) kept typed few named = commit_back at tx few.0 kept typed few.1 named
+entry_back (Plain var nth cached write value raised) kept typed few named = plain_back var nth cached write value raised kept few typed
+entry_back (Abort tx (Changed var read found)) kept typed few named = changed_back tx var read found kept.1 typed.1.0 typed.1.1 kept.0 typed.0 few named
+entry_back (Abort tx (Raised var)) kept typed few named = raised_back tx var kept.1 kept.0 typed.0 few named
+entry_back (Trim low) kept typed few named = trim_back low few
+entry_back (Over Halt) kept typed few named = refl
+entry_back (Over Spent) kept typed few named = refl
+entry_back (Over (Uncaught code)) kept typed few named = uncaught_back code typed
 
 signed_word : (z : _) → IsValue z → IsWord (signed_decimal z)
 signed_word z is = numeral_is_word (signed_decimal z) (numeral_signed z is)

@@ -1,5 +1,5 @@
 -- The lists of a transaction that are written and read back.
-use Rattle.std.proofs.Common.{◌≡◌, ◌≢◌, ◌+◌, ◌-◌, ◌<◌, ◌≤◌, ◌^◌, ◌==◌, ◌&&◌, ℕ, pos, List, [], ◌∷◌, ◌++◌, true, false, Ok, nat_lt, bytes_eq, codes, length, map, refl, ap, sym, ◌∙◌, arith, append-nil, inl, inr, All}
+use Rattle.std.proofs.Common.{◌≡◌, ◌≢◌, ◌+◌, ◌-◌, ◌<◌, ◌≤◌, ◌^◌, ◌==◌, ◌&&◌, ℕ, pos, List, [], ◌∷◌, ◌++◌, true, false, Ok, nat_le, nat_lt, bytes_eq, codes, length, map, refl, ap, sym, ◌∙◌, arith, append-nil, inl, inr, All}
 use Rattle.std.specs.Fmt.{decimal, signed_decimal}
 use Rattle.std.specs.List.{AllByRecursion, flat_map, list_all, slice_split}
 use Rattle.std.proofs.lemmas.Bool.{and_from, cases_Bool, le-leb, lt-ltb, ne_eqb}
@@ -8,7 +8,8 @@ use Rattle.std.proofs.lemmas.List.Elements.{All-from_recursion}
 use Rattle.std.proofs.lemmas.List.Splits.{slice_split_at, slice_split_none}
 use Rattle.std.proofs.lemmas.Slice.Eq.{bytes_eq-Decides}
 use Rattle.gl_model.specs.Kept.{AreVariables, IsTxKept}
-use Rattle.gl_model.specs.Rising.{Rises}
+use Rattle.gl_model.specs.Records.{variables_of}
+use Rattle.gl_model.specs.Rising.{Rises, with_all}
 use Rattle.gl_model.specs.declared.limits.TheConstants.{TX_VARIABLES, VARIABLES}
 use Rattle.gl_model.specs.declared.tx.Look.{Look}
 use Rattle.gl_model.specs.declared.tx.Pair.{Pair}
@@ -22,8 +23,8 @@ use Rattle.gl_journal.specs.declared.parts.TheConstants.{COLON, COMMA}
 use Rattle.gl_journal.specs.Fields.{Word, ◌>>=◌}
 use Rattle.gl_journal.specs.Parts.{is_byte, is_set, list_in, list_pieces, look_in, look_of, number_in, number_of, pair_in, pair_of, part_in, parts_in, rises}
 use Rattle.gl_journal.specs.Rows.{list_word, look_word, number_word, pair_word, tx_words}
-use Rattle.gl_journal.specs.Transactions.{lists_of, tx_in, tx_of}
-use Rattle.gl_journal.specs.Written.{IsTxStamped, IsTxTyped, IsValue}
+use Rattle.gl_journal.specs.Transactions.{lists_of, names_few, tx_in, tx_of, vars_of}
+use Rattle.gl_journal.specs.Written.{IsTxStamped, IsTxTyped, IsValue, TxNamesFew}
 use Rattle.gl_journal.proofs.WrittenLines.{IsWord, IsWordByte, all_append, all_map}
 use Rattle.gl_journal.proofs.WrittenNumbers.{IsNumeral, IsNumeralByte, begins_with_digit, natural_back, numeral_decimal, numeral_is_word, numeral_signed, value_back_in}
 
@@ -281,15 +282,34 @@ record IsTxBack (tx : Tx) : Type 0 where
   looks_set : is_set (map part_of_look tx.looks) ≡ true
   writes_set : is_set (map part_of_pair tx.writes) ≡ true
   numbers_set : is_set (map part_of_number tx.numbers) ≡ true
+  named : names_few (map part_of_look tx.looks) (map part_of_pair tx.writes) ≡ true
 
-is_tx_back : (tx : Tx) → IsTxKept tx → IsTxTyped tx → IsTxStamped tx → IsTxBack tx
-is_tx_back tx kept typed few = record {
+-- the variables of the parts are those of the looks
+look_vars : (ls : List Look) → vars_of (map part_of_look ls) ≡ map (λ l. l.var) ls
+look_vars [] = refl
+look_vars (l ∷ ls) = ap (λ xs. l.var ∷ xs) (look_vars ls)
+
+-- and those of the writes
+pair_vars : (ps : List Pair) → vars_of (map part_of_pair ps) ≡ map (λ w. w.var) ps
+pair_vars [] = refl
+pair_vars (p ∷ ps) = ap (λ xs. p.var ∷ xs) (pair_vars ps)
+
+-- so together they name as many as the transaction does
+names_back : (tx : Tx) → TxNamesFew tx → names_few (map part_of_look tx.looks) (map part_of_pair tx.writes) ≡ true
+names_back tx named =
+    ap (λ xs. nat_le (length (with_all (vars_of (map part_of_pair tx.writes)) xs)) TX_VARIABLES) (look_vars tx.looks)
+    ∙ ap (λ xs. nat_le (length (with_all xs (map (λ l. l.var) tx.looks))) TX_VARIABLES) (pair_vars tx.writes)
+    ∙ le-leb (length (variables_of tx)) TX_VARIABLES named
+
+is_tx_back : (tx : Tx) → IsTxKept tx → IsTxTyped tx → IsTxStamped tx → TxNamesFew tx → IsTxBack tx
+is_tx_back tx kept typed few named = record {
   looks = all_looks tx.looks kept.0.2 typed.0 few.0;
   writes = all_pairs tx.writes kept.1.2 typed.1;
   numbers = all_numbers tx.numbers kept.2.2 few.1;
   looks_set = set_back part_of_look tx.looks kept.0;
   writes_set = set_back part_of_pair tx.writes kept.1;
   numbers_set = set_back part_of_number tx.numbers kept.2;
+  named = names_back tx named;
 }
 
 lists_back : (tx : Tx)
@@ -305,12 +325,12 @@ lists_back tx = refl
 parts_are_tx : (tx : Tx) → IsTxBack tx → tx_of (map part_of_look tx.looks) (map part_of_pair tx.writes) (map part_of_number tx.numbers)
     ≡ Ok tx
 parts_are_tx tx back =
-    rw (back.looks_set, back.writes_set, back.numbers_set) (rw (same_looks tx.looks, same_pairs tx.writes, same_numbers tx.numbers) refl)
+    rw (back.looks_set, back.writes_set, back.numbers_set, back.named) (rw (same_looks tx.looks, same_pairs tx.writes, same_numbers tx.numbers) refl)
 
-pub tx_back : (tx : Tx) → IsTxKept tx → IsTxTyped tx → IsTxStamped tx → tx_in (tx_words tx) ≡ Ok tx
+pub tx_back : (tx : Tx) → IsTxKept tx → IsTxTyped tx → IsTxStamped tx → TxNamesFew tx → tx_in (tx_words tx) ≡ Ok tx
 unfolding tx_in
-tx_back tx kept typed few =
-    let back = is_tx_back tx kept typed few in
+tx_back tx kept typed few named =
+    let back = is_tx_back tx kept typed few named in
     rw (lists_back tx)
     (rw (list_back forms.Look look_word part_of_look tx.looks back.looks)
     (rw (list_back forms.Pair pair_word part_of_pair tx.writes back.writes)
@@ -322,17 +342,19 @@ one_letter b low high = (omega arith, ((omega arith, omega arith, λ e. omega ar
 -- the words of a transaction are words
 pub tx_are_words : (tx : Tx) → IsTxKept tx → IsTxTyped tx → IsTxStamped tx → AllByRecursion IsWord (tx_words tx)
 tx_are_words tx kept typed few =
-    let back = is_tx_back tx kept typed few in (
+    let looks = all_looks tx.looks kept.0.2 typed.0 few.0 in
+    let writes = all_pairs tx.writes kept.1.2 typed.1 in
+    let numbers = all_numbers tx.numbers kept.2.2 few.1 in (
       one_letter 114 (omega arith) (omega arith),
       (
-        word_back forms.Look look_word part_of_look tx.looks back.looks,
+        word_back forms.Look look_word part_of_look tx.looks looks,
         (
           one_letter 119 (omega arith) (omega arith),
           (
-            word_back forms.Pair pair_word part_of_pair tx.writes back.writes,
+            word_back forms.Pair pair_word part_of_pair tx.writes writes,
             (
               one_letter 110 (omega arith) (omega arith),
-              (word_back forms.Number number_word part_of_number tx.numbers back.numbers, tt),
+              (word_back forms.Number number_word part_of_number tx.numbers numbers, tt),
             ),
           ),
         ),

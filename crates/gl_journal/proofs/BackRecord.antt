@@ -19,7 +19,7 @@ use Rattle.gl_journal.specs.Fields.{◌>>=◌, natural_in}
 use Rattle.gl_journal.specs.Forms.{operands_of}
 use Rattle.gl_journal.specs.Meaning.{AreClean, IsRecordText, body_read, fault_of, header_in, is_next, line_read, nothing, or_same, outcome, placed_read, said, with_entry, words_read}
 use Rattle.gl_journal.specs.Rows.{Row, entry_row, entry_rows, header_row, list_rows, record_rows, record_text, thread_row}
-use Rattle.gl_journal.specs.Written.{AllEntries, CanBeSaid, IsEntryStamped, IsEntryTyped}
+use Rattle.gl_journal.specs.Written.{AllEntries, CanBeSaid, IsEntryStamped, IsEntryTyped, NamesFew}
 use Rattle.gl_journal.proofs.BackEntries.{count_is, decimal_word, entry_are_words, entry_back, form_for, form_is, keyword, some_words}
 use Rattle.gl_journal.proofs.WrittenLines.{AreWords, IsWord, lines_of_rows, not_bad, plain_spaced, spaced, words_spaced}
 use Rattle.gl_journal.proofs.WrittenNumbers.{natural_back}
@@ -96,9 +96,9 @@ body_of : (n : ℕ) (th : Option ℕ) (ls : List (ℕ × List Entry)) (ws : Row)
 body_of n th ls [] some = absurd (omega arith)
 body_of n th ls (w ∷ ws) some = refl
 
-entry_read : (n t : ℕ) (ls : List (ℕ × List Entry)) (e : Entry) → IsEntryKept e → IsEntryTyped e → IsEntryStamped e
+entry_read : (n t : ℕ) (ls : List (ℕ × List Entry)) (e : Entry) → IsEntryKept e → IsEntryTyped e → IsEntryStamped e → NamesFew e
     → words_read (standing n (Some t) ls) (entry_row e) ≡ Ok (standing n (Some t) (with_last t e ls))
-entry_read n t ls e kept typed few =
+entry_read n t ls e kept typed few named =
     let s : Standing = standing n (Some t) ls in
     let ws : Row = entry_row e in
     let ops : Row = operands_of (forms.Entry (form_for e)) ws in
@@ -107,7 +107,7 @@ entry_read n t ls e kept typed few =
     ∙ ap (λ r. r >>= (λ form. placed_read s form (length ws) (operands_of form ws))) (form_is e)
     ∙ ap (λ b. if b then (entry_in (form_for e) ops >>= (λ f. Ok (with_entry s (Some t) f))) else Err WORD_COUNT)
     (ap (λ k. length ws == k) (sym (count_is e)) ∙ count)
-    ∙ ap (λ r. r >>= (λ f. Ok (with_entry s (Some t) f))) (entry_back e kept typed few)
+    ∙ ap (λ r. r >>= (λ f. Ok (with_entry s (Some t) f))) (entry_back e kept typed few named)
 
 -- the lists with these entries behind those of thread t
 abbrev added : ℕ → List Entry → List (ℕ × List Entry) → List (ℕ × List Entry)
@@ -115,12 +115,12 @@ added t [] ls = ls
 added t (e ∷ es) ls = added t es (with_last t e ls)
 
 entries_read : (n t : ℕ) (es : List Entry) (ls : List (ℕ × List Entry)) (rest : List Row) → AllByRecursion IsEntryKept es
-    → AllByRecursion IsEntryTyped es → AllByRecursion IsEntryStamped es
+    → AllByRecursion IsEntryTyped es → AllByRecursion IsEntryStamped es → AllByRecursion NamesFew es
     → rows_read (standing n (Some t) ls) (entry_rows es rest) ≡ rows_read (standing n (Some t) (added t es ls)) rest
-entries_read n t [] ls rest kept typed few = refl
-entries_read n t (e ∷ es) ls rest kept typed few =
-    ap (λ r. r >>= (λ u. rows_read u (entry_rows es rest))) (entry_read n t ls e kept.0 typed.0 few.0)
-    ∙ entries_read n t es (with_last t e ls) rest kept.1 typed.1 few.1
+entries_read n t [] ls rest kept typed few named = refl
+entries_read n t (e ∷ es) ls rest kept typed few named =
+    ap (λ r. r >>= (λ u. rows_read u (entry_rows es rest))) (entry_read n t ls e kept.0 typed.0 few.0 named.0)
+    ∙ entries_read n t es (with_last t e ls) rest kept.1 typed.1 few.1 named.1
 
 -- ## Entries in their lists
 
@@ -174,16 +174,17 @@ all_next t (l ∷ ls) all = (lt-ltb t l.0 all.0, all_next t ls all.1)
 lists_read : (n : ℕ) (th : Option ℕ) (front ls : List (ℕ × List Entry)) (rest : List Row) → Rises (map (λ m. m.0) (front ++ ls))
     → Rises (map (λ m. m.0) ls)
     → AreNext th ls → AllByRecursion IsListKept ls → AllEntries IsEntryTyped ls → AllEntries IsEntryStamped ls
+    → AllEntries NamesFew ls
     → (last : Option ℕ) × (rows_read (standing n th front) (list_rows ls rest) ≡ rows_read (standing n last (front ++ ls)) rest)
-lists_read n th front [] rest up rises next kept typed few = (th, ap (λ l. rows_read (standing n th l) rest) (sym (append-nil front)))
-lists_read n th front (l ∷ ls) rest up rises next kept typed few =
+lists_read n th front [] rest up rises next kept typed few named = (th, ap (λ l. rows_read (standing n th l) rest) (sym (append-nil front)))
+lists_read n th front (l ∷ ls) rest up rises next kept typed few named =
     let t : ℕ = l.0 in
     let seam : (front ++ l ∷ []) ++ ls ≡ front ++ l ∷ ls = append_assoc front (l ∷ []) ls in
     let further = lists_read n (Some t) (front ++ l ∷ []) ls rest (subst (λ q. Rises (map (λ m. m.0) q)) (sym seam) up) rises.1
-    (all_next t ls rises.0) kept.1 typed.1 few.1 in (
+    (all_next t ls rises.0) kept.1 typed.1 few.1 named.1 in (
       further.0,
       ap (λ r. r >>= (λ u. rows_read u (entry_rows l.1 (list_rows ls rest)))) (thread_read n t th front kept.0.0 next.0)
-          ∙ entries_read n t l.1 front (list_rows ls rest) kept.0.2 typed.0 few.0
+          ∙ entries_read n t l.1 front (list_rows ls rest) kept.0.2 typed.0 few.0 named.0
           ∙ ap (λ q. rows_read (standing n (Some t) q) (list_rows ls rest)) (added_all t l.1 front kept.0.1 (front_below front l ls up))
           ∙ further.1
           ∙ ap (λ q. rows_read (standing n further.0 q) rest) seam,
@@ -200,7 +201,7 @@ done_rows = (codes "done" ∷ []) ∷ []
 record_read : (n : ℕ) (R : List (ℕ × List Entry)) → CanBeSaid n R
     → (last : Option ℕ) × (rows_read nothing (record_rows n R) ≡ Ok (record (standing n last R) { done = true }))
 record_read n R can =
-    let body = lists_read n None [] R done_rows can.kept.0 can.kept.0 (none_next R) can.kept.1 can.typed can.within.stamped in
+    let body = lists_read n None [] R done_rows can.kept.0 can.kept.0 (none_next R) can.kept.1 can.typed can.within.stamped can.named in
     (body.0, ap (λ r. r >>= (λ u. rows_read u (list_rows R done_rows))) (header_read n can.within.few can.within.most) ∙ body.1)
 
 -- ## The rows are words

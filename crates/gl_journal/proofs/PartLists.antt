@@ -4,12 +4,13 @@ use Rattle.std.specs.List.{AllByRecursion, list_all, slice_split, position, befo
 use Rattle.std.proofs.lemmas.Bool.{and_parts, ltb-true, ne_eqb, le-ltb}
 use Rattle.std.proofs.lemmas.List.{take_more}
 use Rattle.std.proofs.lemmas.List.Splits.{slice_split_first}
-use Rattle.gl_model.specs.Rising.{with_part}
+use Rattle.gl_model.specs.Rising.{with_one, with_part}
 use Rattle.gl_model.specs.declared.limits.TheConstants.{TX_VARIABLES}
 use Rattle.gl_text.proofs.TextLemmas.{place_some, place_none, split_none}
 use Rattle.gl_journal.specs.declared.parts.Part.{Part}
 use Rattle.gl_journal.specs.Fields.{◌>>=◌}
 use Rattle.gl_journal.specs.Parts.{is_byte, is_set, rises}
+use Rattle.gl_journal.specs.Transactions.{vars_of}
 
 -- ## Pieces
 
@@ -79,3 +80,18 @@ pub part_next : {A : Type 0} (key : A → ℕ) (f : Part → A) → ((p : Part) 
     → with_part key (f (slice_index_or ps k d)) (map f (take k ps)) ≡ map f (take (k + 1) ps)
 part_next key f tells ps k d up h =
     part_last key f tells (slice_index_or ps k d) (take k ps) (before ps k d up h) ∙ ap (map f) (sym (take_more ps k d h))
+
+-- ## Variables that are put in their places
+
+-- the greatest one goes last
+var_last : (n : Part) (ps : List Part) → AllByRecursion (λ p. p.var < n.var) ps → with_one n.var (vars_of ps) ≡ vars_of (ps ++ n ∷ [])
+var_last n [] all = refl
+var_last n (p ∷ ps) all =
+    let apart : n.var == p.var ≡ false = ne_eqb n.var p.var (λ h. omega (arith, all.0)) in
+    let over : nat_lt n.var p.var ≡ false = le-ltb n.var p.var (omega (arith, all.0)) in
+    rw (apart, over) (ap (λ l. p.var ∷ l) (var_last n ps all.1))
+
+-- the next one of parts that rise goes behind those before it
+pub var_next : (ps : List Part) (k : ℕ) (d : Part) → rises ps ≡ true → k < length ps
+    → with_one (slice_index_or ps k d).var (vars_of (take k ps)) ≡ vars_of (take (k + 1) ps)
+var_next ps k d up h = var_last (slice_index_or ps k d) (take k ps) (before ps k d up h) ∙ ap vars_of (sym (take_more ps k d h))

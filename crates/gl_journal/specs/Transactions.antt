@@ -1,5 +1,7 @@
 -- The transaction of a line: its looks behind an r, its writes behind a w, and its numbers behind an n.
-use Rattle.std.specs.Prelude.{ℕ, List, map, Result, Ok, Err, ◌&&◌, codes, if◌then◌else◌}
+use Rattle.std.specs.Prelude.{ℕ, List, map, length, Bool, Result, Ok, Err, ◌&&◌, nat_le, codes, if◌then◌else◌}
+use Rattle.gl_model.specs.Rising.{with_all}
+use Rattle.gl_model.specs.declared.limits.TheConstants.{TX_VARIABLES}
 use Rattle.gl_model.specs.declared.tx.Tx.{Tx}
 use Rattle.gl_text.specs.declared.kinds.TheConstants.{BAD_NUMBER, BAD_SET, WORD_COUNT}
 use Rattle.gl_journal.specs.declared.parts.Part.{Part}
@@ -21,10 +23,18 @@ lists_of ws = do
   numbers ← first_of WORD_COUNT (rest_of (rest_of (rest_of (rest_of (rest_of ws)))))
   Ok (looks, writes, numbers)
 
--- the transaction of these parts, where each list is a set
+-- the variables of a list
+abbrev pub vars_of : List Part → List ℕ
+vars_of parts = map (λ p. p.var) parts
+
+-- two lists together name at most as many variables as a transaction may have
+abbrev pub names_few : List Part → List Part → Bool
+names_few looks writes = nat_le (length (with_all (vars_of writes) (vars_of looks))) TX_VARIABLES
+
+-- the transaction of these parts, where each list is a set, and the looks and the writes together name few
 abbrev pub tx_of : List Part → List Part → List Part → Result Tx ℕ
 tx_of looks writes numbers =
-    if is_set looks && is_set writes && is_set numbers
+    if is_set looks && is_set writes && is_set numbers && names_few looks writes
     then Ok (record { looks = map look_of looks; writes = map pair_of writes; numbers = map number_of numbers })
     else Err BAD_SET
 

@@ -1,8 +1,10 @@
 -- What a record has to be for its text to be a record text again.
-use Rattle.std.specs.Prelude.{◌≤◌, ◌≤ℤ◌, ℕ, ℤ, List}
+use Rattle.std.specs.Prelude.{◌≤◌, ◌≤ℤ◌, ℕ, ℤ, List, length}
 use Rattle.std.specs.List.{AllByRecursion}
 use Rattle.gl_model.specs.Entries.{Entry, Sync, Commit, Plain, Abort, Trim, Over}
 use Rattle.gl_model.specs.Kept.{IsRecord}
+use Rattle.gl_model.specs.Records.{variables_of}
+use Rattle.gl_model.specs.declared.limits.TheConstants.{TX_VARIABLES}
 use Rattle.gl_model.specs.declared.record.Ending.{Ending}
 use Rattle.gl_model.specs.declared.record.Ending.TheVariants.{Halt, Uncaught, Spent}
 use Rattle.gl_model.specs.declared.event.Act.{Act}
@@ -23,6 +25,10 @@ IsTxTyped tx = AllByRecursion (λ l. IsValue l.value) tx.looks × AllByRecursion
 -- and its numbers
 abbrev pub IsTxStamped : Tx → Type 0
 IsTxStamped tx = AllByRecursion (λ l. l.nth ≤ MOST_STAMP) tx.looks × AllByRecursion (λ n. n.nth ≤ MOST_STAMP) tx.numbers
+
+-- and its looks and writes together name at most as many variables as a transaction may have
+abbrev pub TxNamesFew : Tx → Type 0
+TxNamesFew tx = length (variables_of tx) ≤ TX_VARIABLES
 
 abbrev pub IsWhyTyped : Why → Type 0
 IsWhyTyped (Changed var read found) = IsValue read × IsValue found
@@ -66,6 +72,15 @@ IsEntryStamped (Abort tx why) = IsTxStamped tx
 IsEntryStamped (Trim low) = low ≤ MOST_STAMP
 IsEntryStamped (Over ending) = Unit {0}
 
+-- if the entry has a transaction, that names few
+abbrev pub NamesFew : Entry → Type 0
+NamesFew (Sync at act value) = Unit {0}
+NamesFew (Commit at tx) = TxNamesFew tx
+NamesFew (Plain var nth cached write value raised) = Unit {0}
+NamesFew (Abort tx why) = TxNamesFew tx
+NamesFew (Trim low) = Unit {0}
+NamesFew (Over ending) = Unit {0}
+
 -- each entry of a record
 abbrev pub AllEntries : (Entry → Type 0) → List (ℕ × List Entry) → Type 0
 AllEntries P R = AllByRecursion (λ l. AllByRecursion P l.1) R
@@ -77,8 +92,10 @@ pub record IsStamped (steps : ℕ) (R : List (ℕ × List Entry)) : Type 0 where
   pub most : steps ≤ MOST_STEPS
   pub stamped : AllEntries IsEntryStamped R
 
--- what a text can say: of each `Record` that is written this holds where it is stamped, as `write_record` ensures
+-- what a text can say: of each `Record` that is written this holds where it is stamped and its transactions name few, as `write_record`
+-- ensures
 pub record CanBeSaid (steps : ℕ) (R : List (ℕ × List Entry)) : Type 0 where
   pub within : IsStamped steps R
+  pub named : AllEntries NamesFew R
   pub kept : IsRecord R
   pub typed : AllEntries IsEntryTyped R

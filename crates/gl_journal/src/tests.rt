@@ -134,6 +134,18 @@ const ROWS: &[(&[u8], u32, u8)] = &[
         3,
         25,
     ),
+    // ten looks and eight writes, of which one is of a look's variable: seventeen variables
+    (
+        b"record 1 1\nthread 0\ncommit 0 r 0:0:0,1:0:0,2:0:0,3:0:0,4:0:0,5:0:0,6:0:0,7:0:0,8:0:0,9:0:0 w 9:0,10:0,11:0,12:0,13:0,14:0,15:0,16:0 n -\ndone\n",
+        3,
+        25,
+    ),
+    // sixteen
+    (
+        b"record 1 1\nthread 0\ncommit 0 r 0:0:0,1:0:0,2:0:0,3:0:0,4:0:0,5:0:0,6:0:0,7:0:0,8:0:0,9:0:0 w 8:0,9:0,10:0,11:0,12:0,13:0,14:0,15:0 n -\ndone\n",
+        0,
+        0,
+    ),
     // no end
     (b"", 0, 32),
     (b"# nothing\n\n", 0, 32),

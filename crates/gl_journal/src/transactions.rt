@@ -4,12 +4,12 @@ ghost use Rattle.std.specs.List.{AllByRecursion};
 ghost use Rattle.gl_model.specs.declared.limits.TheConstants.{VARIABLES};
 ghost use Rattle.gl_journal.specs.Parts.{is_set, look_of, pair_of, number_of};
 ghost use Rattle.gl_journal.specs.Refused.{Refused};
-ghost use Rattle.gl_journal.specs.Transactions.{lists_of, tx_in, tx_of};
+ghost use Rattle.gl_journal.specs.Transactions.{lists_of, names_few, tx_in, tx_of, vars_of};
 
 use crate::fields::told;
-use crate::parts::{PartForm, is_set, list_in, looks_of, numbers_of, pairs_of};
+use crate::parts::{Part, PartForm, is_set, list_in, looks_of, numbers_of, pairs_of};
 use crate::refusal::Refusal;
-use gl_model::Tx;
+use gl_model::{Tx, VarSet};
 use gl_text::Words;
 use gl_text::kinds::{BAD_NUMBER, BAD_SET, WORD_COUNT};
 use std::alloc::{AllocError, Global};
@@ -28,6 +28,36 @@ fn lists_of(mut words: Words<'_>) -> Result<(&[u8], &[u8], &[u8]), u8>
     Ok((looks, writes, numbers))
 }
 
+// The variables of a list.
+fn vars_of(parts: &[Part]) -> VarSet
+    requires set { is_set parts.now ≡ true }
+    requires range { AllByRecursion (λ p. p.var < VARIABLES) parts.now }
+    ensures { result ≡ vars_of parts.now }
+{
+    let mut vars = VarSet::empty();
+    for part in parts {
+        match vars.insert(part.var) {
+            Ok(()) => {}
+            Err(_) => unreachable!(),
+        }
+    }
+    vars
+}
+
+// Whether two lists together name at most as many variables as a transaction may have.
+fn names_few(looks: &[Part], writes: &[Part]) -> bool
+    requires looks { is_set looks.now ≡ true }
+    requires looks_range { AllByRecursion (λ p. p.var < VARIABLES) looks.now }
+    requires writes { is_set writes.now ≡ true }
+    requires writes_range { AllByRecursion (λ p. p.var < VARIABLES) writes.now }
+    ensures { result ≡ names_few looks.now writes.now }
+{
+    match vars_of(looks).union(&vars_of(writes)) {
+        Some(_) => true,
+        None => false,
+    }
+}
+
 fn boxed(alloc: Global, tx: Tx) -> Result<Box<Tx>, AllocError>
     ensures { IfOk result (λ b. b.value ≡ tx) }
 {
@@ -44,7 +74,7 @@ pub fn tx_in(alloc: Global, words: Words<'_>) -> Result<Box<Tx>, Refusal>
     let looks = list_in(alloc, PartForm::Look, looks)?;
     let writes = list_in(alloc, PartForm::Pair, writes)?;
     let numbers = list_in(alloc, PartForm::Number, numbers)?;
-    if is_set(&looks) && is_set(&writes) && is_set(&numbers) {
+    if is_set(&looks) && is_set(&writes) && is_set(&numbers) && names_few(&looks, &writes) {
         let tx = Tx {
             looks: looks_of(&looks),
             writes: pairs_of(&writes),

@@ -57,5 +57,5 @@ returns-clause-read c =
     let last : c.loop-thread.thread ≡ THREADS = omega arith in
     let typed : AllEntries IsEntryTyped R = subst (AllEntries IsEntryTyped) (ap (λ t. below t R) last ∙ all_below R c.keeps.ensures.1)
     c.loop-thread.invariant.1 in
-    λ stamped. subst (λ text. IsRecordText text c.args.steps R) (sym (returns-clause-text c))
-    (text_means c.args.steps R (record { within = stamped; kept = c.keeps.ensures; typed = typed }))
+    λ stamped named. subst (λ text. IsRecordText text c.args.steps R) (sym (returns-clause-text c))
+    (text_means c.args.steps R (record { within = stamped; named = named; kept = c.keeps.ensures; typed = typed }))
