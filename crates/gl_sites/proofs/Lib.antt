@@ -1,0 +1,4 @@
+pub mod Growing
+pub mod OneLine
+pub mod Said
+pub mod Walking

@@ -1,0 +1,11 @@
+//! Where what is in a record was written: the line of a program's text that an instruction stands in.
+#![tactic(auto)]
+
+mod adding;
+mod laws;
+mod source;
+#[cfg(test)]
+mod tests;
+
+pub use laws::each_instruction_has_one_line;
+pub use source::{SourceLine, line_of};
