@@ -1,12 +1,10 @@
 -- The cause of one end is not that of another: thread 0 has begun, and another thread commits.
-use Rattle.std.proofs.Common.{◌≡◌, ◌≢◌, ℕ, ℤ, zero, suc, ◌<◌, ◌≤◌, List, [], ◌∷◌, drop, refl, sym, ap, ◌∙◌, subst, arith, true, false, inl, inr, Some, None}
-use Rattle.std.specs.Prelude.{◌↔◌, ◌⊎◌, pos, Contains, Option, slice_get, IsTrue, IsSome}
-use Rattle.std.specs.List.{All}
+use Rattle.std.proofs.Common.{◌≡◌, ◌≢◌, ℕ, zero, suc, ◌<◌, List, [], ◌∷◌, drop, refl, sym, ap, ◌∙◌, subst, arith, true, inl, inr, Some, None}
+use Rattle.std.specs.Prelude.{◌↔◌, pos, Contains, slice_get}
 use Rattle.std.proofs.lemmas.List.Elements.{All-weaker}
 use Rattle.gl_model.specs.declared.event.Act.TheVariants.{Begin, End}
 use Rattle.gl_model.specs.declared.event.Element.{Element}
 use Rattle.gl_model.specs.declared.event.Element.TheVariants.{Thread, Tx, Var}
-use Rattle.gl_model.specs.declared.event.Event.{Event}
 use Rattle.gl_model.specs.declared.event.Event.TheVariants.{Act as Does}
 use Rattle.gl_model.specs.declared.event.Stamp.{Stamp}
 use Rattle.gl_model.specs.declared.row.Info.{Info}
@@ -15,16 +13,14 @@ use Rattle.gl_model.specs.declared.tx.Look.{Look}
 use Rattle.gl_model.specs.Edges.{EventAt}
 use Rattle.gl_model.specs.Infos.{AreLeastOwned, InfoFor}
 use Rattle.gl_model.specs.Lockset.{Has}
-use Rattle.gl_model.specs.Locksets.{Access, IsAccessOf, IsOrderedOrExcepted}
+use Rattle.gl_model.specs.Locksets.{Access, IsOrderedOrExcepted}
 use Rattle.gl_model.specs.Machine.{Setting, State, Running, start, with_at, Allows}
-use Rattle.gl_draws.specs.Events.{AreEvents}
-use Rattle.gl_draws.specs.RowFacts.{read_of, set_after, Fails, SomeFails}
+use Rattle.gl_draws.specs.RowFacts.{Fails, SomeFails}
 use Rattle.gl_rule.specs.Fitting.{IsFitting, InfosStand}
-use Rattle.gl_rule.specs.View.{Read, shelf}
+use Rattle.gl_rule.specs.View.{shelf}
 use Rattle.gl_table.specs.PassView.{PassView}
-use Rattle.gl_table.specs.TableView.{TableView}
-use Rattle.gl_txn.specs.Attempts.{Attempting, variables_in}
-use Rattle.gl_txn.specs.Ending.{asked, WasChanged, WasDone, WasRaised}
+use Rattle.gl_txn.specs.Attempts.{variables_in}
+use Rattle.gl_txn.specs.Ending.{asked}
 use Rattle.gl_txn.specs.Laws.{begun, IsFirstWrite, IsUntouched, KnowsBegun, RacyIsNotDone, ClearIsNotRaised, UnlookedIsNotChanged}
 use Rattle.gl_txn.specs.declared.taken.TakenRow.{TakenRow}
 
@@ -99,8 +95,11 @@ write_stands setting row w = record {
 
 row_stands : (setting : Setting) (row : Row) → IsFirstWrite row → InfosStand setting (begun setting) row
 row_stands setting row w = record {
-  last_write = λ i e. (first_access, (let same : w.info ≡ i = some_info w.info i (sym w.there ∙ e)
-      in subst (λ (j : Info). InfoFor setting (begun setting) j first_access true) same (write_stands setting row w)));
+  last_write = λ i e. (
+    first_access,
+    (let same : w.info ≡ i = some_info w.info i (sym w.there ∙ e)
+        in subst (λ (j : Info). InfoFor setting (begun setting) j first_access true) same (write_stands setting row w)),
+  );
   reads = λ t i e. absurd (let n = w.unread t in cc);
 }
   where
@@ -140,7 +139,7 @@ racy_is_not_done z a t before r q other write knows done =
     let clear = done.clear in
     let upto : 1 ≡ clear.upto = (let l = clear.later in let w = clear.within in omega arith) in
     let fits = subst (λ n. IsFitting z.key.setting (shelf t []) n q.known (begun z.key.setting)) upto
-        (fits_begun z.key.setting t q other knows) in
+    (fits_begun z.key.setting t q other knows) in
     clear.unraced (begun z.key.setting) fits
     (λ u c. subst (λ (v : TakenRow). InfosStand z.key.setting (begun z.key.setting) v.row) (of_one r u c)
     (row_stands z.key.setting r.row write)) r (0, omega arith, refl)

@@ -19,4 +19,3 @@ pub mod Ready
 pub mod Causes
 pub mod NewLooks
 pub mod Apart
-pub mod GoingOn

@@ -1,5 +1,5 @@
 -- What the cause of an end rules out. The list is the least one in which a commit can race: thread 0 has begun, and nothing else happened.
-use Rattle.std.specs.Prelude.{◌≡◌, ◌≢◌, ◌↔◌, ℕ, ℤ, ◌≤◌, true, false, List, [], ◌∷◌, Some, None}
+use Rattle.std.specs.Prelude.{◌≡◌, ◌≢◌, ◌↔◌, ℕ, ℤ, true, false, List, [], ◌∷◌, Some, None}
 use Rattle.std.specs.List.{All}
 use Rattle.gl_model.specs.declared.event.Act.TheVariants.{Begin}
 use Rattle.gl_model.specs.declared.event.Element.{Element}

@@ -13,8 +13,6 @@ mod publishing;
 mod racing;
 mod stops;
 mod taken;
-#[cfg(test)]
-mod tests;
 
 pub use attempt::Txn;
 pub use laws::causes_tell_the_ends_apart;
