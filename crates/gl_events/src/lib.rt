@@ -13,3 +13,6 @@ pub use call::Call;
 pub use done::{Done, Stop};
 pub use events::{alloc_object, begin, end, enter, exit, fork, input, join, print, vread, vwrite};
 pub use settling::settle;
+
+#[cfg(test)]
+mod tests;

@@ -47,7 +47,8 @@ module _ (setting : Setting) (low : ℕ) (R : Lists) (c : IsClosed setting low R
       let is = gives_is right.entry x k right.by_write right.gives in
       let there : At (R p.thread) right.index (Plain x k false right.by_write is.0 false) =
       subst (λ e. At (R p.thread) right.index e) is.1 right.there in
-      drawn (record { thread = p.thread; index = right.index }) (Plain x k false right.by_write is.0 false) x k there (inr (refl, refl, refl))
+      let first : Place = record { thread = p.thread; index = right.index } in
+      drawn first (Plain x k false right.by_write is.0 false) x k there (inr (refl, refl, refl))
 
   -- so is the number of each access
   named : (p : Place) (e : Entry) (x k : ℕ) → EntryAt R p e → NumberOn e x k → k < most_stamp

@@ -196,8 +196,7 @@ closed_record key z ps me w ls are root told is kept =
     let each : (t : ℕ) → lists_in me.0.shelves t ≡ lists_of ls t = λ t. ap (λ s. lists_in s t) root.shelves ∙ sym (here t) in
     let same : lists_in me.0.shelves ≡ lists_of ls = λ i t. (each t) i in
     let rising : (d : Place) (e : Entry) → EntryAt (lists_in me.0.shelves) d e
-    → IsEntryRising e = λ d e at. record_rising ls d.thread d.index e kept (subst (λ l. At l d.index e) (each d.thread) at) in
-    (
+    → IsEntryRising e = λ d e at. record_rising ls d.thread d.index e kept (subst (λ l. At l d.index e) (each d.thread) at) in (
       subst (IsLawful key.setting) same (told.lawful whole rising),
       subst (IsTrimmed key) same (told.trims whole),
       here,

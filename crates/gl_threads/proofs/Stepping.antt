@@ -1,6 +1,6 @@
 -- A turn of a thread.
-use Rattle.std.proofs.Common.{◌≡◌, ℕ, zero, suc, ◌<◌, true, false, List, [], ◌∷◌, ◌++◌, length, refl, sym, ◌∙◌, ap, inl, inr, Option, Some, None, subst, is_some}
-use Rattle.std.specs.Prelude.{◌⊎◌, Bool, nat_lt, if◌then◌else◌}
+use Rattle.std.proofs.Common.{◌≡◌, ℕ, zero, suc, ◌<◌, Bool, true, false, List, [], ◌∷◌, ◌++◌, length, refl, sym, ◌∙◌, ap, inl, inr, Option, Some, None, subst, is_some}
+use Rattle.std.specs.Prelude.{nat_lt, if◌then◌else◌}
 use Rattle.std.proofs.lemmas.List.{append-nil}
 use Rattle.atomic_table.specs.Seated.{TableId}
 use Rattle.gl_model.specs.declared.record.Ending.{Ending}
@@ -23,7 +23,7 @@ use Rattle.gl_rows.specs.Sweeping.{IsSwept as HasSwept}
 use Rattle.gl_vm.specs.Asking.{AsksInRange}
 use Rattle.gl_vm.specs.Orderly.{StageIsOrderly}
 use Rattle.gl_vm.proofs.Work.{Falls, step_falls}
-use Rattle.gl_events.specs.Settling.{MaySettle, trims as trims_between}
+use Rattle.gl_events.specs.Settling.{MaySettle, trims}
 use Rattle.gl_rule.specs.Closed.{IsDone}
 use Rattle.gl_rule.specs.Lives.{Life, Unbegun, Running, Ended, Closed, life_after, life_from, life_of}
 use Rattle.gl_table.specs.PassView.{Own, PassView}
@@ -141,10 +141,11 @@ rides_swept_on P z c old new txn rides goes s = record {
 
 -- a sweep adds a Trim, or none
 pub swept_by : (t : TableView) (p q : PassView) (low : ℕ) → HasSwept t p q low → IsSwept p.own q.own
-swept_by t p q low s = record { trims = trims_between s.before low; are_trims = by_test (nat_lt s.before low); own = s.own } where
-  by_test : (b : Bool) → AreTrims (if b then Trim low ∷ [] else [])
-  by_test true = tt
-  by_test false = tt
+swept_by t p q low s = record { trims = trims s.before low; are_trims = by (nat_lt s.before low); own = s.own }
+  where
+    by : (b : Bool) → AreTrims (if b then Trim low ∷ [] else [])
+    by true = tt
+    by false = tt
 
 -- a thread that asks has not ended
 asks_open : (ask : Ask) (l : Life) → IsAsk ask → LifeFor ask l → IsOpen l
