@@ -3,6 +3,7 @@ pub mod LongPrograms
 pub mod SaidLines
 pub mod Entries
 pub mod Finished
+pub mod FewVariables
 pub mod FewWords
 pub mod SameRecord
 pub mod OneAnswer

@@ -9,18 +9,19 @@ use Rattle.gl_model.specs.Lists.{list_of, lists_of}
 use Rattle.gl_trace.proofs.TracerLemmas.{below_none, weaker}
 
 -- the list of the first thread
-first_list : (l : ℕ × List Entry) (ls : List (ℕ × List Entry)) (t : ℕ) → l.0 ≡ t → lists_of (l ∷ ls) t ≡ l.1
+pub first_list : (l : ℕ × List Entry) (ls : List (ℕ × List Entry)) (t : ℕ) → l.0 ≡ t → lists_of (l ∷ ls) t ≡ l.1
 first_list l ls t same = ap (λ b. unwrap_or (if b then Some l.1 else list_of ls t) []) (eq-eqb l.0 t same)
 
 -- that of another
-other_list : (l : ℕ × List Entry) (ls : List (ℕ × List Entry)) (t : ℕ) → (l.0 ≡ t → ⊥) → lists_of (l ∷ ls) t ≡ lists_of ls t
+pub other_list : (l : ℕ × List Entry) (ls : List (ℕ × List Entry)) (t : ℕ) → (l.0 ≡ t → ⊥) → lists_of (l ∷ ls) t ≡ lists_of ls t
 other_list l ls t other = ap (λ b. unwrap_or (if b then Some l.1 else list_of ls t) []) (ne_eqb l.0 t other)
 
 -- a thread below all that have a list has none
-no_list : (ls : List (ℕ × List Entry)) (t : ℕ) → AllByRecursion (λ u. t < u) (map (λ l. l.0) ls) → lists_of ls t ≡ []
+pub no_list : (ls : List (ℕ × List Entry)) (t : ℕ) → AllByRecursion (λ u. t < u) (map (λ l. l.0) ls) → lists_of ls t ≡ []
 no_list ls t below = ap (λ o. unwrap_or o []) (below_none t ls below)
 
-some_entry : (es : List Entry) → 0 < length es → es ≡ [] → ⊥
+-- a list with an entry is not empty
+pub some_entry : (es : List Entry) → 0 < length es → es ≡ [] → ⊥
 some_entry [] some none = omega arith
 some_entry (e ∷ es) some none = cc
 

@@ -2,6 +2,7 @@
 ghost use Rattle.std.specs.Prelude.{◌≡◌, ◌++◌, ℤ, List, IfOk, OnOk, map};
 ghost use Rattle.std.specs.List.{list_any};
 ghost use Rattle.gl_bytecode.specs.Programs.{Bytecode};
+ghost use Rattle.gl_journal.specs.Written.{AllEntries, NamesFew};
 ghost use Rattle.gl_model.specs.Entries.{seen};
 ghost use Rattle.gl_report.specs.Lines.{is_raised};
 ghost use Rattle.gl_threads.specs.Options.{AreOptions};
@@ -70,7 +71,7 @@ fn add_journal(
     made: &Record,
 ) -> Result<(), AllocError>
     ensures text { OnOk result (text.new.items ≡ text.old.items ++ journal_of asked made.now) }
-    ensures read_back { OnOk result (IsReadBack asked made.now) }
+    ensures read_back { OnOk result (AllEntries NamesFew made.now → IsReadBack asked made.now) }
 {
     if asked.journal {
         let journal = write_record(alloc, asked.threads.steps, made)?;
@@ -84,7 +85,7 @@ fn told(alloc: Global, asked: RunOptions, sealed: &Sealed) -> Result<(u8, Vec<u8
     ensures status { IfOk result (λ r. r.0 ≡ run_status sealed.now.entries) }
     ensures few { IfOk result (λ r. IsVerdict r.0) }
     ensures text { IfOk result (λ r. r.1.items ≡ run_text asked sealed.now.entries) }
-    ensures read_back { OnOk result (IsReadBack asked sealed.now.entries) }
+    ensures read_back { OnOk result (AllEntries NamesFew sealed.now.entries → IsReadBack asked sealed.now.entries) }
 {
     let entries = entries_of(alloc, sealed.record())?;
     let mut text = report_of_entries(alloc, &entries)?.into_bytes();
