@@ -1,6 +1,6 @@
 -- Lines that were taken, by place, and the first behind a place.
 use Rattle.std.proofs.Common.{◌≡◌, ◌∙◌, ℕ, zero, suc, ◌+◌, ◌<◌, ◌≤◌, List, [], ◌∷◌, take, length, map, refl, sym, ap, subst, arith, inl, inr, Some, None, Bool, true, false}
-use Rattle.std.specs.Prelude.{◌⊎◌, ◌↔◌, IsTrue, Option, option_map, slice_get}
+use Rattle.std.specs.Prelude.{◌↔◌, IsTrue, Option, option_map, slice_get}
 use Rattle.std.proofs.lemmas.Bool.{cases_lt}
 use Rattle.std.proofs.lemmas.List.{take-map}
 use Rattle.std.proofs.lemmas.Option.{slice_get-map, slice_get_within}

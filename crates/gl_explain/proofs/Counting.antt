@@ -1,6 +1,6 @@
 -- Counting and finding the last, one number after another.
-use Rattle.std.proofs.Common.{◌≡◌, ◌∙◌, ap, ℕ, ◌+◌, ◌<◌, ◌≤◌, List, length, get_or, Bool, false, refl, sym, subst, arith, inl, inr, Some, None}
-use Rattle.std.specs.Prelude.{◌⊎◌, ◌↔◌, Option, slice_get, IsTrue, IsSome}
+use Rattle.std.proofs.Common.{◌≡◌, ◌∙◌, ap, ℕ, ◌+◌, ◌<◌, List, length, get_or, Bool, false, refl, sym, subst, arith, inl, inr, Some, None}
+use Rattle.std.specs.Prelude.{◌↔◌, Option, slice_get, IsTrue, IsSome}
 use Rattle.std.proofs.lemmas.Bool.{cases_lt}
 use Rattle.std.proofs.lemmas.Option.{slice_get-get_or, slice_get_within}
 use Rattle.gl_core.specs.Cells.{at}

@@ -1,4 +1,5 @@
 pub mod Truths
+pub mod Joining
 pub mod Counting
 pub mod Sets
 pub mod Owning

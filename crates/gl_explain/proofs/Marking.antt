@@ -1,5 +1,5 @@
 -- The marks of a line that is taken.
-use Rattle.std.proofs.Common.{◌≡◌, ◌∙◌, ℕ, ◌+◌, ◌-◌, ◌<◌, List, [], ◌∷◌, ◌++◌, length, sym, subst, arith}
+use Rattle.std.proofs.Common.{◌≡◌, ◌∙◌, ℕ, ◌+◌, ◌-◌, List, [], ◌∷◌, ◌++◌, length, sym, subst, arith}
 use Rattle.gl_model.specs.declared.event.Element.TheVariants.{Thread}
 use Rattle.gl_model.specs.declared.row.Item.{Item}
 use Rattle.gl_model.specs.declared.row.Item.TheVariants.{Commit as CommitsOn}

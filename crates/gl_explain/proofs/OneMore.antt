@@ -1,11 +1,12 @@
 -- The text of the explanations, with one line more.
-use Rattle.std.proofs.Common.{◌≡◌, ◌∙◌, ℕ, zero, suc, ◌+◌, ◌<◌, ◌≤◌, List, [], ◌∷◌, ◌++◌, map, refl, sym, ap, subst, inl, inr, Some, Bool, true, false, append-nil, append_assoc}
+use Rattle.std.proofs.Common.{◌≡◌, ◌∙◌, ℕ, zero, suc, ◌+◌, List, [], ◌∷◌, ◌++◌, refl, sym, ap, subst, inl, inr, Some, Bool, true, false, append-nil, append_assoc}
 use Rattle.std.specs.Prelude.{◌⊎◌, slice_get, Result, Ok, Err, OnOk, cond}
-use Rattle.std.specs.List.{count_by, filter, flat_map}
+use Rattle.std.specs.List.{count_by, flat_map}
 use Rattle.std.proofs.lemmas.Grind.{flat_map-append}
 use Rattle.std.proofs.lemmas.List.{map-append}
 use Rattle.std.proofs.lemmas.List.Sums.{sum_by-append}
 use Rattle.std.proofs.lemmas.List.Elements.{filter-append}
+use Rattle.gl_names.specs.Names.{Naming}
 use Rattle.gl_trace.specs.Verdicts.{is_race}
 use Rattle.gl_explain.specs.declared.told.Told.{Told}
 use Rattle.gl_explain.specs.declared.told.Explanation.{Explanation}
@@ -51,9 +52,9 @@ each_more done t es each i e there =
     let w = each i e there in
     (w.0, w.1 ++ t ∷ [], ap (λ ls. ls ++ t ∷ []) w.2 ∙ append_assoc w.0 (e.at ∷ w.1) (t ∷ []), w.3)
 
-pub written_more : (done : List Told) (t : Told) (e : Explanation) (bytes : List ℕ) → is_race t.judged ≡ true → e.at ≡ t
-    → IsExplained done e → IsWritten done bytes → IsWritten (done ++ t ∷ []) (bytes ++ explanation_text e)
-written_more done t e bytes race here is w =
+pub written_more : (names : Naming) (done : List Told) (t : Told) (e : Explanation) (bytes : List ℕ) → is_race t.judged ≡ true → e.at ≡ t
+    → IsExplained done e → IsWritten names done bytes → IsWritten names (done ++ t ∷ []) (bytes ++ explanation_text names e)
+written_more names done t e bytes race here is w =
     let r = races_push done t true race in
     record {
       explained = w.explained ++ e ∷ [];
@@ -67,17 +68,17 @@ written_more done t e bytes race here is w =
               (done, [], ap (λ (k : Told). done ++ k ∷ []) at, subst (IsExplained done) new is))
         ];
       };
-      text = ap (λ bs. bs ++ explanation_text e) w.text
-          ∙ sym (flat_map-append explanation_text w.explained (e ∷ [])
-          ∙ ap (λ bs. flat_map explanation_text w.explained ++ bs) (append-nil (explanation_text e)));
+      text = ap (λ bs. bs ++ explanation_text names e) w.text
+          ∙ sym (flat_map-append (explanation_text names) w.explained (e ∷ [])
+          ∙ ap (λ bs. flat_map (explanation_text names) w.explained ++ bs) (append-nil (explanation_text names e)));
     }
 
 pub more_on_ok : {T E : Type 0} (P Q : Type 0) (r : Result T E) → (P → Q) → OnOk r P → OnOk r Q
 more_on_ok P Q (Ok x) f p = f p
 more_on_ok P Q (Err e) f p = tt
 
-pub none_written : IsWritten [] []
-none_written = record { explained = []; are = record { all = refl; each = λ i e there. absurd (cc) }; text = refl }
+pub none_written : (names : Naming) → IsWritten names [] []
+none_written names = record { explained = []; are = record { all = refl; each = λ i e there. absurd (cc) }; text = refl }
 
 -- as many races were kept as there are
 pub races_kept : (kept : List Kept) → count_by (λ k. is_race k.told.judged) kept ≡ races_in (told_of kept)

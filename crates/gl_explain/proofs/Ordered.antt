@@ -1,6 +1,6 @@
 -- What a clock says of the lines that were taken, as happens-before.
-use Rattle.std.proofs.Common.{◌≡◌, ◌≢◌, ◌∙◌, ℕ, ◌+◌, ◌<◌, ◌≤◌, List, [], ◌∷◌, ◌++◌, take, sym, ap, subst, arith, inl, inr, Some, None}
-use Rattle.std.specs.Prelude.{◌⊎◌, ◌↔◌, Option}
+use Rattle.std.proofs.Common.{◌≡◌, ◌∙◌, ℕ, ◌<◌, ◌≤◌, List, [], ◌∷◌, ◌++◌, take, sym, ap, subst, arith, inl, inr, Some, None}
+use Rattle.std.specs.Prelude.{◌↔◌, Option}
 use Rattle.std.proofs.lemmas.Bool.{cases_lt}
 use Rattle.std.proofs.lemmas.List.{take-map}
 use Rattle.gl_model.specs.Locksets.{Access, IsAccessOf}

@@ -1,6 +1,6 @@
 -- A line that is raised races with one of those before it.
-use Rattle.std.proofs.Common.{◌≡◌, ◌≢◌, ◌∙◌, ℕ, ◌+◌, ◌<◌, ◌≤◌, List, [], ◌∷◌, ◌++◌, length, length-append, take, refl, sym, ap, subst, arith, inl, inr, None, true}
-use Rattle.std.specs.Prelude.{◌⊎◌, ◌↔◌, Contains}
+use Rattle.std.proofs.Common.{◌≡◌, ◌∙◌, ℕ, ◌+◌, List, [], ◌∷◌, ◌++◌, length, length-append, take, refl, sym, ap, subst, arith, inl, inr, None, true}
+use Rattle.std.specs.Prelude.{Contains}
 use Rattle.std.proofs.lemmas.List.{take_all, take-map}
 use Rattle.gl_model.specs.declared.row.Item.{Item}
 use Rattle.gl_model.specs.declared.row.Item.TheVariants.{Act as Acts, Access as AccessTo, Commit as CommitsOn}
@@ -16,7 +16,7 @@ use Rattle.gl_model.specs.Rising.{with_all}
 use Rattle.gl_model.specs.Trace.{Line, AreVerdicts, IsJudgedRightly, last_place, with_entry}
 use Rattle.gl_draws.specs.NextRaces.{IsRacyNext}
 use Rattle.gl_draws.proofs.EntryKinds.{is_in-contains}
-use Rattle.gl_lines.specs.Traced.{Traced, traced, history, draws_of, after_line, after_item, entered, plain_entry, refused_entry, touches}
+use Rattle.gl_lines.specs.Traced.{Traced, traced, history, draws_of, after_line, after_item, entered, plain_entry, refused_entry}
 use Rattle.gl_lines.specs.TraceLaws.{Accesses, WritesTo, commit_of, lists_behind}
 use Rattle.gl_lines.specs.TraceRows.{access_at}
 use Rattle.gl_lines.specs.TraceStates.{AreSound}

@@ -13,15 +13,17 @@ pub record AreTaken (text : List ℕ) (reader : TraceReader) (x : Explainer) : T
   pub done : List Told
   pub read : IsReadTo text (trace_of done) reader
   pub told : IsTold done x
+  pub named : x.writer.names ≡ text
 
 pub taken_on : (text : List ℕ) (done : List Told) (line : TraceLine) (reader : TraceReader) (x : Explainer)
-    → IsReadTo text (trace_of done ++ line ∷ []) reader → IsToldOn done line x → AreTaken text reader x
-taken_on text done line reader x read on =
+    → IsReadTo text (trace_of done ++ line ∷ []) reader → IsToldOn done line x → x.writer.names ≡ text → AreTaken text reader x
+taken_on text done line reader x read on named =
     let t : Told = record { line = line.0; thread = line.1; item = line.2; judged = on.0 } in
     record {
       done = done ++ t ∷ [];
       read = subst (λ ls. IsReadTo text ls reader) (sym (map-append trace_line_of done (t ∷ []))) read;
       told = on.1;
+      named = named;
     }
 
 pub more_if_ok : {T E : Type 0} (P Q : T → Type 0) (r : Result T E) → ((x : T) → P x → Q x) → IfOk r P → IfOk r Q

@@ -1,6 +1,6 @@
 -- The variables of a commit.
 use Rattle.std.proofs.Common.{◌≡◌, ℕ, List, Bool, true, false, refl, sym, ◌∙◌, inl, inr}
-use Rattle.std.specs.Prelude.{◌⊎◌, ◌↔◌, ◌||◌, Contains, if◌then◌else◌}
+use Rattle.std.specs.Prelude.{◌⊎◌, ◌↔◌, Contains, if◌then◌else◌}
 use Rattle.gl_model.specs.Rising.{with_all}
 use Rattle.gl_model.specs.Trace.{is_in}
 use Rattle.gl_draws.proofs.EntryKinds.{is_in-contains, contains-is_in}

@@ -1,6 +1,6 @@
 -- What is known when a line is taken.
-use Rattle.std.proofs.Common.{◌≡◌, ◌∙◌, ℕ, ◌+◌, ◌-◌, ◌^◌, ◌<◌, ◌≤◌, List, [], ◌∷◌, ◌++◌, length, length-append, map, refl, sym, ap, subst, arith, Some, All, false}
-use Rattle.std.specs.Prelude.{◌↔◌, slice_get, string_bytes}
+use Rattle.std.proofs.Common.{◌≡◌, ◌∙◌, ℕ, ◌+◌, ◌-◌, ◌^◌, ◌≤◌, List, [], ◌∷◌, ◌++◌, length, length-append, refl, sym, ap, subst, arith, Some, All, false}
+use Rattle.std.specs.Prelude.{slice_get, string_bytes}
 use Rattle.std.proofs.lemmas.List.{map-append, length-map}
 use Rattle.std.proofs.lemmas.Option.{slice_get_within, get_or_from_slice_get}
 use Rattle.gl_core.specs.Cells.{at}
@@ -24,6 +24,7 @@ use Rattle.gl_explain.specs.declared.told.Told.{Told}
 use Rattle.gl_explain.specs.declared.told.Kept.{Kept}
 use Rattle.gl_explain.specs.declared.explainer.Explainer.{Explainer}
 use Rattle.gl_explain.specs.Follows.{IsTold}
+use Rattle.gl_names.specs.Names.{name_of}
 use Rattle.gl_explain.specs.Written.{IsWritten}
 use Rattle.gl_explain.specs.Marks.{AreKept, Tells, plain_behind}
 use Rattle.gl_explain.specs.Races.{IsCulprit}
@@ -119,7 +120,7 @@ pub told_on : (kept : List Kept) (done : List Told) (t : Told) (known : List ℕ
     ≡ tick (plain_behind lines t.thread) + 1) →
     ((lines : List Line) → own ≡ tick (plain_behind lines t.thread) + 1 → Follows (lines ++ line_of t ∷ []) x.detector → t.judged
     ≡ Performed → mark ≡ tick (access_at lines (line_of t)) + 1) →
-    IsWritten (told_of kept ++ t ∷ []) (string_bytes x.text) → IsTold (done ++ t ∷ []) x
+    IsWritten (name_of x.writer.names) (told_of kept ++ t ∷ []) (string_bytes x.writer.text) → IsTold (done ++ t ∷ []) x
 told_on kept done t known own mark old x is follows is_kept f ready items owns marks written =
     let k : Kept = record { told = t; own = own; mark = mark } in
     let lines = lines_of (told_of kept) in

@@ -1,6 +1,6 @@
 -- What is kept of the lines so far, and how it goes on at a line.
-use Rattle.std.proofs.Common.{◌≡◌, ◌≢◌, ◌∙◌, ℕ, zero, suc, ◌+◌, ◌<◌, ◌≤◌, List, [], ◌∷◌, ◌++◌, length, length-append, map, take, refl, sym, ap, subst, arith, inl, inr, Some, None, Bool, true, false}
-use Rattle.std.specs.Prelude.{pos, ◌⊎◌, ◌↔◌, Contains, slice_get}
+use Rattle.std.proofs.Common.{◌≡◌, ◌∙◌, ℕ, zero, suc, ◌+◌, ◌<◌, ◌≤◌, List, [], ◌∷◌, ◌++◌, length, length-append, take, refl, sym, ap, subst, arith, inl, inr, Some, None, Bool, true, false}
+use Rattle.std.specs.Prelude.{pos, ◌⊎◌, Contains, slice_get}
 use native.Mathlib.Decide.{ℕ_discrete}
 use Rattle.std.proofs.lemmas.Bool.{cases_lt}
 use Rattle.std.proofs.lemmas.List.{map-append, take_all, take-append-le, length-map}

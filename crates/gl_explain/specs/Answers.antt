@@ -1,8 +1,9 @@
 -- What a text is answered.
-use Rattle.std.specs.Prelude.{◌≡◌, ◌⊎◌, ◌==◌, ℕ, if◌then◌else◌, List, [], ◌∷◌, ◌++◌, codes, count_by}
+use Rattle.std.specs.Prelude.{◌≡◌, ◌⊎◌, ◌==◌, ℕ, if◌then◌else◌, List, ◌++◌, codes, count_by}
 use Rattle.std.specs.Fmt.{decimal}
 use Rattle.std.specs.List.{flat_map}
 use Rattle.gl_model.specs.Trace.{AreVerdicts}
+use Rattle.gl_names.specs.Names.{Naming, name_of}
 use Rattle.gl_trace.specs.Trace.{IsTrace, IsFirstFault}
 use Rattle.gl_trace.specs.Verdicts.{is_race}
 use Rattle.gl_explain.specs.declared.told.Told.{Told}
@@ -15,19 +16,20 @@ use Rattle.gl_explain.specs.Told.{lines_of, trace_of}
 abbrev pub races_in : List Told → ℕ
 races_in told = count_by (λ k. is_race k.judged) told
 
--- the status and the bytes for the lines of a trace, with what the race law says of each: an explanation of each race, in order, and the ending
-pub record ExplainsLines (told : List Told) (status : ℕ) (bytes : List ℕ) : Type 0 where
+-- the status and the bytes for the lines of a trace, with what the race law says of each: an explanation of each race, in order,
+-- with these names, and the ending
+pub record ExplainsLines (names : Naming) (told : List Told) (status : ℕ) (bytes : List ℕ) : Type 0 where
   pub right : AreVerdicts (lines_of told)
   pub explained : List Explanation
   pub are : AreExplained told explained
   pub status_is : status ≡ (if races_in told == 0 then 0 else 6)
-  pub bytes_are : bytes ≡ flat_map explanation_text explained ++ ending_text (races_in told)
+  pub bytes_are : bytes ≡ flat_map (explanation_text names) explained ++ ending_text (races_in told)
 
--- the status and the bytes for a text that is a trace
+-- the status and the bytes for a text that is a trace; the names are those that the text itself gives
 pub record ExplainsTrace (input : List ℕ) (status : ℕ) (bytes : List ℕ) : Type 0 where
   pub told : List Told
   pub meaning : IsTrace input (trace_of told)
-  pub answer : ExplainsLines told status bytes
+  pub answer : ExplainsLines (name_of input) told status bytes
 
 abbrev pub refusal : ℕ → ℕ → List ℕ
 refusal line kind = codes "refused " ++ (decimal line ++ (codes " " ++ (decimal kind ++ codes "\n")))

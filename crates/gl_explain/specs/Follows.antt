@@ -5,6 +5,7 @@ use Rattle.gl_model.specs.declared.row.Judged.{Judged}
 use Rattle.gl_model.specs.Trace.{AreVerdicts}
 use Rattle.gl_trace.specs.Trace.{AreLines}
 use Rattle.gl_trace.specs.TraceLine.{TraceLine}
+use Rattle.gl_names.specs.Names.{name_of}
 use Rattle.gl_explain.specs.declared.told.Told.{Told}
 use Rattle.gl_explain.specs.declared.explainer.Explainer.{Explainer}
 use Rattle.gl_explain.specs.Marks.{AreKept}
@@ -18,7 +19,7 @@ pub record IsTold (done : List Told) (x : Explainer) : Type 0 where
   pub follows : Follows (lines_of done) x.detector
   pub kept : told_of x.kept.items ≡ done
   pub are_kept : AreKept (lines_of done) x.kept.items
-  pub written : IsWritten done (string_bytes x.text)
+  pub written : IsWritten (name_of x.writer.names) done (string_bytes x.writer.text)
 
 -- it is so of some lines, behind which this one stands in a trace
 pub record Awaits (line : TraceLine) (x : Explainer) : Type 0 where

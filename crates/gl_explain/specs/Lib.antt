@@ -5,5 +5,6 @@ pub mod Explained
 pub mod Marks
 pub mod Written
 pub mod Follows
+pub mod Phrases
 pub mod Texts
 pub mod Answers

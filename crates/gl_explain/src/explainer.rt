@@ -15,6 +15,7 @@ ghost use Rattle.gl_model.specs.declared.row.Judged.TheVariants.{Performed, Rais
 ghost use Rattle.gl_trace.specs.Verdicts.{is_race};
 ghost use Rattle.gl_explain.specs.Marks.{Tells, plain_behind};
 ghost use Rattle.gl_explain.specs.Races.{IsCulprit};
+ghost use Rattle.gl_names.specs.Names.{name_of};
 ghost use Rattle.gl_explain.specs.Written.{IsWritten};
 ghost use Rattle.gl_explain.specs.declared.told.Kept.{Kept as AKept};
 ghost use Rattle.gl_explain.specs.Told.{line_of, told_of};
@@ -26,6 +27,7 @@ use crate::text::{push_ending, push_explanation};
 use crate::told::{Kept, Told};
 use gl_core::Detector;
 use gl_model::{Item, Judged, THREADS};
+use gl_names::{Names, names_of};
 use gl_shortcut::Cuts;
 use std::alloc::{AllocError, Global};
 
@@ -70,7 +72,7 @@ fn mark_of(detector: &Detector, told: &Told, own: u32) -> u32
 // Adds the explanation of the line, where it is a race.
 fn explain(
     alloc: Global,
-    text: &mut String,
+    writer: &mut Writer<'_>,
     kept: &[Kept],
     told: &Told,
     known: &[u32; ALL],
@@ -79,12 +81,14 @@ fn explain(
     requires lines { (i : ℕ) (k : AKept) → slice_get kept.now i ≡ Some k → IsLineItem k.told.item }
     requires race { (var : ℕ) → told.now.judged ≡ Raised var → (i : ℕ) × IsCulprit (told_of kept.now) told.now var i }
     requires tells { Tells kept.now told.now known.now }
-    ensures { IsWritten (told_of kept.now) (string_bytes text.old) → OnOk result (IsWritten (told_of kept.now ++ told.now ∷ []) (string_bytes text.new)) }
+    ensures written { IsWritten (name_of writer.old.names) (told_of kept.now) (string_bytes writer.old.text)
+        → OnOk result (IsWritten (name_of writer.new.names) (told_of kept.now ++ told.now ∷ []) (string_bytes writer.new.text)) }
+    ensures names { writer.new.names ≡ writer.old.names }
 {
     match told.judged {
         Judged::Raised { var } => {
             let explanation = explained(alloc, kept, told, var, known)?;
-            push_explanation(text, &explanation)
+            push_explanation(&mut writer.text, &writer.names, &explanation)
         }
         Judged::NoAccess | Judged::Performed => Ok(()),
     }
@@ -99,31 +103,44 @@ fn races(kept: &[Kept]) -> usize
         .count()
 }
 
-// The detector that judges the lines, the lines with their marks, and the text of the explanations so far.
+// The text of the explanations so far, and the names in it.
 #[derive(Drop)]
-pub struct Explainer {
-    detector: Detector,
-    kept: Vec<Kept>,
+pub struct Writer<'a> {
     text: String,
+    names: Names<'a>,
 }
 
-impl Explainer {
-    ghost use Rattle.std.specs.Prelude.{◌≡◌, ◌∷◌, ◌++◌, [], List, IfOk, OnOk};
+// The detector that judges the lines, the lines with their marks, and what is written of them.
+#[derive(Drop)]
+pub struct Explainer<'a> {
+    detector: Detector,
+    kept: Vec<Kept>,
+    writer: Writer<'a>,
+}
+
+impl<'a> Explainer<'a> {
+    ghost use Rattle.std.specs.Prelude.{◌≡◌, ◌<◌, ◌∷◌, ◌++◌, [], List, length, IfOk, OnOk};
     ghost use Rattle.gl_model.specs.TraceSteps.{IsStep};
     ghost use Rattle.gl_trace.specs.Trace.{AreLines};
     ghost use Rattle.gl_explain.specs.declared.told.Told.{Told as ATold};
     ghost use Rattle.gl_explain.specs.Follows.{Awaits, IsTold, IsToldOn};
     ghost use Rattle.gl_explain.specs.Told.{trace_of};
     ghost use Rattle.gl_explain.specs.Answers.{ExplainsLines};
+    ghost use Rattle.gl_names.specs.Names.{name_of};
 
-    // No line was given yet.
-    pub fn new(alloc: Global) -> Result<Explainer, AllocError>
-        ensures { IfOk result (IsTold []) }
+    // No line of the input was given yet.
+    pub fn new(alloc: Global, input: &'a [u8]) -> Result<Explainer<'a>, AllocError>
+        requires { length input.now < u32.MAX }
+        ensures told { IfOk result (IsTold []) }
+        ensures names { IfOk result (λ x. x.writer.names ≡ input.now) }
     {
         Ok(Explainer {
             detector: Detector::new(alloc)?,
             kept: Vec::new(alloc),
-            text: String::new(alloc),
+            writer: Writer {
+                text: String::new(alloc),
+                names: names_of(alloc, input)?,
+            },
         })
     }
 
@@ -139,6 +156,7 @@ impl Explainer {
         requires step { IsStep (thread, item.now) }
         requires awaits { Awaits (line, thread, item.now) self.old }
         ensures told { (done : List ATold) → IsTold done self.old → AreLines (trace_of done ++ (line, thread, item.now) ∷ []) → OnOk result (IsToldOn done (line, thread, item.now) self.new) }
+        ensures names { OnOk result (self.new.writer.names ≡ self.old.writer.names) }
     {
         let own = own_at(&self.detector, thread);
         let known = known_at(&self.detector, thread, item);
@@ -149,21 +167,23 @@ impl Explainer {
             item: *item,
             judged,
         };
-        explain(alloc, &mut self.text, &self.kept, &told, &known)?;
+        explain(alloc, &mut self.writer, &self.kept, &told, &known)?;
         let mark = mark_of(&self.detector, &told, own);
         self.kept.push(Kept { told, own, mark })?;
         Ok(())
     }
 
     // What the lines are answered.
-    pub fn page(mut self) -> Result<Page, AllocError>
-        ensures { (done : List ATold) → IsTold done self → IfOk result (λ p. ExplainsLines done p.status p.text.items) }
+    pub fn page(self) -> Result<Page, AllocError>
+        ensures { (done : List ATold) → IsTold done self.entry → IfOk result (λ p. ExplainsLines (name_of self.entry.writer.names) done p.status p.text.items) }
     {
         let races = races(&self.kept);
-        push_ending(&mut self.text, races)?;
+        let writer = self.writer;
+        let mut text = writer.text;
+        push_ending(&mut text, races)?;
         Ok(Page {
             status: if races == 0 { 0 } else { 6 },
-            text: self.text.into_bytes(),
+            text: text.into_bytes(),
         })
     }
 }

@@ -6,6 +6,7 @@ mod explainer;
 mod owned;
 mod page;
 mod past;
+mod phrases;
 mod races;
 mod text;
 mod told;

@@ -1,103 +1,14 @@
 // The text of an explanation.
-ghost use Rattle.std.specs.Prelude.{◌≡◌, ◌++◌, ◌∷◌, OnOk, string_bytes, codes, if◌then◌else◌};
-ghost use Rattle.std.specs.Fmt.{decimal};
+ghost use Rattle.std.specs.Prelude.{◌≡◌, ◌++◌, OnOk, string_bytes};
 ghost use Rattle.std.specs.List.{flat_map};
-ghost use Rattle.gl_model.specs.Trace.{is_in};
-ghost use Rattle.gl_explain.specs.Texts.{act_text, access_text, item_text, touch_text, head_text, told_text, racing_text, others_text, monitor_text, monitors_text, owned_text, two_text, told_line, handed_text, learnt_text, lines_text, facts_text, explanation_text, ending_text};
+ghost use Rattle.gl_names.specs.Names.{name_of};
+ghost use Rattle.gl_explain.specs.Texts.{others_text, monitor_text, monitors_text, owned_text, did_text, handed_text, last_text, learnt_text, lines_text, facts_text, explanation_text, ending_text};
 
+use crate::phrases::{push_number, push_racing, push_thing, push_thread, push_told_line};
 use crate::told::{Explanation, Told};
-use gl_model::{Act, Item, VarSet};
+use gl_names::{Kind, Names};
 use itoa::Buffer;
 use std::alloc::AllocError;
-
-// Adds a word and a number behind it.
-fn push_number(out: &mut String, word: &str, number: u32) -> Result<(), AllocError>
-    ensures { OnOk result (string_bytes out.new ≡ string_bytes out.old ++ (word.now ++ decimal number)) }
-{
-    out.push_str(word)?;
-    out.push_str(Buffer::new().format(number))
-}
-
-fn push_act(out: &mut String, act: Act) -> Result<(), AllocError>
-    ensures { OnOk result (string_bytes out.new ≡ string_bytes out.old ++ act_text act) }
-{
-    match act {
-        Act::Begin(_) => out.push_str("begins"),
-        Act::End => out.push_str("ends"),
-        Act::Acq(monitor) => push_number(out, "acquires monitor ", u32::from(monitor)),
-        Act::Rel(monitor) => push_number(out, "releases monitor ", u32::from(monitor)),
-        Act::VRead(volatile) => push_number(out, "reads volatile ", u32::from(volatile)),
-        Act::VWrite(volatile) => push_number(out, "writes volatile ", u32::from(volatile)),
-        Act::Fork { child, .. } => push_number(out, "forks thread ", u32::from(child)),
-        Act::Join(other) => push_number(out, "joins thread ", u32::from(other)),
-        Act::Alloc(_) => out.push_str("allocates"),
-        Act::Print => out.push_str("prints"),
-        Act::Input => out.push_str("takes input"),
-        Act::Fail(_) => out.push_str("fails"),
-    }
-}
-
-fn push_access(out: &mut String, write: bool, var: u16) -> Result<(), AllocError>
-    ensures { OnOk result (string_bytes out.new ≡ string_bytes out.old ++ access_text write var) }
-{
-    if write {
-        push_number(out, "writes variable ", u32::from(var))
-    } else {
-        push_number(out, "reads variable ", u32::from(var))
-    }
-}
-
-fn push_item(out: &mut String, item: &Item) -> Result<(), AllocError>
-    ensures { OnOk result (string_bytes out.new ≡ string_bytes out.old ++ item_text item.now) }
-{
-    match item {
-        Item::Act(act) => push_act(out, *act),
-        Item::Access { var, write } => push_access(out, *write, *var),
-        Item::Commit { .. } => out.push_str("commits"),
-    }
-}
-
-fn has(variables: &VarSet, var: u16) -> bool
-    ensures { result ≡ is_in var variables.now }
-{
-    variables.has(var)
-}
-
-// What a line does to the variable.
-fn push_touch(out: &mut String, var: u16, item: &Item) -> Result<(), AllocError>
-    ensures { OnOk result (string_bytes out.new ≡ string_bytes out.old ++ touch_text var item.now) }
-{
-    match item {
-        Item::Act(act) => push_act(out, *act),
-        Item::Access { var: own, write } => push_access(out, *write, *own),
-        Item::Commit { writes, .. } => {
-            out.push_str("commits and ")?;
-            push_access(out, has(writes, var), var)
-        }
-    }
-}
-
-fn push_head(out: &mut String, told: &Told) -> Result<(), AllocError>
-    ensures { OnOk result (string_bytes out.new ≡ string_bytes out.old ++ head_text told.now) }
-{
-    push_number(out, "line ", told.line)?;
-    push_number(out, ": thread ", u32::from(told.thread))?;
-    out.push_str(" ")
-}
-
-fn push_told(out: &mut String, told: &Told) -> Result<(), AllocError>
-    ensures { OnOk result (string_bytes out.new ≡ string_bytes out.old ++ told_text told.now) }
-{
-    push_head(out, told)?;
-    push_item(out, &told.item)
-}
-
-fn push_racing(out: &mut String, var: u16, told: &Told) -> Result<(), AllocError>
-    ensures { OnOk result (string_bytes out.new ≡ string_bytes out.old ++ racing_text var told.now) }
-{
-    push_head(out, told)?;
-    push_touch(out, var, &told.item)
-}
 
 fn push_others(out: &mut String, others: usize) -> Result<(), AllocError>
     ensures { OnOk result (string_bytes out.new ≡ string_bytes out.old ++ others_text others) }
@@ -111,143 +22,130 @@ fn push_others(out: &mut String, others: usize) -> Result<(), AllocError>
 }
 
 // Each monitor behind the first.
-fn push_more(out: &mut String, monitors: &[u16]) -> Result<(), AllocError>
-    ensures { OnOk result (string_bytes out.new ≡ string_bytes out.old ++ flat_map monitor_text monitors.now) }
+fn push_more(out: &mut String, names: &Names<'_>, monitors: &[u16]) -> Result<(), AllocError>
+    ensures { OnOk result (string_bytes out.new ≡ string_bytes out.old ++ flat_map (monitor_text (name_of names.now)) monitors.now) }
 {
     for monitor in monitors {
-        push_number(out, ", monitor ", u32::from(*monitor))?;
+        push_thing(out, ", monitor ", names, Kind::Monitor, *monitor)?;
     }
     Ok(())
 }
 
-fn push_monitors(out: &mut String, monitors: &[u16]) -> Result<(), AllocError>
-    ensures { OnOk result (string_bytes out.new ≡ string_bytes out.old ++ monitors_text monitors.now) }
+fn push_monitors(out: &mut String, names: &Names<'_>, monitors: &[u16]) -> Result<(), AllocError>
+    ensures { OnOk result (string_bytes out.new ≡ string_bytes out.old ++ monitors_text (name_of names.now) monitors.now) }
 {
     match monitors {
         [] => out.push_str("no monitor"),
         [first, more @ ..] => {
-            push_number(out, "monitor ", u32::from(*first))?;
-            push_more(out, more)
+            push_thing(out, "monitor ", names, Kind::Monitor, *first)?;
+            push_more(out, names, more)
         }
     }
 }
 
-fn push_owned(out: &mut String, told: &Told, monitors: &[u16]) -> Result<(), AllocError>
-    ensures { OnOk result (string_bytes out.new ≡ string_bytes out.old ++ owned_text told.now monitors.now) }
+fn push_owned(
+    out: &mut String,
+    names: &Names<'_>,
+    told: &Told,
+    monitors: &[u16],
+) -> Result<(), AllocError>
+    ensures { OnOk result (string_bytes out.new ≡ string_bytes out.old ++ owned_text (name_of names.now) told.now monitors.now) }
 {
     push_number(out, "  in line ", told.line)?;
-    push_number(out, " thread ", u32::from(told.thread))?;
+    push_thread(out, " thread ", names, told.thread)?;
     out.push_str(" owns ")?;
-    push_monitors(out, monitors)?;
+    push_monitors(out, names, monitors)?;
     out.push_str("\n")
 }
 
-// Adds two numbers between words.
-fn push_two(
-    out: &mut String,
-    first: &str,
-    a: u32,
-    second: &str,
-    b: u32,
-    third: &str,
-) -> Result<(), AllocError>
-    ensures { OnOk result (string_bytes out.new ≡ string_bytes out.old ++ two_text first.now a second.now b third.now) }
+// What was done in the line.
+fn push_did(out: &mut String, names: &Names<'_>, told: &Told) -> Result<(), AllocError>
+    ensures { OnOk result (string_bytes out.new ≡ string_bytes out.old ++ did_text (name_of names.now) told.now) }
 {
-    push_number(out, first, a)?;
-    push_number(out, second, b)?;
-    out.push_str(third)
+    push_thread(out, "  what thread ", names, told.thread)?;
+    push_number(out, " did in line ", told.line)
 }
 
-fn push_told_line(out: &mut String, told: &Told) -> Result<(), AllocError>
-    ensures { OnOk result (string_bytes out.new ≡ string_bytes out.old ++ told_line told.now) }
-{
-    push_told(out, told)?;
-    out.push_str("\n")
-}
-
-// Adds two numbers between words, and a line behind that.
-fn push_with_line(
+fn push_handed(
     out: &mut String,
-    first: &str,
-    a: u32,
-    second: &str,
-    b: u32,
-    third: &str,
+    names: &Names<'_>,
     told: &Told,
+    handed: &Option<Told>,
 ) -> Result<(), AllocError>
-    ensures { OnOk result (string_bytes out.new ≡ string_bytes out.old ++ (two_text first.now a second.now b third.now ++ told_line told.now)) }
+    ensures { OnOk result (string_bytes out.new ≡ string_bytes out.old ++ handed_text (name_of names.now) told.now handed.now) }
 {
-    push_two(out, first, a, second, b, third)?;
-    push_told_line(out, told)
-}
-
-fn push_handed(out: &mut String, told: &Told, handed: &Option<Told>) -> Result<(), AllocError>
-    ensures { OnOk result (string_bytes out.new ≡ string_bytes out.old ++ handed_text told.now handed.now) }
-{
-    let first = "  what thread ";
-    let thread = u32::from(told.thread);
-    let second = " did in line ";
+    push_did(out, names, told)?;
     match handed {
-        None => {
-            let third = " is handed on in no later line\n";
-            push_two(out, first, thread, second, told.line, third)
-        }
+        None => out.push_str(" is handed on in no later line\n"),
         Some(found) => {
-            let third = " is first handed on in ";
-            push_with_line(out, first, thread, second, told.line, third, found)
+            out.push_str(" is first handed on in ")?;
+            push_told_line(out, names, found)
         }
     }
+}
+
+// The last line of the thread that leads to the line.
+fn push_last(out: &mut String, names: &Names<'_>, thread: u8, told: &Told) -> Result<(), AllocError>
+    ensures { OnOk result (string_bytes out.new ≡ string_bytes out.old ++ last_text (name_of names.now) thread told.now) }
+{
+    push_thread(out, "  the last line of thread ", names, thread)?;
+    push_number(out, " that leads to line ", told.line)
 }
 
 fn push_learnt(
     out: &mut String,
+    names: &Names<'_>,
     thread: u8,
     told: &Told,
     learnt: &Option<Told>,
 ) -> Result<(), AllocError>
-    ensures { OnOk result (string_bytes out.new ≡ string_bytes out.old ++ learnt_text thread told.now learnt.now) }
+    ensures { OnOk result (string_bytes out.new ≡ string_bytes out.old ++ learnt_text (name_of names.now) thread told.now learnt.now) }
 {
-    let thread = u32::from(thread);
     match learnt {
         None => {
-            let first = "  no line of thread ";
-            push_two(out, first, thread, " leads to line ", told.line, "\n")
+            push_thread(out, "  no line of thread ", names, thread)?;
+            push_number(out, " leads to line ", told.line)?;
+            out.push_str("\n")
         }
         Some(found) => {
-            let first = "  the last line of thread ";
-            let second = " that leads to line ";
-            push_with_line(out, first, thread, second, told.line, " is ", found)
+            push_last(out, names, thread, told)?;
+            out.push_str(" is ")?;
+            push_told_line(out, names, found)
         }
     }
 }
 
 // The two lines that race.
-fn push_lines(out: &mut String, e: &Explanation) -> Result<(), AllocError>
-    ensures { OnOk result (string_bytes out.new ≡ string_bytes out.old ++ lines_text e.now) }
+fn push_lines(out: &mut String, names: &Names<'_>, e: &Explanation) -> Result<(), AllocError>
+    ensures { OnOk result (string_bytes out.new ≡ string_bytes out.old ++ lines_text (name_of names.now) e.now) }
 {
-    push_racing(out, e.var, &e.at)?;
+    push_racing(out, names, e.var, &e.at)?;
     out.push_str("\n  races with ")?;
-    push_racing(out, e.var, &e.other)?;
+    push_racing(out, names, e.var, &e.other)?;
     out.push_str("\n")
 }
 
 // What is said of them.
-fn push_facts(out: &mut String, e: &Explanation) -> Result<(), AllocError>
-    ensures { OnOk result (string_bytes out.new ≡ string_bytes out.old ++ facts_text e.now) }
+fn push_facts(out: &mut String, names: &Names<'_>, e: &Explanation) -> Result<(), AllocError>
+    ensures { OnOk result (string_bytes out.new ≡ string_bytes out.old ++ facts_text (name_of names.now) e.now) }
 {
     push_others(out, e.others)?;
-    push_owned(out, &e.at, &e.owned)?;
-    push_owned(out, &e.other, &e.other_owned)?;
-    push_handed(out, &e.other, &e.handed)?;
-    push_learnt(out, e.other.thread, &e.at, &e.learnt)
+    push_owned(out, names, &e.at, &e.owned)?;
+    push_owned(out, names, &e.other, &e.other_owned)?;
+    push_handed(out, names, &e.other, &e.handed)?;
+    push_learnt(out, names, e.other.thread, &e.at, &e.learnt)
 }
 
 /// Adds an explanation.
-pub fn push_explanation(out: &mut String, e: &Explanation) -> Result<(), AllocError>
-    ensures { OnOk result (string_bytes out.new ≡ string_bytes out.old ++ explanation_text e.now) }
+pub fn push_explanation(
+    out: &mut String,
+    names: &Names<'_>,
+    e: &Explanation,
+) -> Result<(), AllocError>
+    ensures { OnOk result (string_bytes out.new ≡ string_bytes out.old ++ explanation_text (name_of names.now) e.now) }
 {
-    push_lines(out, e)?;
-    push_facts(out, e)
+    push_lines(out, names, e)?;
+    push_facts(out, names, e)
 }
 
 /// Adds the end of the text.

@@ -8,7 +8,7 @@ use gl_shortcut::Cuts;
 use gl_trace::{NO_ITEM, TraceReader};
 use std::alloc::{AllocError, Global};
 
-/// What a trace text is answered: why each of its races is one, or its first fault.
+/// What a trace text is answered: why each of its races is one, with the names that the text gives, or its first fault.
 pub fn explain_text(alloc: Global, input: &[u8], cuts: &Cuts) -> Result<Page, AllocError>
     ensures { IfOk result (λ p. ExplainsText input.now p.status p.text.items) }
 {
@@ -16,7 +16,7 @@ pub fn explain_text(alloc: Global, input: &[u8], cuts: &Cuts) -> Result<Page, Al
         Ok(reader) => reader,
         Err(fault) => return refused(alloc, fault.line, fault.kind),
     };
-    let mut explainer = Explainer::new(alloc)?;
+    let mut explainer = Explainer::new(alloc, input)?;
     let mut item = NO_ITEM;
     loop {
         match reader.next_line(&mut item) {

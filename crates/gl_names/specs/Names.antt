@@ -60,6 +60,10 @@ abbrev pub name_in : Kind → ℕ → List (List ℕ) → Option (List ℕ)
 name_in kind id [] = None
 name_in kind id (line ∷ rest) = option_or (naming kind id line) (name_in kind id rest)
 
--- the name that a text gives to this one of the kind
-abbrev pub name_of : List ℕ → Kind → ℕ → Option (List ℕ)
+-- the names of the things of each kind, by their numbers
+abbrev pub Naming : Type 0
+Naming = Kind → ℕ → Option (List ℕ)
+
+-- the names that a text gives
+abbrev pub name_of : List ℕ → Naming
 name_of text kind id = name_in kind id (lines text)

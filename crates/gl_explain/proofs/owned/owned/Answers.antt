@@ -1,4 +1,4 @@
-use Rattle.std.proofs.Common.{◌≡◌, ◌≤◌, ◌+◌, ◌++◌, ◌∷◌, [], ◌<◌, arith, rules, sym, subst, ◌∙◌, true, false}
+use Rattle.std.proofs.Common.{◌≡◌, ◌+◌, ◌++◌, ◌∷◌, [], arith, rules, sym, subst, ◌∙◌}
 use Rattle.gl_model.specs.declared.limits.TheConstants.{MONITORS}
 use Rattle.gl_explain.specs.Told.{told_of}
 use Rattle.gl_explain.proofs.Behind.{steps_near}

@@ -1,4 +1,4 @@
-use Rattle.std.proofs.Common.{◌≡◌, ◌≤◌, ◌<◌, arith, sym}
+use Rattle.std.proofs.Common.{arith, sym}
 use Rattle.gl_explain.specs.Explained.{is_handing}
 use Rattle.gl_explain.proofs.Counting.{known_at}
 use Rattle.gl_explain.proofs.Behind.{none_on, first_found, none_found}

@@ -1,4 +1,4 @@
-use Rattle.std.proofs.Common.{◌≡◌, ◌≤◌, ◌+◌, ℕ, ◌<◌, arith}
+use Rattle.std.proofs.Common.{ℕ, arith}
 use Rattle.gl_explain.specs.Races.{IsPassed}
 use Rattle.gl_explain.proofs.Counting.{last_new, last_on, last_all, known_at}
 use Rattle.gl_explain.proofs.Behind.{passed_no, passed_near}

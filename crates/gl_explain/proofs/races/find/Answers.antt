@@ -1,4 +1,4 @@
-use Rattle.std.proofs.Common.{◌≡◌, ◌≤◌, ◌+◌, ℕ, ◌<◌, arith}
+use Rattle.std.proofs.Common.{ℕ, arith}
 use Rattle.gl_explain.specs.Races.{IsUnknown, none_yet, one_more, not_one}
 use Rattle.gl_explain.proofs.Counting.{last_new, last_on, last_all, known_at, unknown_no, unknown_near}
 use Rattle.gl_explain.proofs.races.find.Goals.{then-is_unknown, else-is_unknown}

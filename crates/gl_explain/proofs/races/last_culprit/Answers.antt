@@ -1,4 +1,4 @@
-use Rattle.std.proofs.Common.{◌≡◌, ◌≤◌, ◌+◌, ◌-◌, ℕ, ◌<◌, length, arith, subst, Some, rules}
+use Rattle.std.proofs.Common.{◌≡◌, ◌+◌, ◌-◌, ℕ, length, arith, subst, Some, rules}
 use Rattle.gl_explain.specs.Races.{Counts, IsLastOf, IsUnknown}
 use Rattle.gl_explain.proofs.Counting.{last_there, count_there, unknown_near}
 use Rattle.gl_explain.proofs.races.last_culprit.Goals as goal

@@ -1,7 +1,9 @@
-use Rattle.std.proofs.Common.{◌++◌, ◌∷◌, [], inl}
+use Rattle.std.proofs.Common.{◌++◌, ◌∷◌, [], ◌∙◌, inl, subst}
 use Rattle.gl_trace.specs.Reads.{IsReadTo}
 use Rattle.gl_trace.specs.TraceLine.{TraceLine}
 use Rattle.gl_trace.specs.Trace.{IsTrace}
+use Rattle.gl_names.specs.Names.{name_of}
+use Rattle.gl_explain.specs.Answers.{ExplainsLines}
 use Rattle.gl_explain.specs.Told.{trace_of}
 use Rattle.gl_explain.proofs.Reading.{taken_on, more_if_ok}
 use Rattle.gl_explain.proofs.whole.explain_text.Goals as goal
@@ -21,12 +23,16 @@ loop-line-preserved g c =
     let next : IsReadTo c.args.input.now (trace_of before.done ++ line ∷ []) c.next_line.new.self =
     rw c.in-Ok-Some.field-0-is at (c.in-Ok-Some.ensures.line c.args.input.now (trace_of before.done) before.read) in
     taken_on c.args.input.now before.done line c.next_line.new.self c.take.new.self next
-    (c.in_ok-take-in-Ok-Some.ensures.told before.done before.told next.reads.well)
+    (c.in_ok-take-in-Ok-Some.ensures.told before.done before.told next.reads.well) (c.in_ok-take-in-Ok-Some.ensures.names ∙ before.named)
 
 pub returns-in-Ok-None : goal.returns-in-Ok-None
 returns-in-Ok-None g c =
     let before = c.loop-line.invariant in
     let meaning : IsTrace c.args.input.now (trace_of before.done) =
     rw c.in-Ok-None.field-0-is at (c.in-Ok-None.ensures.line c.args.input.now (trace_of before.done) before.read) in
-    more_if_ok _ _ c.page.result (λ p answer. inl (record { told = before.done; meaning = meaning; answer = answer }))
+    more_if_ok _ _ c.page.result (λ p answer. inl (record {
+      told = before.done;
+      meaning = meaning;
+      answer = subst (λ text. ExplainsLines (name_of text) before.done p.status p.text.items) before.named answer;
+    }))
     (c.page.ensures before.done before.told)

@@ -6,6 +6,7 @@ use Rattle.gl_explain.specs.declared.told.Told.{Told}
 use Rattle.gl_explain.specs.declared.told.Kept.{Kept}
 use Rattle.gl_explain.specs.Marks.{Tells}
 use Rattle.gl_explain.specs.Races.{IsCulprit}
+use Rattle.gl_names.specs.Names.{name_of}
 use Rattle.gl_explain.specs.Told.{told_of}
 use Rattle.gl_explain.specs.Written.{IsWritten}
 use Rattle.gl_explain.proofs.Steps.{known_facts, told_on}
@@ -47,15 +48,16 @@ returns g c = record {
       let f = known_facts kept done t c.known_at-known.result c.args.self.now.detector c.step.new.self x.kept lines x.right x.follows
       x.are_kept c.in_ok-judged.ensures.right c.known_at-known.ensures in
       let items : c.push.new.self.items ≡ c.args.self.now.kept.items ++ k ∷ [] = search rules in
-      let was : IsWritten (told_of c.deref.result.now) (string_bytes c.args.self.now.text) =
-      subst (λ ks. IsWritten (told_of ks) (string_bytes c.args.self.now.text)) (sym c.deref.ensures.value)
-      (subst (λ ds. IsWritten ds (string_bytes c.args.self.now.text)) (sym x.kept) x.written) in
-      let written : IsWritten (told_of kept ++ t ∷ []) (string_bytes c.explain.new.text) =
-      subst (λ ks. IsWritten (told_of ks ++ t ∷ []) (string_bytes c.explain.new.text)) c.deref.ensures.value
-      (c.in_ok-explain.ensures was) in (
+      let was : IsWritten (name_of c.args.self.now.writer.names) (told_of c.deref.result.now) (string_bytes c.args.self.now.writer.text) =
+      subst (λ ks. IsWritten (name_of c.args.self.now.writer.names) (told_of ks) (string_bytes c.args.self.now.writer.text)) (sym c.deref.ensures.value)
+      (subst (λ ds. IsWritten (name_of c.args.self.now.writer.names) ds (string_bytes c.args.self.now.writer.text)) (sym x.kept) x.written) in
+      let written : IsWritten (name_of c.explain.new.writer.names) (told_of kept ++ t ∷ []) (string_bytes c.explain.new.writer.text) =
+      subst (λ ks. IsWritten (name_of c.explain.new.writer.names) (told_of ks ++ t ∷ []) (string_bytes c.explain.new.writer.text)) c.deref.ensures.value
+      (c.in_ok-explain.ensures.written was) in (
         c.in_ok-judged.judged,
         told_on kept done t c.known_at-known.result c.own_at-own.result c.mark_of-mark.result c.args.self.now.detector
-            (record { detector = c.step.new.self; kept = c.push.new.self; text = c.explain.new.text })
+            (record { detector = c.step.new.self; kept = c.push.new.self; writer = c.explain.new.writer })
             x.kept x.follows x.are_kept f c.in_ok-judged.ensures.ready items c.own_at-own.ensures c.mark_of-mark.ensures written,
       );
+  names = c.in_ok-explain.ensures.names;
 }

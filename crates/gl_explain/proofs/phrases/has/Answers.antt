@@ -1,7 +1,7 @@
 use Rattle.gl_draws.proofs.EntryKinds.{is_in-contains, contains-is_in}
 use Rattle.gl_model.specs.Trace.{is_in}
 use Rattle.gl_explain.proofs.Truths.{same_bool}
-use Rattle.gl_explain.proofs.text.has.Goals as goal
+use Rattle.gl_explain.proofs.phrases.has.Goals as goal
 
 pub returns : goal.returns
 returns c = same_bool c.has.result (is_in c.args.var c.args.variables.now) (
