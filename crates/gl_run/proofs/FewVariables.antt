@@ -538,23 +538,24 @@ run_few P steps t es runs =
 -- ## The record
 
 -- what holds of the list of each thread that has one holds of each list
-lists_few : (ls : List (ℕ × List Entry)) → IsRecord ls → ((t : ℕ) → lists_of ls t ≢ [] → AllByRecursion NamesFew (lists_of ls t))
-    → AllEntries NamesFew ls
-lists_few [] is all = tt
-lists_few (l ∷ ls) is all = (
-  subst (AllByRecursion NamesFew) (first_list l ls l.0 refl)
+pub lists_all : (P : Entry → Type 0) (ls : List (ℕ × List Entry)) → IsRecord ls
+    → ((t : ℕ) → lists_of ls t ≢ [] → AllByRecursion P (lists_of ls t))
+    → AllEntries P ls
+lists_all P [] is all = tt
+lists_all P (l ∷ ls) is all = (
+  subst (AllByRecursion P) (first_list l ls l.0 refl)
       (all l.0 (λ none. some_entry l.1 is.1.0.1 (sym (first_list l ls l.0 refl) ∙ none))),
-  lists_few ls (is.0.1, is.1.1) behind,
+  lists_all P ls (is.0.1, is.1.1) behind,
 ) where
-  behind : (t : ℕ) → lists_of ls t ≢ [] → AllByRecursion NamesFew (lists_of ls t)
+  behind : (t : ℕ) → lists_of ls t ≢ [] → AllByRecursion P (lists_of ls t)
   behind t some =
       let other : (l.0 ≡ t) → ⊥ = λ same. some (ap (lists_of ls) (sym same) ∙ no_list ls l.0 is.0.0) in
       let here : lists_of (l ∷ ls) t ≡ lists_of ls t = other_list l ls t other in
-      subst (AllByRecursion NamesFew) here (all t (λ none. some (sym here ∙ none)))
+      subst (AllByRecursion P) here (all t (λ none. some (sym here ∙ none)))
 
 -- each transaction of a program's run names few variables
 pub run_names_few : (program : Bytecode) (inputs : List ℤ) (options : Options) (made : SealedView) → IsRunOf program inputs options made
     → AllEntries NamesFew made.entries
 run_names_few program inputs options made run =
-    lists_few made.entries run.is
+    lists_all NamesFew made.entries run.is
     (λ t some. run_few program options.steps t (lists_of made.entries t) (run.lawful.runs t some))

@@ -10,3 +10,4 @@ pub mod OneAnswer
 pub mod OneProgram
 pub mod OneAudit
 pub mod OptionWords
+pub mod Stamped

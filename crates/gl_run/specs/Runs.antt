@@ -6,7 +6,6 @@ use Rattle.gl_bytecode.specs.Lawful.{Lawful}
 use Rattle.gl_bytecode.specs.Programs.{Bytecode}
 use Rattle.gl_journal.specs.Meaning.{IsRecordText}
 use Rattle.gl_journal.specs.Rows.{record_text}
-use Rattle.gl_journal.specs.Written.{IsStamped}
 use Rattle.gl_model.specs.Entries.{Entry, Sync, Commit, Plain, Abort, Trim, Over}
 use Rattle.gl_model.specs.Form.{Sparing}
 use Rattle.gl_model.specs.Kept.{IsRecord}
@@ -60,10 +59,9 @@ pub record IsRunOf (program : Bytecode) (inputs : List ℤ) (options : Options) 
 abbrev pub journal_of : RunOptions → List (ℕ × List Entry) → List ℕ
 journal_of asked made = if asked.journal then record_text asked.threads.steps made else []
 
--- the journal is read back as these steps and this record, where a line can say its positions, numbers and low marks
+-- the journal is read back as these steps and this record
 abbrev pub IsReadBack : RunOptions → List (ℕ × List Entry) → Type 0
-IsReadBack asked made =
-    asked.journal ≡ true → IsStamped asked.threads.steps made → IsRecordText (record_text asked.threads.steps made) asked.threads.steps made
+IsReadBack asked made = asked.journal ≡ true → IsRecordText (record_text asked.threads.steps made) asked.threads.steps made
 
 -- what is written of a run: its report, and then its journal
 abbrev pub run_text : RunOptions → List (ℕ × List Entry) → List ℕ

@@ -2,7 +2,8 @@
 ghost use Rattle.std.specs.Prelude.{◌≡◌, ◌++◌, ℤ, List, IfOk, OnOk, map};
 ghost use Rattle.std.specs.List.{list_any};
 ghost use Rattle.gl_bytecode.specs.Programs.{Bytecode};
-ghost use Rattle.gl_journal.specs.Written.{AllEntries, NamesFew};
+ghost use Rattle.gl_journal.specs.Written.{AllEntries, IsStamped, NamesFew};
+ghost use Rattle.gl_model.specs.Kept.{IsRecord};
 ghost use Rattle.gl_model.specs.Entries.{seen};
 ghost use Rattle.gl_report.specs.Lines.{is_raised};
 ghost use Rattle.gl_threads.specs.Options.{AreOptions};
@@ -71,7 +72,7 @@ fn add_journal(
     made: &Record,
 ) -> Result<(), AllocError>
     ensures text { OnOk result (text.new.items ≡ text.old.items ++ journal_of asked made.now) }
-    ensures read_back { OnOk result (AllEntries NamesFew made.now → IsReadBack asked made.now) }
+    ensures read_back { OnOk result (IsStamped asked.threads.steps made.now → AllEntries NamesFew made.now → IsReadBack asked made.now) }
 {
     if asked.journal {
         let journal = write_record(alloc, asked.threads.steps, made)?;
@@ -81,11 +82,13 @@ fn add_journal(
 }
 
 // The status and the text of a run that left this table. Its entries are laid out once.
+#[tactic(auto, using(crate::proofs::Stamped::is_stamped))]
 fn told(alloc: Global, asked: RunOptions, sealed: &Sealed) -> Result<(u8, Vec<u8>), AllocError>
+    requires { AreOptions asked.threads }
     ensures status { IfOk result (λ r. r.0 ≡ run_status sealed.now.entries) }
     ensures few { IfOk result (λ r. IsVerdict r.0) }
     ensures text { IfOk result (λ r. r.1.items ≡ run_text asked sealed.now.entries) }
-    ensures read_back { OnOk result (AllEntries NamesFew sealed.now.entries → IsReadBack asked sealed.now.entries) }
+    ensures read_back { OnOk result (IsRecord sealed.now.entries → AllEntries NamesFew sealed.now.entries → IsReadBack asked sealed.now.entries) }
 {
     let entries = entries_of(alloc, sealed.record())?;
     let mut text = report_of_entries(alloc, &entries)?.into_bytes();
@@ -95,6 +98,7 @@ fn told(alloc: Global, asked: RunOptions, sealed: &Sealed) -> Result<(u8, Vec<u8
 
 // The page of a run that left this table.
 fn page_of(alloc: Global, asked: RunOptions, sealed: Sealed) -> Result<Page, AllocError>
+    requires { AreOptions asked.threads }
     ensures answer { (program : Bytecode) (inputs : List ℤ) → IsRunOf program inputs asked.threads sealed → IfOk result (λ p. AnswersRun program inputs asked p.status p.text.items p.kept) }
     ensures status { IfOk result (λ p. IsVerdict p.status) }
 {

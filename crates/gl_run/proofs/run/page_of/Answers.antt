@@ -9,6 +9,7 @@ returns-clause-answer c = λ program inputs run. record {
   run = run;
   status_is = c.in_ok-status.ensures.status;
   bytes_are = c.in_ok-status.ensures.text;
-  read_back = c.in_ok-status.ensures.read_back (run_names_few program inputs c.args.asked.threads c.args.sealed run);
+  read_back = c.in_ok-status.ensures.read_back run.is
+      (run_names_few program inputs c.args.asked.threads c.args.sealed run);
   kept_is = refl;
 }
