@@ -1,5 +1,5 @@
 -- Exchanges of a thread's machine, and the entry that answers it next.
-use Rattle.std.proofs.Common.{◌≡◌, ℕ, true, false, List, [], ◌∷◌, ◌++◌, Option, Some, None, is_some, refl, sym, ◌∙◌, ap, subst, take}
+use Rattle.std.proofs.Common.{◌≡◌, ℕ, false, List, [], ◌∷◌, ◌++◌, Option, Some, None, is_some, refl, ◌∙◌, ap}
 use Rattle.gl_model.specs.Entries.{Entry}
 use Rattle.gl_bytecode.specs.declared.ask.Ask.{Ask}
 use Rattle.gl_bytecode.specs.declared.ask.Ask.TheVariants.{Go, Read, Write, TxBegin, TxEnd}
@@ -13,7 +13,7 @@ use Rattle.gl_bytecode.specs.Runs.{Exchange, Made, Quiet, Progress, entries_of, 
 use Rattle.gl_bytecode.specs.Validity.{IsValid}
 use Rattle.gl_bytecode.proofs.Answers.{no_entry}
 use Rattle.gl_bytecode.proofs.Attending.{attends_on}
-use Rattle.gl_bytecode.proofs.Exchanges.{Told, told_of, told_cons, told_none}
+use Rattle.gl_bytecode.proofs.Exchanges.{told_of, told_cons, told_none}
 use Rattle.gl_follow.proofs.Peeling.{told_more}
 
 -- a new machine of a valid program fits it

@@ -1,9 +1,9 @@
 -- An entry is made by one instruction at most, or by none.
-use Rattle.std.proofs.Common.{◌≡◌, ℕ, zero, suc, List, [], ◌∷◌, ◌++◌, Option, Some, None, refl, sym, ◌∙◌, ap, subst, take}
+use Rattle.std.proofs.Common.{◌≡◌, ℕ, zero, suc, List, [], ◌∷◌, ◌++◌, Option, Some, None, sym, ◌∙◌, ap, subst, take}
 use Rattle.std.specs.Prelude.{slice_get}
 use Rattle.gl_model.specs.Entries.{Entry, Sync, Commit, Plain, Abort, Trim, Over}
 use Rattle.gl_bytecode.specs.Programs.{Bytecode}
-use Rattle.gl_bytecode.specs.Runs.{Exchange, Made, Progress, entries_of, outset, told, told_one, without_trims}
+use Rattle.gl_bytecode.specs.Runs.{Made, Progress, entries_of, outset, told, told_one, without_trims}
 use Rattle.gl_bytecode.specs.Validity.{IsValid}
 use Rattle.gl_bytecode.proofs.Exchanges.{forced}
 use Rattle.gl_follow.specs.Following.{EachBeginsRight}
@@ -54,8 +54,7 @@ module _ (P : Bytecode) (steps t : ℕ) (list : List Entry) (n : ℕ) (valid : I
   -- it is made by one instruction at most
   pub one_site : (f g i j : ℕ) → IsMadeAt P steps t list n f i → IsMadeAt P steps t list n g j → (f ≡ g) × (i ≡ j)
   one_site f g i j one other =
-      let same = one_point one.asking other.asking one.is other.is in
-      (
+      let same = one_point one.asking other.asking one.is other.is in (
         sym one.function ∙ ap (λ (p : Progress). p.config.frame.function) same ∙ other.function,
         sym one.place ∙ ap (λ (p : Progress). p.config.frame.place) same ∙ other.place,
       )

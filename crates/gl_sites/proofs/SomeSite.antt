@@ -1,5 +1,5 @@
 -- Each entry of a list that its machine makes is made by an instruction or by none, or is a note.
-use Rattle.std.proofs.Common.{◌≡◌, ℕ, zero, suc, ◌<◌, List, [], ◌∷◌, ◌++◌, Option, Some, None, length, refl, sym, ◌∙◌, ap, subst, take, inl, inr, arith}
+use Rattle.std.proofs.Common.{◌≡◌, ℕ, zero, suc, ◌<◌, List, [], ◌∷◌, ◌++◌, Some, length, refl, sym, ◌∙◌, ap, subst, take, inl, inr, arith}
 use Rattle.std.specs.Prelude.{◌⊎◌, slice_get}
 use Rattle.std.proofs.lemmas.Option.{slice_get_cases}
 use Rattle.gl_model.specs.Entries.{Entry, Sync, Commit, Plain, Abort, Trim, Over}
@@ -7,7 +7,7 @@ use Rattle.gl_model.specs.Form.{IsOver, IsTrim}
 use Rattle.gl_bytecode.specs.declared.ask.Stage.{Stage}
 use Rattle.gl_bytecode.specs.declared.ask.Stage.TheVariants as stages
 use Rattle.gl_bytecode.specs.Programs.{Bytecode}
-use Rattle.gl_bytecode.specs.Runs.{Along, Exchange, Made, Quiet, Progress, Runs, entries_of, outset, told, told_one, without_trims}
+use Rattle.gl_bytecode.specs.Runs.{Exchange, Made, Quiet, Progress, Runs, entries_of, outset, told, told_one, without_trims}
 use Rattle.gl_bytecode.proofs.Exchanges.{told_cons}
 use Rattle.gl_follow.proofs.Peeling.{told_more}
 use Rattle.gl_sites.specs.Sites.{IsAnswered, IsMadeAt, IsMadeByNone, IsNote, IsOfInstruction}

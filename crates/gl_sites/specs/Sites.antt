@@ -1,5 +1,5 @@
 -- Which instruction made an entry of a thread's list.
-use Rattle.std.specs.Prelude.{◌≡◌, ℕ, ◌<◌, ◌⊎◌, List, length, take, Some}
+use Rattle.std.specs.Prelude.{◌≡◌, ℕ, ◌⊎◌, List, take, Some}
 use Rattle.gl_model.specs.Entries.{Entry}
 use Rattle.gl_model.specs.Form.{IsOver, IsTrim}
 use Rattle.gl_model.specs.Records.{At}
