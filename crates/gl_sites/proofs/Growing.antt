@@ -1,11 +1,9 @@
 -- The instructions of a program's functions, while lines add to it.
-use Rattle.std.proofs.Common.{◌≡◌, ℕ, zero, suc, ◌+◌, ◌<◌, ◌≤◌, List, [], ◌∷◌, ◌++◌, Option, Some, None, length, fold, take, refl, sym, ◌∙◌, ap, subst, inl, inr, arith, length-append}
+use Rattle.std.proofs.Common.{◌≡◌, ℕ, zero, suc, ◌+◌, ◌<◌, List, [], ◌∷◌, ◌++◌, Some, length, fold, take, refl, sym, ap, subst, inl, inr, arith, length-append}
 use Rattle.std.specs.Prelude.{◌⊎◌, slice_get}
-use Rattle.std.proofs.lemmas.Option.{slice_get_within, slice_get_past}
 use Rattle.gl_bytecode.specs.declared.instr.Catch.{Catch}
 use Rattle.gl_bytecode.specs.declared.instr.Instr.{Instr}
-use Rattle.gl_bytecode.specs.Programs.{Draft, Function, with_catch, with_instr, with_last}
-use Rattle.gl_bytecode.proofs.Drafts.{length_with_last}
+use Rattle.gl_bytecode.specs.Programs.{Draft, Function, with_last}
 use Rattle.gl_asm.specs.declared.additions.Addition.{Addition}
 use Rattle.gl_asm.specs.declared.additions.Addition.TheVariants.{Nothing, Class as AddsClass, Function as AddsFunction, Instruction as AddsInstruction, Catch as AddsCatch, Inputs as AddsInputs}
 use Rattle.gl_asm.specs.Code.{code_of}
@@ -162,8 +160,8 @@ pub record ComesAt (D : Draft) (adding : List Addition) (f i : ℕ) : Type 0 whe
   pub comes : Comes (fold added D (take before adding)) addition f i
 
 -- an instruction was there before all additions, or is added by one
-pub comes_from : (D : Draft) (adding : List Addition) (f i : ℕ) (x : Instr) → slice_get (code_at (fold added D adding).functions f) i ≡ Some x
-    → (slice_get (code_at D.functions f) i ≡ Some x) ⊎ ComesAt D adding f i
+pub comes_from : (D : Draft) (adding : List Addition) (f i : ℕ) (x : Instr)
+    → slice_get (code_at (fold added D adding).functions f) i ≡ Some x → (slice_get (code_at D.functions f) i ≡ Some x) ⊎ ComesAt D adding f i
 comes_from D [] f i x is = inl is
 comes_from D (a ∷ adding) f i x is =
     elim (comes_from (added D a) adding f i x is) [

@@ -1,6 +1,6 @@
 -- Each instruction of a program has one line.
 use Rattle.std.proofs.Common.{◌≡◌, ℕ, ℤ, suc, zero, ◌+◌, ◌<◌, ◌≤◌, Bool, true, false, if◌then◌else◌, List, [], ◌∷◌, ◌++◌, Option, Some, None, Ok, Err, length, fold, take, refl, sym, ◌∙◌, ap, subst, inl, inr, arith, nat_lt}
-use Rattle.std.specs.Prelude.{Result, ◌⊎◌, slice_get}
+use Rattle.std.specs.Prelude.{Result, slice_get}
 use Rattle.std.specs.List.{flat_map}
 use Rattle.std.specs.Option.{option_and_then}
 use Rattle.std.specs.Str.Lines.{lines}
@@ -19,8 +19,8 @@ use Rattle.gl_asm.specs.Code.{code_of}
 use Rattle.gl_asm.specs.Definitions.{definitions}
 use Rattle.gl_asm.specs.Forms.{none_yet}
 use Rattle.gl_asm.specs.Texts.{IsText, LineFault, added, built, inputs_in, lines_read, read_from, start, text_read}
-use Rattle.gl_sites.specs.SourceLines.{AddsNext, AreAdded, IsLineOf, draft_by}
-use Rattle.gl_sites.proofs.Growing.{ComesAt, code_at, comes_from, stands_behind}
+use Rattle.gl_sites.specs.SourceLines.{AreAdded, IsLineOf, draft_by}
+use Rattle.gl_sites.proofs.Growing.{code_at, comes_from, stands_behind}
 use Rattle.gl_sites.proofs.Said.{reads_one}
 use Rattle.gl_sites.proofs.Walking.{IsInstruction, of_line}
 

@@ -1,6 +1,6 @@
 -- What the lines of a text that has no fault add.
-use Rattle.std.proofs.Common.{◌≡◌, ℕ, ◌+◌, ◌-◌, Bool, true, false, not, if◌then◌else◌, List, [], ◌∷◌, Option, Some, None, Ok, Err, length, drop, refl, sym, ◌∙◌, ap, subst, nat_lt, is_some}
-use Rattle.std.specs.Prelude.{Result, IfOk, slice_get, ℤ}
+use Rattle.std.proofs.Common.{◌≡◌, ℕ, ◌+◌, ◌-◌, Bool, true, false, not, if◌then◌else◌, List, [], ◌∷◌, Option, Some, None, Ok, Err, length, refl, subst, nat_lt, is_some}
+use Rattle.std.specs.Prelude.{Result, IfOk, slice_get}
 use Rattle.gl_text.specs.Text.{is_bad, words}
 use Rattle.gl_text.specs.declared.kinds.TheConstants.{BAD_BYTE, MISPLACED}
 use Rattle.gl_model.specs.declared.limits.TheConstants.{CLASSES, FUNCTIONS, INPUTS, VARIABLES, VOLATILES}
@@ -19,8 +19,6 @@ use Rattle.gl_asm.specs.Forms.{counted, form_of}
 use Rattle.gl_asm.specs.Words.{operand_of}
 use Rattle.gl_asm.specs.Sayings.{form_says, is_placed, said, words_say}
 use Rattle.gl_asm.specs.Texts.{LineFault, at_line, inputs_in, read_from}
-use Rattle.gl_sites.specs.declared.adding.Adds.{Adds}
-use Rattle.gl_sites.specs.declared.adding.Adds.TheVariants as adds
 use Rattle.gl_sites.specs.Adding.{adds_of, kind_of}
 
 -- what holds of each answer of the second holds of each answer of both
@@ -195,15 +193,17 @@ pub record ReadsOne (table : List Definition) (c : Counts) (line have : ℕ) (te
   pub later : read_from table counts (line + 1) inputs rest ≡ Ok others
 
 -- a list in two parts
-others_ok : {E : Type 0} (a : Addition) (s : Result (List Addition) E) (adding : List Addition) → (s >>= (λ others. Ok (a ∷ others))) ≡ Ok adding
-    → (others : List Addition) × (s ≡ Ok others) × (adding ≡ a ∷ others)
+others_ok : {E : Type 0} (a : Addition) (s : Result (List Addition) E) (adding : List Addition)
+    → (s >>= (λ others. Ok (a ∷ others))) ≡ Ok adding → (others : List Addition) × (s ≡ Ok others) × (adding ≡ a ∷ others)
 others_ok a (Ok others) adding is = (others, refl, cc)
 others_ok a (Err fault) adding is = cc
 
 first_ok : (line : ℕ) (r : Result Addition ℕ) (f : Addition → Result (List Addition) LineFault) (adding : List Addition)
     → (at_line line r >>= (λ a. f a >>= (λ others. Ok (a ∷ others)))) ≡ Ok adding
     → (a : Addition) × (r ≡ Ok a) × (others : List Addition) × (f a ≡ Ok others) × (adding ≡ a ∷ others)
-first_ok line (Ok a) f adding is = (let parts = others_ok a (f a) adding is in (a, refl, parts.0, parts.1, parts.2))
+first_ok line (Ok a) f adding is =
+    let parts = others_ok a (f a) adding is in
+    (a, refl, parts.0, parts.1, parts.2)
 first_ok line (Err kind) f adding is = cc
 
 pub reads_one : (table : List Definition) (c : Counts) (line have : ℕ) (text : List ℕ) (rest : List (List ℕ)) (adding : List Addition)

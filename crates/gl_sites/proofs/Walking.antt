@@ -1,5 +1,5 @@
 -- How far the lines of a text have come, a line at a time.
-use Rattle.std.proofs.Common.{◌≡◌, ℕ, zero, suc, ◌+◌, ◌-◌, ◌<◌, ◌≤◌, Bool, true, false, ◌==◌, ◌&&◌, List, [], ◌∷◌, ◌++◌, Option, Some, None, Ok, Err, length, fold, take, drop, refl, sym, ◌∙◌, ap, subst, inl, inr, arith, length-append, eq-eqb, not, if◌then◌else◌, is_some, bytes_eq}
+use Rattle.std.proofs.Common.{◌≡◌, ℕ, zero, suc, ◌+◌, ◌-◌, ◌<◌, ◌≤◌, Bool, true, false, ◌==◌, ◌&&◌, List, [], ◌∷◌, ◌++◌, Option, Some, None, Ok, length, take, drop, refl, sym, ◌∙◌, ap, subst, inl, inr, arith, length-append, eq-eqb, not, if◌then◌else◌, is_some, bytes_eq}
 use Rattle.std.specs.Prelude.{Result, ◌⊎◌, codes, option_map, slice_get}
 use Rattle.std.specs.List.{before_first}
 use Rattle.std.specs.Str.{IsTrimAscii}
@@ -10,7 +10,7 @@ use Rattle.std.proofs.lemmas.List.Sums.{fold-append}
 use Rattle.gl_text.specs.Numbered.{LinesLeft}
 use Rattle.gl_text.specs.Text.{is_hash, words}
 use Rattle.gl_bytecode.specs.declared.instr.Instr.{Instr}
-use Rattle.gl_bytecode.specs.Programs.{Draft, Function}
+use Rattle.gl_bytecode.specs.Programs.{Draft}
 use Rattle.gl_bytecode.proofs.Drafts.{length_with_last}
 use Rattle.gl_asm.specs.declared.additions.Addition.{Addition}
 use Rattle.gl_asm.specs.declared.additions.Addition.TheVariants.{Nothing, Class as AddsClass, Function as AddsFunction, Instruction as AddsInstruction, Catch as AddsCatch, Inputs as AddsInputs}
@@ -28,7 +28,7 @@ use Rattle.gl_sites.specs.declared.adding.Adds.TheVariants as adds
 use Rattle.gl_sites.specs.Adding.{adds_of, finds, functions_after, instructions_after, kind_of, name_after, word_adds, words_add}
 use Rattle.gl_sites.specs.SourceLines.{AddsNext, AreAdded, IsLineOf, IsNameOf, IsSourceOf, draft_by}
 use Rattle.gl_sites.proofs.Growing.{code_at, longer_by_one, same_with_catch, same_with_function}
-use Rattle.gl_sites.proofs.Said.{HasSecond, IsSaid, ReadsOne, reads_one}
+use Rattle.gl_sites.proofs.Said.{HasSecond, ReadsOne, reads_one}
 
 -- ## Lists that are cut
 

@@ -1,5 +1,5 @@
 -- Which line of a program's text adds an instruction, and how it is quoted.
-use Rattle.std.specs.Prelude.{◌≡◌, ℕ, ◌+◌, List, fold, length, take, slice_get, Option, Some, Ok}
+use Rattle.std.specs.Prelude.{◌≡◌, ℕ, ◌+◌, List, fold, length, take, slice_get, Some, Ok}
 use Rattle.std.specs.List.{before_first}
 use Rattle.std.specs.Str.{IsTrimAscii}
 use Rattle.std.specs.Str.Lines.{lines}

@@ -7,5 +7,5 @@ mod source;
 #[cfg(test)]
 mod tests;
 
-pub use laws::each_instruction_has_one_line;
+pub use laws::{each_entry_has_one_maker, each_instruction_has_one_line};
 pub use source::{SourceLine, line_of};

@@ -1,4 +1,4 @@
-use Rattle.std.proofs.Common.{◌≡◌, ◌+◌, true, false, [], ap, sym, subst, ◌∙◌}
+use Rattle.std.proofs.Common.{◌≡◌, true, false, [], ap, sym, subst, ◌∙◌}
 use Rattle.std.specs.List.{before_first}
 use Rattle.std.specs.Str.{IsTrimAscii}
 use Rattle.gl_text.specs.Text.{is_hash}
