@@ -1,0 +1,12 @@
+mod Answering
+mod BlockRows
+mod Blocks
+mod EntryTests
+mod Kept
+mod Numbered
+mod Orders
+mod Racing
+mod Single
+mod Standing
+mod Telling
+mod Walks

@@ -1,0 +1,6 @@
+pub mod Causes
+pub mod Finding
+pub mod Judging
+pub mod Learning
+pub mod Rows
+pub mod Stands
