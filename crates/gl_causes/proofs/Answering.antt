@@ -1,9 +1,9 @@
 -- From what is found of the refused entries to their causes.
-use Rattle.std.proofs.Common.{◌≡◌, ◌≢◌, ℕ, zero, suc, ◌+◌, ◌^◌, ◌<◌, ◌≤◌, List, [], ◌∷◌, length, map, get_or, Bool, true, false, refl, ap, sym, ◌∙◌, subst, inl, inr, arith, Some, None}
-use Rattle.std.specs.Prelude.{ℤ, ◌⊎◌, ◌↔◌, Contains, Option, if◌then◌else◌, is_some, slice_get}
+use Rattle.std.proofs.Common.{◌≡◌, ℕ, zero, suc, ◌+◌, ◌^◌, ◌<◌, List, [], ◌∷◌, length, map, Bool, true, false, refl, ap, sym, ◌∙◌, subst, inl, inr, arith, Some, None}
+use Rattle.std.specs.Prelude.{ℤ, Contains, Option, if◌then◌else◌, is_some, slice_get}
 use Rattle.std.proofs.lemmas.List.{length-map}
-use Rattle.std.proofs.lemmas.Option.{slice_get_within, slice_get-get_or, slice_get_cases, get_or_from_slice_get, slice_get-map}
-use Rattle.gl_draws.proofs.Sets.{contains_map, map_contains}
+use Rattle.std.proofs.lemmas.Option.{slice_get_within, slice_get-get_or, get_or_from_slice_get}
+use Rattle.gl_draws.proofs.Sets.{map_contains}
 use Rattle.gl_laws.proofs.Bridge.{same_entry}
 use Rattle.gl_model.specs.declared.event.Stamp.{Stamp}
 use Rattle.gl_model.specs.declared.limits.TheConstants.{THREADS}
@@ -18,14 +18,14 @@ use Rattle.gl_places.specs.Places.{Before, seen}
 use Rattle.gl_raised.specs.Accesses.{raised_on}
 use Rattle.gl_raised.specs.RaceFaults.{AreSteps}
 use Rattle.gl_causes.specs.Causes.{AreCauses, AreRaces, IsCause, RacesWith}
-use Rattle.gl_causes.specs.Finding.{AreFound, HasRace, HaveRaces, IsAsked, IsOfRefused}
+use Rattle.gl_causes.specs.Finding.{AreFound, HaveRaces, IsOfRefused}
 use Rattle.gl_causes.specs.Judging.{race_number, races_among, refusal_of}
 use Rattle.gl_causes.specs.Rows.{AreBlockClocks}
 use Rattle.gl_causes.specs.Stands.{AreOfThreads, AreStands, IsStand, Stand}
 use Rattle.gl_causes.specs.declared.cause.Cause.{Cause}
 use Rattle.gl_causes.specs.declared.races.Asked.{Asked}
 use Rattle.gl_causes.specs.declared.refusals.Refusal.{Refusal}
-use Rattle.gl_causes.proofs.EntryTests.{IsRefused, refusal_means, refusal_there}
+use Rattle.gl_causes.proofs.EntryTests.{refusal_means, refusal_there}
 use Rattle.gl_causes.proofs.Racing.{race_in, race_out, some_race}
 use Rattle.gl_causes.proofs.Telling.{Laid, stand_of}
 

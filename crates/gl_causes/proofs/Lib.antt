@@ -5,6 +5,7 @@ mod EntryTests
 mod Kept
 mod Numbered
 mod Orders
+mod Owning
 mod Racing
 mod Single
 mod Standing

@@ -1,24 +1,20 @@
 -- The entries that are found to race with a refused one are those that it races with.
-use Rattle.std.proofs.Common.{◌≡◌, ◌≢◌, ℕ, suc, ◌+◌, ◌^◌, ◌<◌, ◌≤◌, ◌==◌, List, length, Bool, true, false, refl, ap, sym, ◌∙◌, subst, inl, inr, arith, Some, None, eq-eqb}
-use Rattle.std.specs.Prelude.{ℤ, ◌⊎◌, ◌↔◌, ◌&&◌, ◌||◌, Contains, Option, if◌then◌else◌, nat_le, nat_lt, not, slice_get, unwrap_or}
+use Rattle.std.proofs.Common.{◌≡◌, ◌≢◌, ℕ, ◌+◌, ◌<◌, ◌≤◌, ◌==◌, List, Bool, true, false, refl, ap, sym, ◌∙◌, subst, inl, inr, arith, Some, None, eq-eqb}
+use Rattle.std.specs.Prelude.{ℤ, ◌⊎◌, ◌↔◌, ◌||◌, Option, if◌then◌else◌, nat_le, nat_lt, not, slice_get}
 use Rattle.std.proofs.Math.Nat.{eq-or-lt_of_le}
 use Rattle.std.proofs.lemmas.Bool.{cases_lt, eqb-true, ltb-true, lt-ltb}
 use Rattle.std.proofs.lemmas.Bool.Decides.{nat_tests}
 use Rattle.std.proofs.lemmas.Option.{slice_get_within}
-use Rattle.gl_clocks.specs.Clocks.{tick}
 use Rattle.gl_core.proofs.Marking.{and_both, and_true, or_cases, or_left, or_right}
 use Rattle.gl_core.specs.Cells.{at}
 use Rattle.gl_draws.proofs.Origins.{gives_is}
-use Rattle.gl_laws.proofs.Bridge.{one_position, same_entry}
+use Rattle.gl_laws.proofs.Bridge.{same_entry}
 use Rattle.gl_laws.specs.Closure.{StandsFor}
-use Rattle.gl_model.specs.Edges.{EventAt}
 use Rattle.gl_model.specs.Entries.{Entry, Sync, Commit, Plain, Abort, Trim, Over}
 use Rattle.gl_model.specs.Form.{HasRight, NumberDraws}
-use Rattle.gl_model.specs.HappensBefore.{HappensBefore, IsCommit, IsRacy, IsRefusedCommit}
-use Rattle.gl_model.specs.Locksets.{Access}
+use Rattle.gl_model.specs.HappensBefore.{HappensBefore, IsCommit, IsRacy}
 use Rattle.gl_model.specs.Machine.{Setting, State}
-use Rattle.gl_model.specs.Records.{Lists, Place, Conflict, EntryAt, IsEventAt, IsBlockOf, IsPerformed, IsPlain, NumberOn, Writes, position_of}
-use Rattle.gl_model.specs.declared.event.Event.TheVariants.{Commit as Commits}
+use Rattle.gl_model.specs.Records.{Lists, Place, Conflict, EntryAt, IsBlockOf, IsPerformed, IsPlain, NumberOn, Writes, position_of}
 use Rattle.gl_model.specs.declared.event.Stamp.{Stamp}
 use Rattle.gl_raised.specs.Accesses.{IsAccess}
 use Rattle.gl_causes.specs.Causes.{RacesWith}
@@ -29,7 +25,7 @@ use Rattle.gl_causes.specs.declared.races.Asked.{Asked}
 use Rattle.gl_causes.specs.declared.refusals.Refusal.{Refusal}
 use Rattle.gl_causes.proofs.Blocks.{goes_on}
 use Rattle.gl_causes.proofs.EntryTests.{IsDone, IsRefused, one_number, own_means, own_there, plain_told', refusal_means, writes_told}
-use Rattle.gl_causes.proofs.Telling.{Laid, block_is, commit_access, commit_place, commit_tick, not_plain_commit, plain_access, plain_stands, plain_tick, rise, stand_of, told_plain, told_refused}
+use Rattle.gl_causes.proofs.Telling.{Laid, block_is, commit_access, commit_place, commit_tick, not_plain_commit, plain_access, plain_stands, plain_tick, stand_of, told_plain, told_refused}
 
 other_means : (x y : ℕ) → not (x == y) ≡ true → x ≢ y
 other_means x y e same = let z : (x == y) ≡ true = eq-eqb x y same in cc

@@ -1,15 +1,12 @@
 -- An entry has one cause.
-use Rattle.std.proofs.Common.{◌≡◌, ℕ, zero, suc, ◌+◌, ◌<◌, ◌≤◌, List, [], ◌∷◌, length, refl, ap, sym, ◌∙◌, subst, inl, inr, arith, Some}
-use Rattle.std.specs.Prelude.{◌⊎◌, ◌↔◌, Contains, slice_get}
+use Rattle.std.proofs.Common.{◌≡◌, ℕ, zero, suc, ◌<◌, List, [], ◌∷◌, length, refl, ap, sym, ◌∙◌, subst, inl, inr, arith, Some}
+use Rattle.std.specs.Prelude.{◌⊎◌, slice_get}
 use Rattle.gl_laws.proofs.Bridge.{same_entry}
-use Rattle.gl_model.specs.Entries.{Entry}
-use Rattle.gl_model.specs.Form.{Numbered}
-use Rattle.gl_model.specs.Records.{Lists, Place, EntryAt}
+use Rattle.gl_model.specs.Records.{Place, EntryAt}
 use Rattle.gl_places.specs.Places.{Before, seen}
 use Rattle.gl_places.specs.declared.place.Place.{Place as StoredPlace}
 use Rattle.gl_raised.specs.Accesses.{raised_on}
-use Rattle.gl_causes.specs.Causes.{AreRaces, IsCause, OneCause, RacesWith}
-use Rattle.gl_causes.specs.declared.cause.Cause.{Cause}
+use Rattle.gl_causes.specs.Causes.{OneCause, RacesWith}
 use Rattle.gl_causes.proofs.Answering.{in_list, of_list}
 
 -- one of these is at some place

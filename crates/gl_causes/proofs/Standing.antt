@@ -1,5 +1,5 @@
 -- The entries of a record, laid out, with one entry more.
-use Rattle.std.proofs.Common.{◌≡◌, ◌≢◌, ℕ, zero, suc, ◌+◌, ◌<◌, ◌≤◌, List, [], ◌∷◌, ◌++◌, length, map, take, get_or, refl, ap, sym, ◌∙◌, subst, inl, inr, arith, Some, None}
+use Rattle.std.proofs.Common.{◌≡◌, ℕ, zero, suc, ◌+◌, ◌<◌, ◌≤◌, List, [], ◌∷◌, ◌++◌, length, map, take, get_or, refl, ap, sym, ◌∙◌, subst, inl, inr, arith, Some, None}
 use Rattle.std.specs.Prelude.{◌⊎◌, Option, option_map, slice_get, unwrap_or}
 use Rattle.std.proofs.lemmas.Bool.{cases_lt}
 use Rattle.std.proofs.lemmas.List.{take_more}
@@ -8,7 +8,7 @@ use Rattle.gl_draws.specs.Ties.{or_else, last_position}
 use Rattle.gl_laws.proofs.Bridge.{same_place}
 use Rattle.gl_model.specs.Entries.{Entry, Sync, Commit, Plain, Abort, Trim, Over, seen as seen_entry}
 use Rattle.gl_model.specs.declared.record.Entry.{Entry as StoredEntry}
-use Rattle.gl_model.specs.Records.{Lists, Place, EntryAt, position_of}
+use Rattle.gl_model.specs.Records.{Lists, Place, position_of}
 use Rattle.gl_places.specs.Places.{Before}
 use Rattle.gl_causes.specs.Stands.{Stand, IsStand, AreStands, block_after, block_before}
 

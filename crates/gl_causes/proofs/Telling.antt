@@ -1,5 +1,5 @@
 -- What happens before a refused entry, told by what its thread knows.
-use Rattle.std.proofs.Common.{◌≡◌, ◌≢◌, ℕ, suc, ◌+◌, ◌-◌, ◌^◌, ◌<◌, ◌≤◌, ◌==◌, zero, List, [], ◌∷◌, length, take, drop, Bool, true, false, refl, ap, sym, ◌∙◌, subst, inl, inr, arith, Some, None, eq-eqb}
+use Rattle.std.proofs.Common.{◌≡◌, ◌≢◌, ℕ, suc, ◌+◌, ◌-◌, ◌^◌, ◌<◌, ◌==◌, zero, List, [], ◌∷◌, length, take, drop, Bool, true, false, refl, ap, sym, ◌∙◌, subst, inl, inr, arith, Some, None, eq-eqb}
 use Rattle.std.specs.Prelude.{◌⊎◌, ◌↔◌, if◌then◌else◌, slice_get, unwrap_or}
 use Rattle.std.proofs.lemmas.Bool.{eqb-true}
 use Rattle.std.proofs.lemmas.List.{length-take-le, take-append-drop}
@@ -23,18 +23,17 @@ use Rattle.gl_model.specs.declared.tx.Why.TheVariants.{Changed, Raised}
 use Rattle.gl_model.specs.Edges.{EventAt}
 use Rattle.gl_model.specs.Entries.{Entry, Sync, Commit, Plain, Abort, Trim, Over}
 use Rattle.gl_model.specs.Form.{Form, Numbered, NumberDraws}
-use Rattle.gl_model.specs.HappensBefore.{HappensBefore, IsCommit, IsRefusedCommit, RefusedCommitEdge}
+use Rattle.gl_model.specs.HappensBefore.{HappensBefore, IsCommit, IsRefusedCommit}
 use Rattle.gl_model.specs.Kept.{IsEntryKept}
 use Rattle.gl_model.specs.Locksets.{Access}
 use Rattle.gl_model.specs.Machine.{Setting, State, Allows}
 use Rattle.gl_model.specs.Next.{Reaches}
 use Rattle.gl_model.specs.Records.{Lists, Place, EntryAt, IsEventAt, IsEventList, IsBlockOf, IsPlain, NumberOn, PositionsRise, variables_of}
-use Rattle.gl_places.specs.Places.{Before}
 use Rattle.gl_raised.specs.Accesses.{IsAccess}
 use Rattle.gl_causes.specs.Judging.{tick_in}
 use Rattle.gl_causes.specs.Learning.{IsLearned, Knows, commits_before, handed_on, refused_numbers}
 use Rattle.gl_causes.specs.Rows.{AreBlockClocks}
-use Rattle.gl_causes.specs.Stands.{AreStands, IsStand, Stand, block_before}
+use Rattle.gl_causes.specs.Stands.{AreStands, IsStand, Stand}
 use Rattle.gl_causes.proofs.Blocks.{has_block, goes_on}
 use Rattle.gl_causes.proofs.EntryTests.{IsCommitBefore, before_means, before_there, none_before}
 use Rattle.gl_causes.proofs.Orders.{block_told, plain_told, refused_told, ByCommit, other_reaches, own_reaches}

@@ -1,11 +1,9 @@
 -- One entry more, in the walks over the entries.
 use Rattle.std.proofs.Common.{◌≡◌, ℕ, zero, suc, ◌+◌, ◌<◌, ◌≤◌, List, [], ◌∷◌, ◌++◌, length, map, take, get_or, Bool, true, false, refl, ap, sym, ◌∙◌, subst, inl, inr, arith, Some, None}
 use Rattle.std.specs.Prelude.{◌⊎◌, ◌↔◌, Option, if◌then◌else◌, is_some, max, nat_lt, option_map, slice_get}
-use Rattle.std.specs.List.{filter}
 use Rattle.std.proofs.lemmas.Bool.{cases_lt, ltb-true}
 use Rattle.std.proofs.lemmas.Bool.Decides.{nat_tests}
-use Rattle.std.proofs.lemmas.List.{length-append, take_more}
-use Rattle.std.proofs.lemmas.List.Elements.{filter-append}
+use Rattle.std.proofs.lemmas.List.{take_more}
 use Rattle.std.proofs.lemmas.Option.{slice_get_within, slice_get-get_or, slice_get-map, get_or_from_slice_get}
 use Rattle.gl_core.proofs.Marking.{or_both, or_left, or_none, or_right}
 use Rattle.gl_core.specs.Cells.{at}

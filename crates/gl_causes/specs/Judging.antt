@@ -1,7 +1,7 @@
 -- Whether an entry races with a refused one, as it is told from numbers and a clock.
-use Rattle.std.specs.Prelude.{◌≡◌, ℕ, ◌+◌, ◌-◌, ◌^◌, ◌<◌, ◌≤◌, ◌==◌, ◌&&◌, ◌||◌, ◌⊎◌, ◌↔◌, min, nat_lt, nat_le, Bool, true, false, not, if◌then◌else◌, List, find, option_map, slice_get, is_some, Option, Some, None}
-use Rattle.std.specs.List.{filter, list_any}
-use Rattle.gl_core.specs.Cells.{at, cell}
+use Rattle.std.specs.Prelude.{◌≡◌, ℕ, ◌+◌, ◌-◌, ◌^◌, ◌≤◌, ◌==◌, ◌&&◌, ◌||◌, min, nat_lt, nat_le, Bool, true, false, not, if◌then◌else◌, List, find, option_map, slice_get, is_some, Option, Some, None}
+use Rattle.std.specs.List.{filter}
+use Rattle.gl_core.specs.Cells.{at}
 use Rattle.gl_model.specs.Entries.{Entry, Sync, Commit, Plain, Abort, Trim, Over}
 use Rattle.gl_model.specs.declared.tx.Number.{Number}
 use Rattle.gl_model.specs.declared.tx.Pair.{Pair}

@@ -4,7 +4,6 @@ use Rattle.std.specs.List.{list_any}
 use Rattle.gl_core.specs.Cells.{at, cell}
 use Rattle.gl_model.specs.Entries.{Entry, Sync, Commit, Plain, Abort, Trim, Over}
 use Rattle.gl_model.specs.declared.tx.Number.{Number}
-use Rattle.gl_model.specs.declared.tx.Why.TheVariants.{Changed, Raised}
 use Rattle.gl_causes.specs.Judging.{number_on}
 use Rattle.gl_causes.specs.Stands.{Stand}
 

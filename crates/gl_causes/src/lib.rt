@@ -4,6 +4,7 @@
 mod cause;
 mod laws;
 mod learn;
+mod owned;
 mod races;
 mod refusals;
 mod rows;
@@ -11,3 +12,4 @@ mod stands;
 
 pub use cause::{Cause, causes};
 pub use laws::an_entry_has_one_cause;
+pub use owned::owned_at;

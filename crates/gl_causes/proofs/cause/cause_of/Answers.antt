@@ -1,4 +1,4 @@
-use Rattle.std.proofs.Common.{rules, ◌≡◌, ◌≤◌, ◌+◌, ◌-◌, refl, subst, sym, arith, length, map, Some}
+use Rattle.std.proofs.Common.{rules, ◌≡◌, ◌+◌, ◌-◌, refl, subst, arith, length, map, Some}
 use Rattle.gl_causes.specs.Judging.{IsLatest, races_among}
 use Rattle.gl_causes.specs.Stands.{stand_seen}
 use Rattle.gl_causes.proofs.Walks.{some_counted}

@@ -1,4 +1,4 @@
-use Rattle.std.proofs.Common.{◌≡◌, ◌<◌, ◌^◌, ◌∙◌, ap, length, map, subst, sym, arith}
+use Rattle.std.proofs.Common.{◌<◌, ◌^◌, length, map, subst, sym, arith}
 use Rattle.std.proofs.lemmas.List.{length-map}
 use Rattle.gl_model.specs.Lists.{lists_of}
 use Rattle.gl_causes.specs.Finding.{AreFound, HaveRaces}

@@ -1,4 +1,4 @@
-use Rattle.std.proofs.Common.{◌≡◌, ℕ, ◌<◌, map}
+use Rattle.std.proofs.Common.{ℕ, ◌<◌, map}
 use Rattle.std.specs.Prelude.{◌⊎◌, ◌↔◌}
 use Rattle.gl_core.specs.Cells.{at}
 use Rattle.gl_causes.specs.Stands.{stand_seen}

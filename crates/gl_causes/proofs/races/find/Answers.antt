@@ -1,4 +1,4 @@
-use Rattle.std.proofs.Common.{◌≡◌, ◌≤◌, ◌+◌, ◌∙◌, ap, sym, subst, arith, length, map, refl, take, Some, None}
+use Rattle.std.proofs.Common.{◌≡◌, ◌+◌, ◌∙◌, ap, sym, subst, arith, length, map, refl, take, Some, None}
 use Rattle.std.specs.Prelude.{slice_get}
 use Rattle.gl_causes.specs.Judging.{IsLatest, later, race_number, races_among}
 use Rattle.gl_causes.specs.Stands.{Stand, stand_seen}

@@ -1,8 +1,8 @@
-use Rattle.std.proofs.Common.{◌≡◌, ◌≤◌, ◌+◌, ◌++◌, ◌∷◌, [], ◌∙◌, Some, List, ap, sym, map, arith, length, subst}
+use Rattle.std.proofs.Common.{◌≡◌, ◌≤◌, ◌+◌, ◌++◌, ◌∷◌, [], ◌∙◌, Some, ap, sym, map, arith, length, subst}
 use Rattle.std.specs.Prelude.{slice_get}
 use Rattle.std.proofs.lemmas.List.{length-map, map-append}
 use Rattle.gl_model.specs.Entries.{seen}
-use Rattle.gl_causes.specs.Stands.{Stand, AreStands, block_before, stand_seen}
+use Rattle.gl_causes.specs.Stands.{AreStands, block_before, stand_seen}
 use Rattle.gl_causes.proofs.Standing.{block_more, next_thread, seen_at, stands_more}
 use Rattle.gl_causes.proofs.stands.add_list.Goals as goal
 
