@@ -13,3 +13,6 @@ mod stands;
 pub use cause::{Cause, causes};
 pub use laws::an_entry_has_one_cause;
 pub use owned::owned_at;
+
+#[cfg(test)]
+mod tests;
