@@ -82,7 +82,6 @@ fn add_journal(
 }
 
 // The status and the text of a run that left this table. Its entries are laid out once.
-#[tactic(auto, using(crate::proofs::Stamped::is_stamped))]
 fn told(alloc: Global, asked: RunOptions, sealed: &Sealed) -> Result<(u8, Vec<u8>), AllocError>
     requires { AreOptions asked.threads }
     ensures status { IfOk result (λ r. r.0 ≡ run_status sealed.now.entries) }

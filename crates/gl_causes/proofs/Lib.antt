@@ -1,0 +1,13 @@
+mod Answering
+mod BlockRows
+mod Blocks
+mod EntryTests
+mod Kept
+mod Numbered
+mod Orders
+mod Owning
+mod Racing
+mod Single
+mod Standing
+mod Telling
+mod Walks

@@ -1,0 +1,7 @@
+pub mod Causes
+pub mod Finding
+pub mod Judging
+pub mod Learning
+pub mod Owned
+pub mod Rows
+pub mod Stands

@@ -1,0 +1,18 @@
+//! Why entries of a record are races: of each entry that was refused, the access that it races with.
+#![tactic(auto)]
+
+mod cause;
+mod laws;
+mod learn;
+mod owned;
+mod races;
+mod refusals;
+mod rows;
+mod stands;
+
+pub use cause::{Cause, causes};
+pub use laws::an_entry_has_one_cause;
+pub use owned::owned_at;
+
+#[cfg(test)]
+mod tests;
