@@ -20,7 +20,7 @@ use Rattle.gl_raised.specs.RaceFaults.{AreSteps}
 use Rattle.gl_causes.specs.Causes.{AreCauses, AreRaces, IsCause, RacesWith}
 use Rattle.gl_causes.specs.Finding.{AreFound, HaveRaces, IsOfRefused}
 use Rattle.gl_causes.specs.Judging.{race_number, races_among, refusal_of}
-use Rattle.gl_causes.specs.Rows.{AreBlockClocks}
+use Rattle.gl_raised.specs.Rows.{AreBlockClocks}
 use Rattle.gl_causes.specs.Stands.{AreOfThreads, AreStands, IsStand, Stand}
 use Rattle.gl_causes.specs.declared.cause.Cause.{Cause}
 use Rattle.gl_causes.specs.declared.races.Asked.{Asked}

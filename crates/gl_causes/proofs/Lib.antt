@@ -1,10 +1,5 @@
 mod Answering
-mod BlockRows
-mod Blocks
 mod EntryTests
-mod Kept
-mod Numbered
-mod Orders
 mod Owning
 mod Racing
 mod Single

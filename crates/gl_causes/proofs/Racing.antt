@@ -23,7 +23,7 @@ use Rattle.gl_causes.specs.Judging.{is_plain, is_race, own_number, race_number, 
 use Rattle.gl_causes.specs.Stands.{IsStand, Stand}
 use Rattle.gl_causes.specs.declared.races.Asked.{Asked}
 use Rattle.gl_causes.specs.declared.refusals.Refusal.{Refusal}
-use Rattle.gl_causes.proofs.Blocks.{goes_on}
+use Rattle.gl_raised.proofs.Blocks.{goes_on}
 use Rattle.gl_causes.proofs.EntryTests.{IsDone, IsRefused, one_number, own_means, own_there, plain_told', refusal_means, writes_told}
 use Rattle.gl_causes.proofs.Telling.{Laid, block_is, commit_access, commit_place, commit_tick, not_plain_commit, plain_access, plain_stands, plain_tick, stand_of, told_plain, told_refused}
 

@@ -32,11 +32,11 @@ use Rattle.gl_model.specs.Records.{Lists, Place, EntryAt, IsEventAt, IsEventList
 use Rattle.gl_raised.specs.Accesses.{IsAccess}
 use Rattle.gl_causes.specs.Judging.{tick_in}
 use Rattle.gl_causes.specs.Learning.{IsLearned, Knows, commits_before, handed_on, refused_numbers}
-use Rattle.gl_causes.specs.Rows.{AreBlockClocks}
+use Rattle.gl_raised.specs.Rows.{AreBlockClocks}
 use Rattle.gl_causes.specs.Stands.{AreStands, IsStand, Stand}
-use Rattle.gl_causes.proofs.Blocks.{has_block, goes_on}
+use Rattle.gl_raised.proofs.Blocks.{has_block, goes_on}
 use Rattle.gl_causes.proofs.EntryTests.{IsCommitBefore, before_means, before_there, none_before}
-use Rattle.gl_causes.proofs.Orders.{block_told, plain_told, refused_told, ByCommit, other_reaches, own_reaches}
+use Rattle.gl_raised.proofs.Orders.{block_told, plain_told, refused_told, ByCommit, other_reaches, own_reaches}
 
 pub not_plain_commit : (e : Entry) → IsPlain e → IsCommit e → ⊥
 not_plain_commit (Plain var nth cached write value raised) i r = r

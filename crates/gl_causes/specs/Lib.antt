@@ -3,5 +3,4 @@ pub mod Finding
 pub mod Judging
 pub mod Learning
 pub mod Owned
-pub mod Rows
 pub mod Stands

@@ -11,13 +11,13 @@ ghost use Rattle.gl_model.specs.Lists.{lists_of};
 ghost use Rattle.gl_places.specs.Places.{AreEventPlaces, seen as seen_place};
 ghost use Rattle.gl_raised.specs.RaceFaults.{AreSteps};
 
-use crate::learn::known_at;
+use crate::learn::{ALL, known_at};
 use crate::races::{Asked, find};
 use crate::refusals::{Refusal, refusal_of};
-use crate::rows::{ALL, block_clocks};
 use crate::stands::stands_of;
 use gl_model::{Entry, Record};
 use gl_places::{Place, event_places};
+use gl_raised::block_clocks;
 use std::alloc::{AllocError, Global};
 
 /// Why an entry of a record was refused.

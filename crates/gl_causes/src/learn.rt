@@ -8,9 +8,11 @@ ghost use Rattle.gl_model.specs.declared.limits.TheConstants.{THREADS};
 ghost use Rattle.gl_places.specs.Places.{seen as seen_place};
 
 use crate::refusals::number_on;
-use crate::rows::ALL;
-use gl_model::{Entry, Numbers, TX_VARIABLES};
+use gl_model::{Entry, Numbers, THREADS, TX_VARIABLES};
 use gl_places::Place;
+
+// How many threads a clock knows.
+pub(crate) const ALL: usize = THREADS as usize;
 
 // A clock that knows what both know.
 fn join(into: &mut [u32; ALL], from: &[u32; ALL])

@@ -7,7 +7,6 @@ mod learn;
 mod owned;
 mod races;
 mod refusals;
-mod rows;
 mod stands;
 
 pub use cause::{Cause, causes};

@@ -6,8 +6,8 @@ ghost use Rattle.gl_causes.specs.Stands.{stand_seen};
 ghost use Rattle.gl_model.specs.Entries.{seen};
 ghost use Rattle.gl_places.specs.Places.{seen as seen_place};
 
+use crate::learn::ALL;
 use crate::refusals::{Refusal, number_on, writes_one};
-use crate::rows::ALL;
 use gl_model::Entry;
 use gl_places::Place;
 

@@ -1,12 +1,12 @@
 mod BlockRows
-mod Blocks
+pub mod Blocks
 mod Cells
 mod Faulting
 mod Gathering
-mod Kept
+pub mod Kept
 mod Lasting
 mod Numbered
-mod Orders
+pub mod Orders
 mod Parts
 mod Racing
 mod Walked

@@ -11,3 +11,4 @@ mod rows;
 
 pub use access::{Access, Claim};
 pub use fault::race_fault;
+pub use rows::block_clocks;

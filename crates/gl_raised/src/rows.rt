@@ -94,8 +94,9 @@ fn next_clock(tables: &mut Tables, made: &Record, place: &Place) -> Result<[u32;
     }
 }
 
-/// The clock of the thread of each event after it, by position.
-pub(crate) fn block_clocks(
+/// The clock of the thread of each event after it, by position: how far the block that this event begins knows each thread. The places are those of
+/// the events, in their order. The only error is want of memory.
+pub fn block_clocks(
     alloc: Global,
     made: &Record,
     places: &[Place],

@@ -4,7 +4,7 @@ use Rattle.gl_model.specs.Lists.{lists_of}
 use Rattle.gl_causes.specs.Finding.{AreFound, HaveRaces}
 use Rattle.gl_causes.specs.Stands.{AreOfThreads, stand_seen}
 use Rattle.gl_causes.proofs.Answering.{are_causes, have_races, laid_of, of_threads}
-use Rattle.gl_causes.proofs.Kept.{entry_kept}
+use Rattle.gl_raised.proofs.Kept.{entry_kept}
 use Rattle.gl_causes.proofs.cause.causes_by_places.Goals as goal
 
 pub causes_among-requires-clause-threads : goal.causes_among-requires-clause-threads

@@ -4,7 +4,7 @@ use Rattle.std.proofs.lemmas.List.{get_or-replicate}
 use Rattle.gl_model.specs.Entries.{seen}
 use Rattle.gl_model.specs.declared.limits.TheConstants.{MONITORS}
 use Rattle.gl_causes.specs.Owned.{AreDepths}
-use Rattle.gl_causes.proofs.Kept.{at_kept}
+use Rattle.gl_raised.proofs.Kept.{at_kept}
 use Rattle.gl_causes.proofs.Owning.{none_entered}
 use Rattle.gl_causes.proofs.Standing.{seen_at}
 use Rattle.gl_causes.proofs.Walks.{taken}

@@ -5,7 +5,7 @@ use Rattle.gl_model.specs.Entries.{seen}
 use Rattle.gl_model.specs.Lists.{lists_of}
 use Rattle.gl_model.specs.declared.limits.TheConstants.{MONITORS}
 use Rattle.gl_causes.specs.Owned.{AreDepths, AreOwned}
-use Rattle.gl_causes.proofs.Kept.{list_kept}
+use Rattle.gl_raised.proofs.Kept.{list_kept}
 use Rattle.gl_causes.proofs.Owning.{AreOwnedBelow, all_owned, not_owned, one_owned}
 use Rattle.gl_causes.proofs.owned.owned_at.Goals as goal
 use Rattle.gl_causes.proofs.owned.owned_at.Goals.{then-is_owned+in_ok-push, else-is_owned}
