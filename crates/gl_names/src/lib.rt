@@ -4,7 +4,9 @@
 mod kind;
 mod names;
 mod naming;
+mod stated;
 mod table;
 
 pub use kind::{Kind, NAME_BYTES};
 pub use names::{Names, names_of};
+pub use stated::limits_are_stated;

@@ -1,14 +1,15 @@
 -- An entry is made by one instruction at most, or by none.
-use Rattle.std.proofs.Common.{◌≡◌, ℕ, zero, suc, List, [], ◌∷◌, ◌++◌, Option, Some, None, sym, ◌∙◌, ap, subst, take}
-use Rattle.std.specs.Prelude.{slice_get}
+use Rattle.std.proofs.Common.{◌≡◌, ℕ, zero, suc, List, [], ◌∷◌, ◌++◌, Option, Some, None, inl, inr, sym, ◌∙◌, ap, subst, take}
+use Rattle.std.specs.Prelude.{◌⊎◌, slice_get}
 use Rattle.gl_model.specs.Entries.{Entry, Sync, Commit, Plain, Abort, Trim, Over}
+use Rattle.gl_model.specs.Form.{IsOver, IsTrim}
 use Rattle.gl_bytecode.specs.Programs.{Bytecode}
 use Rattle.gl_bytecode.specs.Runs.{Made, Progress, entries_of, outset, told, told_one, without_trims}
 use Rattle.gl_bytecode.specs.Validity.{IsValid}
 use Rattle.gl_bytecode.proofs.Exchanges.{forced}
 use Rattle.gl_follow.specs.Following.{EachBeginsRight}
 use Rattle.gl_follow.proofs.Peeling.{all_fit}
-use Rattle.gl_sites.specs.Sites.{IsAnswered, IsMadeAt, IsMadeByNone, IsOfInstruction}
+use Rattle.gl_sites.specs.Sites.{IsAnswered, IsMadeAt, IsMadeByNone, IsNote, IsOfInstruction}
 use Rattle.gl_sites.proofs.Asking.{ends_made, entries_on, fits_fresh, made_over, same_front, told_on}
 
 -- each of the first entries begins right
@@ -22,8 +23,24 @@ front_right P (Plain x nth cached write value raised ∷ es) (suc n) right = (ri
 front_right P (Abort tx why ∷ es) (suc n) right = (right.0, front_right P es n right.1)
 front_right P (Over ending ∷ es) (suc n) right = (right.0, front_right P es n right.1)
 
+-- what the machine answers is no note
+unmade : (P : Bytecode) (e : Entry) (p next : Progress) → IsTrim e ⊎ IsOver e → told_one P (Made e) p ≡ Some next → ⊥
+unmade P (Trim low) p next note answered = cc
+unmade P (Over ending) p next note answered = cc
+unmade P (Sync at act value) p next note answered = elim note [ inl no ↦ no | inr no ↦ no ]
+unmade P (Commit at tx) p next note answered = elim note [ inl no ↦ no | inr no ↦ no ]
+unmade P (Plain x nth cached write value raised) p next note answered = elim note [ inl no ↦ no | inr no ↦ no ]
+unmade P (Abort tx why) p next note answered = elim note [ inl no ↦ no | inr no ↦ no ]
+
+-- two that an option has are one
 one_some : {A : Type 0} (o : Option A) (a b : A) → o ≡ Some a → o ≡ Some b → a ≡ b
 one_some o a b one other = cc
+
+-- no machine makes a note
+pub note_unmade : (P : Bytecode) (steps t : ℕ) (list : List Entry) (n : ℕ) (p : Progress) → IsNote list n → IsAnswered P steps t list n p → ⊥
+note_unmade P steps t list n p note is =
+    let same : note.entry ≡ is.entry = one_some (slice_get list n) note.entry is.entry note.there is.there in
+    unmade P is.entry p is.next (subst (λ e. IsTrim e ⊎ IsOver e) same note.note) is.answered
 
 module _ (P : Bytecode) (steps t : ℕ) (list : List Entry) (n : ℕ) (valid : IsValid P) (right : EachBeginsRight P list) where
   -- no attempt runs behind the entry

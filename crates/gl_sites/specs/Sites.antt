@@ -16,7 +16,7 @@ pub record IsAnswered (P : Bytecode) (steps t : ℕ) (list : List Entry) (n : �
   pub along : Along P steps t (take n list) p
   pub answered : told_one P (Made entry) p ≡ Some next
 
--- the instruction at the frame's place has asked, or ended the attempt that runs: it was refused, or no step was left for it
+-- the instruction at the frame's place has asked, or ended the attempt that runs: it raised an exception, or no step was left for it
 abbrev pub IsOfInstruction : Stage → Type 0
 IsOfInstruction New = ⊥
 IsOfInstruction Begins = ⊥

@@ -3,11 +3,11 @@ ghost use Rattle.std.specs.Prelude.{◌≡◌, ◌<◌, ◌⊎◌, ℕ, ℤ, Lis
 ghost use Rattle.gl_bytecode.specs.declared.instr.Instr.{Instr};
 ghost use Rattle.gl_bytecode.specs.Programs.{Bytecode, instr_at};
 ghost use Rattle.gl_asm.specs.Texts.{IsText};
-ghost use Rattle.gl_bytecode.specs.Runs.{Runs};
+ghost use Rattle.gl_bytecode.specs.Runs.{Progress, Runs};
 ghost use Rattle.gl_bytecode.specs.Validity.{IsValid};
 ghost use Rattle.gl_follow.specs.Following.{EachBeginsRight};
 ghost use Rattle.gl_model.specs.Entries.{Entry};
-ghost use Rattle.gl_sites.specs.Sites.{IsMadeAt, IsMadeByNone, IsNote};
+ghost use Rattle.gl_sites.specs.Sites.{IsAnswered, IsMadeAt, IsMadeByNone, IsNote};
 ghost use Rattle.gl_sites.specs.SourceLines.{IsLineOf};
 
 /// Each instruction of a program has one line in the program's text, and no line is that of two: an instruction has a line, two lines
@@ -27,5 +27,6 @@ pub fn each_instruction_has_one_line()
 pub fn each_entry_has_one_maker()
     ensures some { (P : Bytecode) (steps t : ℕ) (list : List Entry) (n : ℕ) → Runs P steps t list → n < length list → ((f : ℕ) × (i : ℕ) × IsMadeAt P steps t list n f i) ⊎ (IsMadeByNone P steps t list n ⊎ IsNote list n) }
     ensures at_most_one { (P : Bytecode) (steps t : ℕ) (list : List Entry) (n : ℕ) → IsValid P → EachBeginsRight P list → (f g i j : ℕ) → IsMadeAt P steps t list n f i → IsMadeAt P steps t list n g j → (f ≡ g) × (i ≡ j) }
+    ensures notes { (P : Bytecode) (steps t : ℕ) (list : List Entry) (n : ℕ) (p : Progress) → IsNote list n → IsAnswered P steps t list n p → ⊥ }
     ensures apart { (P : Bytecode) (steps t : ℕ) (list : List Entry) (n : ℕ) → IsValid P → EachBeginsRight P list → (f i : ℕ) → IsMadeAt P steps t list n f i → IsMadeByNone P steps t list n → ⊥ }
 {}

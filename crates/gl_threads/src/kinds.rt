@@ -26,7 +26,7 @@ pub const INPUT: u8 = 11;
 pub const PLAIN_READ: u8 = 20;
 /// A plain write, outside any attempt at a transaction.
 pub const PLAIN_WRITE: u8 = 21;
-/// An attempt at a transaction tries to commit.
+/// An attempt at a transaction is to end: it tries to commit, or is dropped after an exception.
 pub const COMMIT: u8 = 22;
 /// An attempt at a transaction reads a variable.
 pub const LOOK: u8 = 23;

@@ -74,13 +74,13 @@ RacesAt t a l r = SomeFails l r.row (asked t a r.var)
 abbrev pub AreWithin : List TakenRow → ℕ → Type 0
 AreWithin rows tail = (r : TakenRow) → Contains rows r → IsWithin r.row tail
 
--- no word was changed, and the commit completes no race, judged up to a tail that is at most most and was loaded after the rows were taken: s is the
--- pass's list before, and from what it had seen then
-pub record IsClear (setting : Setting) (a : Attempting) (s : Shelf) (from most : ℕ) (rows : List TakenRow) (q : PassView) : Type 0 where
+-- no word was changed, and the commit completes no race, judged up to a tail that is at most the limit and not below what was seen before the call, with
+-- each row's Infos within it: s is the pass's list before, and from what it had seen then
+pub record IsClear (setting : Setting) (a : Attempting) (s : Shelf) (from limit : ℕ) (rows : List TakenRow) (q : PassView) : Type 0 where
   pub unchanged : AreUnchanged a rows
   pub upto : ℕ
   pub later : from ≤ upto
-  pub within : upto ≤ most
+  pub within : upto ≤ limit
   pub reaches : AreWithin rows upto
   pub unraced : OverEach setting s upto q.known rows (λ l. (r : TakenRow) → Contains rows r → RacesAt s.thread a l r → ⊥)
 
@@ -115,8 +115,8 @@ pub record WasChanged (a : Attempting) (var : ℕ) (read found : ℤ) (before : 
   pub other : read ≢ found
   pub least : AreUnchangedBelow var a rows
 
--- why it was dropped as racy: no word was changed, and at the least such variable the commit completes a race, judged up to a tail that was loaded
--- after the rows were taken
+-- why it was dropped as racy: no word was changed, and at the least such variable the commit completes a race, judged up to what is seen afterwards,
+-- with each row's Infos within it
 pub record WasRaised (setting : Setting) (a : Attempting) (var : ℕ) (s : Shelf) (from : ℕ) (before : List Read) (rows : List TakenRow)
     (q : PassView) : Type 0 where
   pub reads : q.reads ≡ before
