@@ -27,10 +27,10 @@ front_right P (Over ending ∷ es) (suc n) right = (right.0, front_right P es n 
 unmade : (P : Bytecode) (e : Entry) (p next : Progress) → IsTrim e ⊎ IsOver e → told_one P (Made e) p ≡ Some next → ⊥
 unmade P (Trim low) p next note answered = cc
 unmade P (Over ending) p next note answered = cc
-unmade P (Sync at act value) p next note answered = elim note [ inl no ↦ no | inr no ↦ no ]
-unmade P (Commit at tx) p next note answered = elim note [ inl no ↦ no | inr no ↦ no ]
-unmade P (Plain x nth cached write value raised) p next note answered = elim note [ inl no ↦ no | inr no ↦ no ]
-unmade P (Abort tx why) p next note answered = elim note [ inl no ↦ no | inr no ↦ no ]
+unmade P (Sync at act value) p next note answered = elim note [ inl never ↦ never | inr never ↦ never ]
+unmade P (Commit at tx) p next note answered = elim note [ inl never ↦ never | inr never ↦ never ]
+unmade P (Plain x nth cached write value raised) p next note answered = elim note [ inl never ↦ never | inr never ↦ never ]
+unmade P (Abort tx why) p next note answered = elim note [ inl never ↦ never | inr never ↦ never ]
 
 -- two that an option has are one
 one_some : {A : Type 0} (o : Option A) (a b : A) → o ≡ Some a → o ≡ Some b → a ≡ b
