@@ -6,6 +6,7 @@ ghost use Rattle.gl_riders.specs.Riding.{IsSetFor};
 
 use crate::gate::Gate;
 use crate::rider::{Pace, Rider, are_home, round};
+use crate::roll::RollCall;
 use gl_bytecode::Program;
 use gl_rows::Window;
 use gl_shortcut::Cuts;
@@ -36,7 +37,7 @@ fn rest<R: Wait>(rt: &R, idle: u32) {
     }
 }
 
-// A worker's rounds, until its threads are done or the run stops.
+// A worker's rounds, until its threads are done or the run stops, which it does too where a worker waits in vain for one that has not begun.
 pub(crate) fn run_crew<G: Gate, R: Wait>(
     rt: &R,
     crew: &mut Crew,
@@ -45,11 +46,16 @@ pub(crate) fn run_crew<G: Gate, R: Wait>(
     limit: u32,
     cuts: &Cuts,
     gate: &G,
+    roll: &RollCall,
 )
     requires set { IsSetFor program.now shared.now.key.setting }
     requires ready { IsReady program.now limit shared.now crew.old }
     ensures done { CrewIsDone program.now limit shared.now.id crew.old crew.new }
 {
+    if !roll.begin() {
+        crew.stopped = true;
+        return;
+    }
     let alloc = *crew.riders.allocator();
     crew.stopped = !run_riders(
         rt,
@@ -61,6 +67,7 @@ pub(crate) fn run_crew<G: Gate, R: Wait>(
         cuts,
         &mut crew.window,
         gate,
+        roll,
     );
 }
 
@@ -75,6 +82,7 @@ fn run_riders<G: Gate, R: Wait>(
     cuts: &Cuts,
     window: &mut Window,
     gate: &G,
+    roll: &RollCall,
 ) -> bool
     requires set { IsSetFor program.now shared.now.key.setting }
     requires aboard { AreAboard program.now limit shared.now.id riders.old.items }
@@ -91,6 +99,9 @@ fn run_riders<G: Gate, R: Wait>(
         match round(alloc, riders, shared, program, limit, cuts, window, gate) {
             Pace::Moved => idle = 0,
             Pace::Idle => {
+                if roll.gives_up(idle) {
+                    return false;
+                }
                 rest(rt, idle);
                 idle = idle.saturating_add(1);
             }

@@ -9,6 +9,7 @@ pub mod kinds;
 mod layout;
 mod options;
 mod rider;
+mod roll;
 mod run;
 mod stated;
 mod working;

@@ -15,6 +15,7 @@ use crate::crew::{Crew, run_crew};
 use crate::dealing::{deal, gather};
 use crate::gate::Gate;
 use crate::options::Options;
+use crate::roll::RollCall;
 use gl_bytecode::Program;
 use gl_shortcut::Cuts;
 use gl_table::{Pass, Shared};
@@ -40,6 +41,7 @@ fn run_crews<G: Gate, R: Threads + Wait + Sync>(
     ensures long { length crews.new.items ≡ length crews.old.items }
     ensures done { (c : ℕ) (d : ACrew) → c < length crews.old.items → CrewIsDone program.now limit shared.now.id (slice_index_or crews.old.items c d) (slice_index_or crews.new.items c d) }
 {
+    let roll = RollCall::of(crews.len() as u64);
     thread::for_each_mut(
         rt,
         crews.as_mut_slice(),
@@ -47,7 +49,7 @@ fn run_crews<G: Gate, R: Threads + Wait + Sync>(
         &|_, crew: &mut Crew|
             requires { IsSetFor program.now shared.now.key.setting × IsReady program.now limit shared.now crew.now }
             ensures { CrewIsDone program.entry.now limit shared.entry.now.id crew.entry.now crew.exit.now }
-        { run_crew(rt, crew, shared, program, limit, cuts, gate) },
+        { run_crew(rt, crew, shared, program, limit, cuts, gate, &roll) },
     );
 }
 
