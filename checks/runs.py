@@ -1,5 +1,5 @@
 #!/usr/bin/env python3
-"""Runs random programs with threads and looks at each record from outside (lawful.py).
+"""Runs random programs with threads, looks at each record from outside (lawful.py), and has goldi audit it.
 
   runs.py GOLDI [--programs N] [--seed S] [--keep FOLDER]
 
@@ -103,6 +103,14 @@ def run(goldi, program, workers, ring, steps):
     return words, done
 
 
+def audited(goldi, program, output):
+    """the program and the record of its run, as `audit` reads them"""
+    record = output[output.index("record "):]
+    done = subprocess.run([goldi, "audit"], input=program + record, capture_output=True, text=True, timeout=60)
+    if (done.returncode, done.stdout) != (0, "lawful\n"):
+        raise Unlawful(f"audit: status {done.returncode}: {done.stdout[:200]!r}")
+
+
 def main():
     a = argparse.ArgumentParser()
     a.add_argument("goldi")
@@ -122,6 +130,7 @@ def main():
             if done.returncode not in (0, 6, 7):
                 raise Unlawful(f"status {done.returncode}: {done.stdout[:200]!r}")
             lists = check(program, done.stdout, ring)
+            audited(o.goldi, program, done.stdout)
             lawful += 1
             races += done.returncode == 6
             events += sum(e[0] in ("sync", "commit") for es in lists.values() for e in es)
