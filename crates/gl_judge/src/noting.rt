@@ -1,4 +1,4 @@
-ghost use Rattle.std.specs.Prelude.{◌<◌};
+ghost use Rattle.std.specs.Prelude.{◌≡◌, ◌<◌, None, length, replicate};
 ghost use Rattle.gl_model.specs.declared.limits.TheConstants.{THREADS};
 ghost use Rattle.gl_judge.specs.Noted.{IsNewInfo, IsNoted};
 
@@ -23,6 +23,13 @@ pub fn new_info(q: &Question, pos: u64) -> Info
     }
 }
 
+// Drops all reads.
+fn forget(reads: &mut [Option<Info>])
+    ensures { reads.new ≡ replicate (length reads.old) None }
+{
+    reads.fill(None);
+}
+
 /// Keeps a performed access, whose window begins at the position: a write drops the reads, a read takes the place of its
 /// thread's.
 pub fn note(row: &mut Row, q: &Question, pos: u64)
@@ -31,11 +38,8 @@ pub fn note(row: &mut Row, q: &Question, pos: u64)
 {
     let info = new_info(q, pos);
     if q.write {
-        *row = Row {
-            value: row.value,
-            last_write: Some(info),
-            reads: [None; 16],
-        };
+        row.last_write = Some(info);
+        forget(&mut row.reads);
     } else {
         row.reads[q.thread as usize] = Some(info);
     }

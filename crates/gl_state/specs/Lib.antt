@@ -3,3 +3,4 @@ pub mod States
 pub mod Entering
 pub mod Starting
 pub mod Acts
+pub mod Lent
