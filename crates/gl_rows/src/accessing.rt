@@ -66,10 +66,9 @@ fn store(kept: &mut KeptRow, access: &PlainAccess, q: &Question, at: u64)
     if access.raised {
         return;
     }
-    let mut row = *kept.row();
-    note(&mut row, q, at);
+    let row = kept.row_mut();
+    note(row, q, at);
     row.value = access.value;
-    kept.set(&row);
 }
 
 fn answer(nth: u64, access: &PlainAccess) -> Seen

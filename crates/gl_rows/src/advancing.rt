@@ -13,27 +13,27 @@ ghost use Rattle.gl_table.specs.PassView.{shelf_of};
 ghost use Rattle.gl_rows.specs.Advancing.{HasAdvanced};
 ghost use Rattle.gl_rows.specs.Walks.{HoldsRow, HasWalkedTo, ReadBusy};
 
-use crate::moving::moved_row;
+use crate::moving::move_row;
 use crate::walking::{least, load};
 use crate::window::Window;
 use gl_model::{Row, Stamp};
 use gl_table::{Busy, Pass, Shared};
 
-// The row with its Infos that stand before a position moved up to it, over the events between, which are loaded.
-fn lifted_row(shared: &Shared, pass: &mut Pass, row: &Row, to: u64, window: &mut Vec<Stamp>) -> Row
+// The row's Infos that stand before a position are moved up to it, over the events between, which are loaded.
+fn lift_row(shared: &Shared, pass: &mut Pass, row: &mut Row, to: u64, window: &mut Vec<Stamp>)
     requires table { pass.old.own.table ≡ shared.now.id }
-    requires held { HoldsRow pass.old row.now }
-    requires within { IsWithin row.now pass.old.seen }
+    requires held { HoldsRow pass.old row.old }
+    requires within { IsWithin row.old pass.old.seen }
     requires to { to ≤ pass.old.seen }
     requires room { capacity shared.now.key ≤ vec_capacity window.old }
-    ensures pass { HasWalkedTo row.now to pass.old pass.new }
-    ensures moved { (setting : Setting) (l : List AStamp) → IsFitting setting (shelf_of pass.new) pass.new.seen pass.new.known l → IsRowMoved l row.now result }
-    ensures above { (i : AnInfo) → InRow result i → to ≤ i.pos }
+    ensures pass { HasWalkedTo row.old to pass.old pass.new }
+    ensures moved { (setting : Setting) (l : List AStamp) → IsFitting setting (shelf_of pass.new) pass.new.seen pass.new.known l → IsRowMoved l row.old row.new }
+    ensures above { (i : AnInfo) → InRow row.new i → to ≤ i.pos }
     ensures room { vec_capacity window.new ≡ vec_capacity window.old }
 {
     let from = least(row, to);
     load(shared, pass, from, to, window);
-    moved_row(row, from, to, window.as_slice())
+    move_row(row, from, to, window.as_slice());
 }
 
 /// Moves each Info of the variable's row that stands before a position up to it, with its lockset after the events in between, and raises
@@ -70,10 +70,9 @@ pub fn advance_row(
         return Ok(before);
     }
     let _tail = shared.tail(pass);
-    let row = lifted_row(shared, pass, kept.row(), to, &mut window.events);
-    shared.raise_hold(pass, var, &row, to);
+    lift_row(shared, pass, kept.row_mut(), to, &mut window.events);
+    shared.raise_hold(pass, var, kept.row(), to);
     let hold = shared.floor_of(pass, var);
-    kept.set(&row);
     shared.put_row(pass, var, kept);
     Ok(hold)
 }

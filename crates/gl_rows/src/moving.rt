@@ -9,35 +9,27 @@ ghost use Rattle.gl_rows.specs.Moving.{IsMovedTo, AreMovedTo, IsRowMovedTo};
 use gl_judge::walk;
 use gl_model::{Info, Row, Stamp};
 
-// The window goes from a position up to the one to which the Info is moved.
-fn moved_info(info: &Info, from: u64, to: u64, window: &[Stamp]) -> Info
+// The window goes from a position up to the one to which the Info is moved, where it stands before that.
+fn move_info(info: &mut Info, from: u64, to: u64, window: &[Stamp])
     requires stamps { All IsStampInRange window.now }
     requires ends { from + length window.now ≡ to }
-    requires behind { from ≤ info.now.pos }
-    ensures { IsMovedTo from to window.now info.now result }
+    requires behind { from ≤ info.old.pos }
+    ensures { IsMovedTo from to window.now info.old info.new }
 {
-    if to <= info.pos {
-        return *info;
-    }
-    Info {
-        thread: info.thread,
-        write: info.write,
-        commit: info.commit,
-        held: info.held,
-        pos: to,
-        set: walk(info, &window[(info.pos - from) as usize..]),
+    if info.pos < to {
+        info.set = walk(info, &window[(info.pos - from) as usize..]);
+        info.pos = to;
     }
 }
 
-fn moved_kept(kept: &Option<Info>, from: u64, to: u64, window: &[Stamp]) -> Option<Info>
+fn move_kept(kept: &mut Option<Info>, from: u64, to: u64, window: &[Stamp])
     requires stamps { All IsStampInRange window.now }
     requires ends { from + length window.now ≡ to }
-    requires behind { (i : AnInfo) → kept.now ≡ Some i → from ≤ i.pos }
-    ensures { AreMovedTo from to window.now kept.now result }
+    requires behind { (i : AnInfo) → kept.old ≡ Some i → from ≤ i.pos }
+    ensures { AreMovedTo from to window.now kept.old kept.new }
 {
-    match kept {
-        None => None,
-        Some(info) => Some(moved_info(info, from, to, window)),
+    if let Some(info) = kept {
+        move_info(info, from, to, window);
     }
 }
 
@@ -48,20 +40,18 @@ fn move_reads(reads: &mut [Option<Info>], from: u64, to: u64, window: &[Stamp])
     ensures { (t : ℕ) → AreMovedTo from to window.now (read_of reads.old t) (read_of reads.new t) }
 {
     for read in reads.iter_mut() {
-        *read = moved_kept(read, from, to, window);
+        move_kept(read, from, to, window);
     }
 }
 
-// The row with each of its Infos that stands before a position moved up to it. The window goes up to that one, from a position before which
-// none stands.
-pub(crate) fn moved_row(row: &Row, from: u64, to: u64, window: &[Stamp]) -> Row
+// Each Info of the row that stands before a position is moved up to it. The window goes up to that one, from a position before which none
+// stands.
+pub(crate) fn move_row(row: &mut Row, from: u64, to: u64, window: &[Stamp])
     requires stamps { All IsStampInRange window.now }
     requires ends { from + length window.now ≡ to }
-    requires behind { (i : AnInfo) → InRow row.now i → from ≤ i.pos }
-    ensures { IsRowMovedTo from to window.now row.now result }
+    requires behind { (i : AnInfo) → InRow row.old i → from ≤ i.pos }
+    ensures { IsRowMovedTo from to window.now row.old row.new }
 {
-    let mut moved = *row;
-    moved.last_write = moved_kept(&row.last_write, from, to, window);
-    move_reads(&mut moved.reads, from, to, window);
-    moved
+    move_kept(&mut row.last_write, from, to, window);
+    move_reads(&mut row.reads, from, to, window);
 }

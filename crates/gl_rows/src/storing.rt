@@ -19,9 +19,7 @@ pub fn write_back(shared: &Shared, pass: &mut Pass, var: u16, value: i64) -> Res
     ensures other { IfErr result (λ b. b.by ≢ pass.old.own.id) }
 {
     let mut kept = shared.take_row(pass, var)?;
-    let mut row = *kept.row();
-    row.value = value;
-    kept.set(&row);
+    kept.row_mut().value = value;
     shared.put_paid(pass, var, kept);
     Ok(())
 }

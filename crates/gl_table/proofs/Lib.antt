@@ -16,3 +16,4 @@ pub mod Unpacking
 pub mod FiveWords
 pub mod LeastEntered
 pub mod RightsKept
+pub mod LeastChanged

@@ -5,12 +5,15 @@ ghost use Rattle.gl_model.specs.Elements.{IsActInRange};
 ghost use Rattle.gl_model.specs.Entries.{seen};
 ghost use Rattle.gl_model.specs.Kept.{IsEntryKept};
 ghost use Rattle.gl_rule.specs.Levels.{levels_act, levels_entry, AreLeastEntered};
+ghost use Rattle.gl_table.specs.LevelsInside.{AreCandidates, HasEntered, HasLeft};
 
-use gl_model::{Act, Entry, Held};
+use gl_model::{Act, Entry, HELD, Held};
 use std::alloc::{AllocError, Global};
 use std::marker::Model;
 
 const COUNTS: usize = 256;
+
+const KEPT: usize = HELD as usize;
 
 /// How often a thread is in each monitor, with the least that it is in.
 #[derive(Drop)]
@@ -45,6 +48,49 @@ fn least(counts: &[u64]) -> Held
     held
 }
 
+// The same, where these are all that have a level above 0, and maybe others.
+fn least_among(counts: &[u64], monitors: &[u16]) -> Held
+    requires long { length counts.now ≡ MONITORS }
+    requires all { AreCandidates counts.now monitors.now }
+    ensures { AreLeastEntered counts.now result }
+{
+    let mut held = Held::empty();
+    for monitor in monitors {
+        if counts[*monitor as usize] > 0 {
+            held.add(*monitor);
+        }
+    }
+    held
+}
+
+// The same, by those before the monitor was entered: where they were fewer than are kept, they were all.
+fn least_with(counts: &[u64], before: &Held, monitor: u16) -> Held
+    requires long { length counts.now ≡ MONITORS }
+    requires there { monitor < MONITORS }
+    requires entered { HasEntered before.now counts.now monitor }
+    ensures { AreLeastEntered counts.now result }
+{
+    if before.monitors().len() < KEPT {
+        let mut held = *before;
+        held.add(monitor);
+        return held;
+    }
+    least(counts)
+}
+
+// The same, by those before one was left.
+fn least_without(counts: &[u64], before: &Held) -> Held
+    requires long { length counts.now ≡ MONITORS }
+    requires left { HasLeft before.now counts.now }
+    ensures { AreLeastEntered counts.now result }
+{
+    let monitors = before.monitors();
+    if monitors.len() < KEPT {
+        return least_among(counts, monitors);
+    }
+    least(counts)
+}
+
 impl Levels {
     /// It is in none.
     pub fn none(alloc: Global) -> Result<Levels, AllocError>
@@ -76,7 +122,7 @@ impl Levels {
         let count = self.counts[monitor as usize];
         self.counts[monitor as usize] = count + 1;
         if count == 0 {
-            self.least = least(self.counts.as_slice());
+            self.least = least_with(self.counts.as_slice(), &self.least, monitor);
         }
     }
 
@@ -88,7 +134,7 @@ impl Levels {
         let count = self.counts[monitor as usize];
         self.counts[monitor as usize] = count.saturating_sub(1);
         if count < 2 {
-            self.least = least(self.counts.as_slice());
+            self.least = least_without(self.counts.as_slice(), &self.least);
         }
     }
 

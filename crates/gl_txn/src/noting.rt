@@ -6,13 +6,12 @@ ghost use Rattle.gl_txn.specs.Noting.{IsNotedRow, AreCommitted};
 use crate::taken::TakenRow;
 use gl_judge::note;
 use gl_model::{Question, Row};
-use gl_state::KeptRow;
 use gl_table::{Pass, Shared};
 
-// The row with its access by a commit, behind the event before this position.
-fn noted(old: &Row, base: &Question, write: Option<i64>, at: u64) -> Row
+// Notes the access by a commit in the row, behind the event before this position.
+fn store(row: &mut Row, base: &Question, write: Option<i64>, at: u64)
     requires { base.now.thread < THREADS }
-    ensures { IsNotedRow base.now at write old.now result }
+    ensures { IsNotedRow base.now at write row.old row.new }
 {
     let q = Question {
         thread: base.thread,
@@ -20,24 +19,10 @@ fn noted(old: &Row, base: &Question, write: Option<i64>, at: u64) -> Row
         commit: base.commit,
         held: base.held,
     };
-    let mut row = *old;
-    note(&mut row, &q, at);
-    match write {
-        None => row,
-        Some(value) => Row {
-            value,
-            last_write: row.last_write,
-            reads: row.reads,
-        },
+    note(row, &q, at);
+    if let Some(value) = write {
+        row.value = value;
     }
-}
-
-fn store(kept: &mut KeptRow, base: &Question, write: Option<i64>, at: u64)
-    requires { base.now.thread < THREADS }
-    ensures { IsNotedRow base.now at write kept.old kept.new }
-{
-    let row = noted(kept.row(), base, write, at);
-    kept.set(&row);
 }
 
 // Puts the last row back as it is after the commit.
@@ -57,7 +42,7 @@ fn put_noted(shared: &Shared, pass: &mut Pass, rows: &mut Vec<TakenRow>, base: &
         write,
         mut row,
     } = taken;
-    store(&mut row, base, write, at);
+    store(row.row_mut(), base, write, at);
     shared.put_row(pass, var, row);
 }
 
