@@ -61,8 +61,8 @@ fn is_stopped(shared: &Shared, pass: &mut Pass) -> bool
     shared.stopped(pass)
 }
 
-// A turn of one thread: where the run is to stop, nothing is done.
-fn ride<G: Gate>(
+// A try of one thread: where the run is to stop, nothing is done.
+fn ride_once<G: Gate>(
     alloc: Global,
     rider: &mut Rider,
     shared: &Shared,
@@ -142,6 +142,39 @@ fn go_ahead<G: Gate>(
             Pace::Stopped
         }
     }
+}
+
+// So many tries of one thread in a row, where each is answered: enough for an attempt of some accesses, so that those of other threads of this
+// worker seldom come between its looks and its end.
+const TRIES: usize = 32;
+
+// A turn of one thread: its tries, as long as they are answered.
+fn ride<G: Gate>(
+    alloc: Global,
+    rider: &mut Rider,
+    shared: &Shared,
+    program: &Program,
+    limit: u32,
+    cuts: &Cuts,
+    window: &mut Window,
+    gate: &G,
+) -> Pace
+    requires set { IsSetFor program.now shared.now.key.setting }
+    requires aboard { IsAboard program.now limit shared.now.id rider.old }
+    requires window { capacity shared.now.key ≤ window.old }
+    ensures aboard { IfPace result (IsAboard program.now limit shared.now.id rider.new) }
+    ensures id { rider_id rider.new ≡ rider_id rider.old }
+    ensures window { window.new ≡ window.old }
+{
+    let mut pace = Pace::Idle;
+    for _ in 0..TRIES {
+        match ride_once(alloc, rider, shared, program, limit, cuts, window, gate) {
+            Pace::Moved => pace = Pace::Moved,
+            Pace::Idle => return pace,
+            Pace::Stopped => return Pace::Stopped,
+        }
+    }
+    pace
 }
 
 // A turn of each thread.
