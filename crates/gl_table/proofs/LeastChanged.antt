@@ -199,7 +199,7 @@ candidates_go_on levels monitors i held h here l =
         elim (cases_lt i c.0) [
           | inl after ↦ absurd (let under = rising_places monitors h.rising (i + 1) c.0 (omega arith) c.1
               in let next : get_or monitors (i + 1) MONITORS ≡ slice_index monitors (i + 1) =
-                get_or_default monitors (i + 1) MONITORS 0 (let n = c.1 in omega arith)
+              get_or_default monitors (i + 1) MONITORS 0 (let n = c.1 in omega arith)
               in omega arith)
           | inr before ↦ (let under = rising_places monitors h.rising c.0 i (omega arith) here in omega arith)
         ]
