@@ -1,7 +1,7 @@
 -- From the rows that were taken to an end that is certain.
 use Rattle.gl_txn.proofs.Changes.{look_found}
 use Rattle.std.proofs.Common.{◌≡◌, ℕ, zero, suc, ◌-◌, ◌<◌, ◌≤◌, List, [], ◌∷◌, ◌++◌, map, refl, sym, ap, ◌∙◌, subst, arith, Some, None}
-use Rattle.std.specs.Prelude.{Contains, Option, ◌⊎◌, slice_get}
+use Rattle.std.specs.Prelude.{◌≢◌, Contains, Option, ◌⊎◌, slice_get}
 use Rattle.gl_model.specs.declared.event.Stamp.{Stamp}
 use Rattle.gl_model.specs.declared.limits.TheConstants.{THREADS}
 use Rattle.gl_model.specs.declared.row.Question.{Question}
@@ -327,6 +327,7 @@ module _ (p q r : PassView) (rows : List TakenRow) (tx : Tx) (h : HoldsRows p ro
       → IsWaitBy z (attempt_in tx) w (shelf_of p) p.seen p.reads rows s
   wait_cause z clear (wait.Busy by) s d = record {
     near = d.near;
+    other = subst (λ (u : PassView). by ≢ u.own.id) at_j d.other;
     clear = is_clear_by clear z.key.setting s [] (d.known ∙ sym (append-nil r.known)) s.seen (let c = d.seen in omega arith);
     reads = d.reads ∙ ap (λ (l : List Read). l ++ Busy 0 by ∷ []) reads_j;
   }

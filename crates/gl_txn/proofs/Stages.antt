@@ -32,7 +32,7 @@ held_list_left held t rows tails a = record { at = at; once = once_without 0 hel
 pub reach_unused : (z : TableView) (w : TxWait) (p q : PassView) (rows : List TakenRow) (tx : Tx) → IsReady p rows tx → IsReachStop z w p q
     → AreUnused q.own.held rows
 reach_unused z (wait.Busy by) p q rows tx r s =
-    subst (λ (u : PassView). AreUnused u.own.held rows) (sym s.1)
+    subst (λ (u : PassView). AreUnused u.own.held rows) (sym s.2)
     (record { tails = p.seen ∷ []; drew = undrawn; holds = r.held; unused = λ y d e. absurd (cc) })
 reach_unused z (wait.RingFull low tail) p q rows tx r s = subst (λ (u : PassView). AreUnused u.own.held rows) (sym s.3) (record {
   tails = tail ∷ p.seen ∷ [];
@@ -43,13 +43,13 @@ reach_unused z (wait.RingFull low tail) p q rows tx r s = subst (λ (u : PassVie
 })
 
 pub reach_table : (z : TableView) (w : TxWait) (p q : PassView) → IsReachStop z w p q → q.own.table ≡ p.own.table
-reach_table z (wait.Busy by) p q s = ap (λ (u : PassView). u.own.table) s.1
+reach_table z (wait.Busy by) p q s = ap (λ (u : PassView). u.own.table) s.2
 reach_table z (wait.RingFull low tail) p q s = ap (λ (u : PassView). u.own.table) s.3
 
 pub reach_back : (z : TableView) (w : TxWait) (p q r : PassView) → IsReachStop z w p q → r ≡ record q { own = record q.own { held = [] } }
     → IsPutBack p r
 reach_back z (wait.Busy by) p q r s put =
-    let e = put ∙ ap (λ (u : PassView). record u { own = record u.own { held = [] } }) s.1 in
+    let e = put ∙ ap (λ (u : PassView). record u { own = record u.own { held = [] } }) s.2 in
     record { own = ap (λ (u : PassView). u.own) e; quiet = ap (λ (u : PassView). u.quiet) e; spare = ap (λ (u : PassView). u.spare) e }
 reach_back z (wait.RingFull low tail) p q r s put =
     let e = put ∙ ap (λ (u : PassView). record u { own = record u.own { held = [] } }) s.3 in

@@ -1,6 +1,6 @@
 -- Taking rows one after another, and putting them back.
 use Rattle.std.proofs.Common.{◌≡◌, ℕ, suc, ◌+◌, ◌<◌, ◌==◌, List, [], ◌∷◌, ◌++◌, length, take, drop, get_or, false, refl, sym, ap, ◌∙◌, subst, arith, None, inl, inr, ne_eqb, append_assoc, append-nil}
-use Rattle.std.specs.Prelude.{Option, ℤ, ◌||◌, if◌then◌else◌}
+use Rattle.std.specs.Prelude.{◌≢◌, Option, ℤ, ◌||◌, if◌then◌else◌}
 use Rattle.std.proofs.lemmas.List.{take_more, take-append-drop}
 use Rattle.std.proofs.Math.Seq.{drop-cons}
 use Rattle.gl_model.specs.declared.limits.TheConstants.{THREADS}
@@ -93,10 +93,11 @@ taken_more p q r ys rows y w row t are is = record {
 
 -- the next one's turn was held, and those that were taken were put back
 pub were_busy : (p q r s : PassView) (ids : List ℕ) (i by : ℕ) (rows : List TakenRow) → p.own.held ≡ [] → i < length ids
-    → HaveTaken p q (take i ids) rows → by < THREADS → r ≡ after q (refused (view_of q) (suc (get_or ids i 0)) by)
+    → HaveTaken p q (take i ids) rows → by < THREADS → by ≢ q.own.id → r ≡ after q (refused (view_of q) (suc (get_or ids i 0)) by)
     → s ≡ record r { own = record r.own { held = [] } } → WereBusy ids by p s
-were_busy p q r s ids i by rows none near t few is put = record {
+were_busy p q r s ids i by rows none near t few other is put = record {
   near = few;
+  other = subst (λ (z : PassView). by ≢ z.own.id) t.is other;
   rows = rows;
   var = get_or ids i 0;
   rest = drop (suc i) ids;
