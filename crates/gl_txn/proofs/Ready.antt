@@ -204,18 +204,6 @@ may_judge p q rows tx h n saw within base thread near owned = record {
   owned = owned;
 }
 
-pub drops_as : (tx : Tx) (e : TxEnd) (why : _) (p q : PassView) → ((t : Tx) → entry_of e t ≡ Rattle.gl_model.specs.Entries.Abort t why)
-    → HasDropped tx why p q → EndsAs tx e p q
-drops_as tx e why p q entry d = record {
-  ended = d.ended;
-  looks = d.looks;
-  writes = d.writes;
-  own = ap (λ (u : PassView). u.own) d.is ∙ ap (λ f. record p.own { mine = p.own.mine ++ f ∷ []; drawn = []; held = [] })
-      (sym (entry d.ended));
-  quiet = ap (λ (u : PassView). u.quiet) d.is;
-  spare = ap (λ (u : PassView). u.spare) d.is;
-}
-
 -- the rows that were taken are held
 pub holds_rows : (z : TableView) (p q : PassView) (ys : List ℕ) (rows : List TakenRow) (tx : Tx) → MayTry z p (attempt_in tx) → ys
     ≡ variables_of tx → HaveTaken p q ys rows → HaveWrites tx.writes rows → HoldsRows q rows tx
