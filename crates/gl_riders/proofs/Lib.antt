@@ -9,3 +9,4 @@ pub mod Telling
 pub mod Asking
 pub mod Attempting
 pub mod Trying
+pub mod Stopping

@@ -1,5 +1,5 @@
 -- An event call answers what was asked.
-use Rattle.std.proofs.Common.{◌≡◌, ℕ, ℤ, pos, ◌<◌, ◌==◌, Bool, true, false, List, [], ◌∷◌, refl, sym, ◌∙◌, ap, arith, Some, None, inl, inr, eq-eqb, rules}
+use Rattle.std.proofs.Common.{◌≡◌, ℕ, ℤ, pos, ◌<◌, ◌==◌, Bool, true, false, List, [], refl, sym, ◌∙◌, ap, arith, Some, None, inl, inr, eq-eqb, rules}
 use Rattle.std.proofs.lemmas.Bool.Decides.{nat_tests}
 use Rattle.std.specs.Prelude.{◌⊎◌, if◌then◌else◌, slice_index}
 use Rattle.std.specs.Ordering.{int_eq}

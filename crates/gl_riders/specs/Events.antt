@@ -1,5 +1,5 @@
 -- The entry and the reply of an event call, by what was asked.
-use Rattle.std.specs.Prelude.{◌≡◌, ◌⊎◌, ℕ, ℤ, pos, ◌==◌, if◌then◌else◌, List, slice_index}
+use Rattle.std.specs.Prelude.{◌≡◌, ◌⊎◌, ℕ, ℤ, pos, ◌==◌, if◌then◌else◌, List, slice_index, Option, Some, None, IfSome, MatchOption}
 use Rattle.gl_model.specs.declared.event.Act.TheVariants.{Begin as Began, End as Ends, Acq, Rel, VRead as VolatileRead, VWrite as VolatileWrite, Fork as Forked, Join as Joined, Alloc as Allocated, Print as Printed, Input as Taken, Fail}
 use Rattle.gl_model.specs.Entries.{Entry, Sync}
 use Rattle.gl_model.specs.Machine.{Setting}
@@ -10,30 +10,34 @@ use Rattle.gl_bytecode.specs.declared.ask.Reply.TheVariants.{Go as Gone, Value, 
 use Rattle.gl_events.specs.Acting.{MayStart}
 use Rattle.gl_events.specs.Answers.{MayCall}
 use Rattle.gl_events.specs.Calls.{child_in, not_owner, heap_full, threads_full, input_end, bad_thread}
+use Rattle.gl_events.specs.declared.call.Call.{Call}
 use Rattle.gl_events.specs.declared.call.Call.TheVariants as call
 use Rattle.gl_events.specs.declared.done.Done.{Done}
 use Rattle.gl_table.specs.PassView.{PassView}
 use Rattle.gl_table.specs.TableView.{TableView}
 
--- it is answered by an event
+-- the event call that the ask names, if it is answered by an event
+abbrev pub event_call : Ask → Option Call
+event_call Begin = Some call.Begin
+event_call End = Some call.End
+event_call (VRead v) = Some (call.VRead v)
+event_call (VWrite v a) = Some (call.VWrite v a)
+event_call (Enter o) = Some (call.Enter o)
+event_call (Exit o) = Some (call.Exit o)
+event_call (Fork f a) = Some (call.Fork f a)
+event_call (Join u) = Some (call.Join u)
+event_call (Alloc k) = Some (call.Alloc k)
+event_call (Print a) = Some (call.Print a)
+event_call Input = Some call.Input
+event_call Go = None
+event_call (Over ending) = None
+event_call (Read x) = None
+event_call (Write x a) = None
+event_call TxBegin = None
+event_call (TxEnd keep) = None
+
 abbrev pub IsEvent : Ask → Type 0
-IsEvent Go = ⊥
-IsEvent (Over ending) = ⊥
-IsEvent (Read x) = ⊥
-IsEvent (Write x a) = ⊥
-IsEvent TxBegin = ⊥
-IsEvent (TxEnd keep) = ⊥
-IsEvent Begin = Unit {0}
-IsEvent End = Unit {0}
-IsEvent (VRead v) = Unit {0}
-IsEvent (VWrite v a) = Unit {0}
-IsEvent (Enter o) = Unit {0}
-IsEvent (Exit o) = Unit {0}
-IsEvent (Fork f a) = Unit {0}
-IsEvent (Join u) = Unit {0}
-IsEvent (Alloc k) = Unit {0}
-IsEvent (Print a) = Unit {0}
-IsEvent Input = Unit {0}
+IsEvent ask = MatchOption (event_call ask) ⊥ (λ c. Unit {0})
 
 -- the entry of the event, where the call answered this; of no event End stands for all
 abbrev pub event_entry : Ask → Done → Entry
@@ -104,23 +108,7 @@ IsDoneFor setting levels (TxEnd keep) d = Unit {0}
 
 -- the pass may make the event's call
 abbrev pub MayAsk : TableView → PassView → Ask → Type 0
-MayAsk z v Begin = MayCall call.Begin z v
-MayAsk z v End = MayCall call.End z v
-MayAsk z v (VRead x) = MayCall (call.VRead x) z v
-MayAsk z v (VWrite x a) = MayCall (call.VWrite x a) z v
-MayAsk z v (Enter o) = MayCall (call.Enter o) z v
-MayAsk z v (Exit o) = MayCall (call.Exit o) z v
-MayAsk z v (Fork f a) = MayCall (call.Fork f a) z v
-MayAsk z v (Join u) = MayCall (call.Join u) z v
-MayAsk z v (Alloc k) = MayCall (call.Alloc k) z v
-MayAsk z v (Print a) = MayCall (call.Print a) z v
-MayAsk z v Input = MayCall call.Input z v
-MayAsk z v Go = Unit {0}
-MayAsk z v (Over ending) = Unit {0}
-MayAsk z v (Read x) = Unit {0}
-MayAsk z v (Write x a) = Unit {0}
-MayAsk z v TxBegin = Unit {0}
-MayAsk z v (TxEnd keep) = Unit {0}
+MayAsk z v ask = IfSome (event_call ask) (λ c. MayCall c z v)
 
 -- it asks something of the table: it is not the beginning of a next instruction, nor the end of the list
 abbrev pub IsAsk : Ask → Type 0

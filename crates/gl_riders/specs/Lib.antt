@@ -5,3 +5,4 @@ pub mod Exchanges
 pub mod Sweeping
 pub mod Owing
 pub mod Tries
+pub mod Unanswered

@@ -1,9 +1,10 @@
 // Events that a machine asks for.
-ghost use Rattle.std.specs.Prelude.{◌≡◌, IfOk, OnErr};
+ghost use Rattle.std.specs.Prelude.{◌≡◌, IfOk, IfErr, IfSome, OnErr};
 ghost use Rattle.gl_vm.specs.Asking.{AsksInRange};
 ghost use Rattle.gl_table.specs.Doing.{told};
 ghost use Rattle.gl_rule.specs.Levels.{levels_of};
-ghost use Rattle.gl_riders.specs.Events.{IsDoneFor, IsEvent, MayAsk, answer_or, event_entry, event_reply, go_or};
+ghost use Rattle.gl_events.specs.Answers.{IsStop};
+ghost use Rattle.gl_riders.specs.Events.{IsDoneFor, IsEvent, MayAsk, answer_or, event_call, event_entry, event_reply, go_or};
 ghost use Rattle.gl_riders.specs.Riding.{IsSetFor};
 
 use gl_bytecode::Program;
@@ -25,6 +26,7 @@ pub(crate) fn event(
     ensures entry { IfOk result (λ d. pass.new.own ≡ told (event_entry ask d) pass.old.own) }
     ensures done { IfOk result (λ d. IsDoneFor shared.now.key.setting (levels_of pass.old.own.mine) ask d) }
     ensures kept { OnErr result (pass.new.own ≡ pass.old.own) }
+    ensures stop { IfErr result (λ s. IfSome (event_call ask) (λ c. IsStop c shared.now pass.old pass.new s)) }
 {
     // What they ensure of the ids: a program is valid, and a table has no functions but those that there may be.
     let _main = program.main();

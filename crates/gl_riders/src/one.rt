@@ -7,6 +7,7 @@ ghost use Rattle.gl_riders.specs.Exchanges.{IsAnswered};
 ghost use Rattle.gl_riders.specs.Owing.{AreKept, Owns};
 ghost use Rattle.gl_riders.specs.Riding.{IsSetFor, Rides};
 ghost use Rattle.gl_riders.specs.Tries.{IfAgain, IfAnswered, IfFull};
+ghost use Rattle.gl_riders.specs.Unanswered.{IsNoAccess, IsUnanswered, TableStops};
 
 use crate::tried::Tried;
 use crate::tries::{try_begin, try_end, try_event, try_plain, try_read, try_write};
@@ -37,12 +38,14 @@ pub(crate) fn try_ask(
     requires clear { pass.old.own.owed ≡ [] }
     requires asked { ask ≡ ask_of machine.now.stage }
     requires asks { IsAsk ask }
+    requires inside { txn.old ≡ None → IsNoAccess ask }
     requires spare { 0 < pass.old.spare }
     requires window { capacity shared.now.key ≤ window.old }
     ensures answered { IfOk result (λ t. IfAnswered t (λ reply. IsAnswered program.now machine.now ask reply pass.old.own pass.new.own txn.old txn.new)) }
     ensures kept { IfOk result (λ t. IfAnswered t (λ reply. AreKept txn.new no_words pass.new.own)) }
     ensures again { IfOk result (λ t. IfAgain t (pass.new.own ≡ pass.old.own)) }
     ensures same { IfOk result (λ t. IfAgain t (txn.new ≡ txn.old)) }
+    ensures cause { IfOk result (λ t. IfAgain t (TableStops shared.now txn.old ask pass.old pass.new t)) }
     ensures failed { OnErr result (pass.new.own ≡ pass.old.own) }
     ensures window { window.new ≡ window.old }
 {
@@ -76,12 +79,14 @@ fn try_settled(
     requires clear { pass.old.own.owed ≡ [] }
     requires asked { ask ≡ ask_of machine.now.stage }
     requires asks { IsAsk ask }
+    requires inside { txn.old ≡ None → IsNoAccess ask }
     requires spare { 0 < pass.old.spare }
     requires window { capacity shared.now.key ≤ window.old }
     ensures answered { IfOk result (λ t. IfAnswered t (λ reply. IsAnswered program.now machine.now ask reply pass.old.own pass.new.own txn.old txn.new)) }
     ensures kept { OnOk result (AreKept txn.new words.new pass.new.own) }
     ensures again { IfOk result (λ t. IfAgain t (pass.new.own ≡ pass.old.own)) }
     ensures same { IfOk result (λ t. IfAgain t (txn.new ≡ txn.old)) }
+    ensures cause { IfOk result (λ t. IfAgain t (TableStops shared.now txn.old ask pass.old pass.new t)) }
     ensures failed { OnErr result (pass.new.own ≡ pass.old.own) }
     ensures window { window.new ≡ window.old }
 {
@@ -118,6 +123,7 @@ fn try_flushed(
     requires kept { Owns words.old pass.old.own }
     requires asked { ask ≡ ask_of machine.now.stage }
     requires asks { IsAsk ask }
+    requires other { IsNoAccess ask }
     requires spare { 0 < pass.old.spare }
     requires window { capacity shared.now.key ≤ window.old }
     ensures answered { IfOk result (λ t. IfAnswered t (λ reply. IsAnswered program.now machine.now ask reply pass.old.own pass.new.own txn.old txn.new)) }
@@ -125,6 +131,7 @@ fn try_flushed(
     ensures again { IfOk result (λ t. IfAgain t (pass.new.own ≡ record pass.old.own { owed = pass.new.own.owed })) }
     ensures same { IfOk result (λ t. IfAgain t (txn.new ≡ txn.old)) }
     ensures whole { IfOk result (λ t. IfFull t (pass.new.own.owed ≡ [])) }
+    ensures cause { IfOk result (λ t. IfAgain t (IsUnanswered shared.now txn.old ask pass.old pass.new t)) }
     ensures failed { OnErr result (pass.new.own ≡ record pass.old.own { owed = pass.new.own.owed }) }
     ensures window { window.new ≡ window.old }
 {
@@ -138,7 +145,9 @@ fn try_flushed(
 }
 
 /// What the machine asks: a plain access by the private words or by the table, anything else by the table once nothing is owed. Where it is answered, the
-/// machine, the pass and the attempt go on by one exchange; else only words that were owed may have been written back.
+/// machine, the pass and the attempt go on by one exchange; else only words that were owed may have been written back. `Full` comes exactly where the ring
+/// had no room, `Unforked` where the thread was not forked and no thread was live, and `Again` where the state of the list made the thread wait, or a turn
+/// that the ask or an owed word needs was held by another pass.
 pub fn try_one(
     alloc: Global,
     shared: &Shared,
@@ -163,6 +172,7 @@ pub fn try_one(
     ensures again { IfOk result (λ t. IfAgain t (pass.new.own ≡ record pass.old.own { owed = pass.new.own.owed })) }
     ensures same { IfOk result (λ t. IfAgain t (txn.new ≡ txn.old)) }
     ensures whole { IfOk result (λ t. IfFull t (pass.new.own.owed ≡ [])) }
+    ensures cause { IfOk result (λ t. IfAgain t (IsUnanswered shared.now txn.old ask pass.old pass.new t)) }
     ensures failed { OnErr result (pass.new.own ≡ record pass.old.own { owed = pass.new.own.owed }) }
     ensures window { window.new ≡ window.old }
 {
@@ -201,6 +211,7 @@ fn try_outside(
     ensures again { IfOk result (λ t. IfAgain t (pass.new.own ≡ record pass.old.own { owed = pass.new.own.owed })) }
     ensures same { IfOk result (λ t. IfAgain t (txn.new ≡ txn.old)) }
     ensures whole { IfOk result (λ t. IfFull t (pass.new.own.owed ≡ [])) }
+    ensures cause { IfOk result (λ t. IfAgain t (IsUnanswered shared.now txn.old ask pass.old pass.new t)) }
     ensures failed { OnErr result (pass.new.own ≡ record pass.old.own { owed = pass.new.own.owed }) }
     ensures window { window.new ≡ window.old }
 {

@@ -1,4 +1,4 @@
-ghost use Rattle.std.specs.Prelude.{◌≡◌, ◌<◌, ◌≤◌, Option, Some, None, IfOk, OnOk, OnErr, IsTrue, []};
+ghost use Rattle.std.specs.Prelude.{◌≡◌, ◌≢◌, ◌<◌, ◌≤◌, Option, Some, None, IfOk, OnOk, OnErr, IsTrue, []};
 ghost use Rattle.gl_bytecode.specs.Machine.{ask_of};
 ghost use Rattle.gl_cache.specs.Words.{no_words};
 ghost use Rattle.gl_rule.specs.Objects.{capacity};
@@ -8,6 +8,7 @@ ghost use Rattle.gl_riders.specs.Exchanges.{IsAnswered};
 ghost use Rattle.gl_riders.specs.Owing.{AreKept};
 ghost use Rattle.gl_riders.specs.Riding.{IsSetFor, Rides};
 ghost use Rattle.gl_riders.specs.Tries.{IfAgain, IfAnswered, IfFull, access_ask, access_reply, end_reply};
+ghost use Rattle.gl_riders.specs.Unanswered.{AccessStops, EventStops, TableStops, stopped, waited};
 
 use crate::events::{event, reply_of};
 use crate::tried::Tried;
@@ -24,8 +25,7 @@ use std::alloc::{AllocError, Global};
 
 // An event call that stopped is tried again.
 fn stopped_by(stop: Stop) -> Tried
-    ensures again { IfAgain result (result ≡ result) }
-    ensures never { IfAnswered result (λ reply. ⊥) }
+    ensures { result ≡ stopped stop }
 {
     match stop {
         Stop::RingFull { .. } => Tried::Full,
@@ -58,6 +58,7 @@ pub(crate) fn try_event(
     ensures answered { IfAnswered result (λ reply. IsAnswered program.now machine.now ask reply pass.old.own pass.new.own txn.now txn.now) }
     ensures kept { IfAnswered result (λ reply. AreKept txn.now no_words pass.new.own) }
     ensures again { IfAgain result (pass.new.own ≡ pass.old.own) }
+    ensures cause { IfAgain result (EventStops shared.now ask pass.old pass.new result) }
 {
     match event(shared, pass, program, ask) {
         Ok(done) => Tried::Answered(reply_of(ask, done)),
@@ -88,6 +89,7 @@ pub(crate) fn try_plain(
     ensures kept { AreKept txn.now words.new pass.new.own }
     ensures again { IfAgain result (pass.new.own ≡ pass.old.own) }
     ensures whole { IfFull result ⊥ }
+    ensures cause { IfAgain result (AccessStops (access_ask var write) pass.old pass.new result) }
     ensures window { window.new ≡ window.old }
 {
     let _machine = machine;
@@ -156,12 +158,14 @@ pub(crate) fn try_read(
 ) -> Tried
     requires rides { Rides program.now shared.now.id machine.now pass.old.own txn.old }
     requires asked { Read var ≡ ask_of machine.now.stage }
+    requires inside { txn.old ≢ None }
     requires spare { 0 < pass.old.spare }
     requires clear { pass.old.own.owed ≡ [] }
     ensures answered { IfAnswered result (λ reply. IsAnswered program.now machine.now (Read var) reply pass.old.own pass.new.own txn.old txn.new) }
     ensures kept { IfAnswered result (λ reply. AreKept txn.new no_words pass.new.own) }
     ensures again { IfAgain result (pass.new.own ≡ pass.old.own) }
     ensures same { IfAgain result (txn.new ≡ txn.old) }
+    ensures cause { IfAgain result (TableStops shared.now txn.old (Read var) pass.old pass.new result) }
 {
     let _machine = machine;
     let _program = program;
@@ -171,7 +175,7 @@ pub(crate) fn try_read(
             Err(TxStop::TooLarge) => Tried::Answered(Reply::Raise(TX_TOO_LARGE)),
             Err(TxStop::Busy { .. }) => Tried::Again,
         },
-        None => Tried::Again,
+        None => unreachable!(),
     }
 }
 
@@ -187,10 +191,11 @@ pub(crate) fn try_write(
 ) -> Tried
     requires rides { Rides program.now shared.now.id machine.now pass.now.own txn.old }
     requires asked { Write var value ≡ ask_of machine.now.stage }
+    requires inside { txn.old ≢ None }
     requires clear { pass.now.own.owed ≡ [] }
     ensures answered { IfAnswered result (λ reply. IsAnswered program.now machine.now (Write var value) reply pass.now.own pass.now.own txn.old txn.new) }
     ensures kept { IfAnswered result (λ reply. AreKept txn.new no_words pass.now.own) }
-    ensures same { IfAgain result (txn.new ≡ txn.old) }
+    ensures always { IfAgain result ⊥ }
 {
     let _shared = shared;
     let _machine = machine;
@@ -200,9 +205,19 @@ pub(crate) fn try_write(
         Some(attempt) => match attempt.write(var, value) {
             Ok(()) => Tried::Answered(Reply::Go),
             Err(TxStop::TooLarge) => Tried::Answered(Reply::Raise(TX_TOO_LARGE)),
-            Err(TxStop::Busy { .. }) => Tried::Again,
+            Err(TxStop::Busy { .. }) => unreachable!(),
         },
-        None => Tried::Again,
+        None => unreachable!(),
+    }
+}
+
+// What the end's wait comes to.
+fn waited_for(wait: TxWait) -> Tried
+    ensures { result ≡ waited wait }
+{
+    match wait {
+        TxWait::Busy { .. } => Tried::Again,
+        TxWait::RingFull { .. } => Tried::Full,
     }
 }
 
@@ -226,6 +241,7 @@ pub(crate) fn try_end(
     ensures kept { IfAnswered result (λ reply. AreKept txn.new no_words pass.new.own) }
     ensures again { IfAgain result (pass.new.own ≡ pass.old.own) }
     ensures same { IfAgain result (txn.new ≡ txn.old) }
+    ensures cause { IfAgain result (TableStops shared.now txn.old (EndAsk keep) pass.old pass.new result) }
     ensures window { window.new ≡ window.old }
 {
     let _machine = machine;
@@ -235,12 +251,9 @@ pub(crate) fn try_end(
             Ok(end) => Tried::Answered(end_reply(end)),
             Err((attempt, wait)) => {
                 *txn = Some(attempt);
-                match wait {
-                    TxWait::Busy { .. } => Tried::Again,
-                    TxWait::RingFull { .. } => Tried::Full,
-                }
+                waited_for(wait)
             }
         },
-        None => Tried::Again,
+        None => unreachable!(),
     }
 }

@@ -1,11 +1,13 @@
 // Private words: plain accesses that need no table move, and what is owed for them.
-ghost use Rattle.std.specs.Prelude.{◌≡◌, ◌<◌, ◌≤◌, true, false, [], Some, None, IfOk, OnErr};
+ghost use Rattle.std.specs.Prelude.{◌≡◌, ◌<◌, ◌≤◌, true, false, [], Some, None, IfOk, IfErr, OnErr};
 ghost use Rattle.gl_model.specs.declared.limits.TheConstants.{VARIABLES};
 ghost use Rattle.gl_rows.specs.Accessing.{HasEntry};
+ghost use Rattle.gl_rows.specs.Walks.{ReadBusy};
 ghost use Rattle.gl_rule.specs.Lives.{Running, life_of};
 ghost use Rattle.gl_rule.specs.Objects.{capacity};
 ghost use Rattle.gl_table.specs.RightOf.{right_of};
 ghost use Rattle.gl_riders.specs.Owing.{MayMark, Owns, PlainBy, repeat_number, repeated};
+ghost use Rattle.gl_riders.specs.Unanswered.{IsPaid, PayStops};
 ghost use Rattle.gl_table.specs.Repeating.{MayRepeat};
 
 use gl_cache::WordCache;
@@ -21,7 +23,8 @@ pub(crate) fn flush(shared: &Shared, pass: &mut Pass, words: &mut WordCache) -> 
     ensures owns { Owns words.new pass.new.own }
     ensures rest { pass.new.own ≡ record pass.old.own { owed = pass.new.own.owed } }
     ensures spare { pass.new.spare ≡ pass.old.spare }
-    ensures done { result ≡ true → pass.new.own.owed ≡ [] }
+    ensures done { result ≡ true → IsPaid pass.old pass.new }
+    ensures stuck { result ≡ false → PayStops pass.old pass.new }
 {
     'owed: loop {
         match words.next_dirty() {
@@ -128,6 +131,7 @@ fn first_access(
     requires window { capacity shared.now.key ≤ window.old }
     ensures done { IfOk result (λ s. HasEntry var write pass.old.own s pass.new.own) }
     ensures kept { OnErr result (pass.new.own ≡ pass.old.own) }
+    ensures busy { IfErr result (λ b. ReadBusy var b.by pass.old pass.new) }
     ensures owns { Owns words.new pass.new.own }
     ensures window { window.new ≡ window.old }
 {
@@ -157,6 +161,8 @@ pub(crate) fn plain(
     requires window { capacity shared.now.key ≤ window.old }
     ensures done { IfOk result (λ s. PlainBy (repeat_number (right_of pass.old.own.mine var) write) var write s pass.old.own pass.new.own) }
     ensures kept { OnErr result (pass.new.own ≡ pass.old.own) }
+    ensures busy { IfErr result (λ b. ReadBusy var b.by pass.old pass.new) }
+    ensures unrepeated { OnErr result (repeat_number (right_of pass.old.own.mine var) write ≡ None) }
     ensures owns { Owns words.new pass.new.own }
     ensures window { window.new ≡ window.old }
 {

@@ -1,7 +1,7 @@
 -- A sweep: what the tries of rows and the raise of the first segment say together.
 use Rattle.std.proofs.Common.{◌≡◌, ℕ, suc, ◌+◌, ◌-◌, ◌*◌, ◌/◌, ◌<◌, ◌≤◌, max, List, [], ◌∷◌, ◌++◌, Ok, Err, refl, sym, ap, subst, arith, ◌∙◌, inl, inr, true, false, Bool, append_assoc, append-nil, lit<}
 use borrow.Author.Tests.{ltb-true}
-use Rattle.std.specs.Prelude.{◌≢◌, ◌⊎◌, Contains, Result, IfOk, IfErr, nat_lt, if◌then◌else◌}
+use Rattle.std.specs.Prelude.{◌≢◌, Contains, Result, IfOk, IfErr, nat_lt, if◌then◌else◌}
 use Rattle.std.proofs.lemmas.Bool.{ltb-false, le-ltb}
 use Rattle.std.proofs.lemmas.List.Elements.{Contains-append_left, Contains-append_right}
 use Rattle.std.proofs.Math.Nat.{le-div_iff_mul-le, le-max_right}
@@ -183,10 +183,9 @@ swept z p q r s tail to low some is later own to_is tried settles =
           o.0,
           by,
           settles.least,
-          Contains-append_left tried.further (l.further ++ last) (Busy (suc o.0) by) has,
+          has,
           other,
-          Contains-append_right tried.further (l.further ++ last) (Hold (suc o.0) settles.least)
-              (Contains-append_left l.further last (Hold (suc o.0) settles.least) o.2),
+          o.2,
           up,
         )
       ];

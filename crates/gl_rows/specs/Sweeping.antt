@@ -32,11 +32,11 @@ pub record AreTried (k to : ℕ) (p q : PassView) : Type 0 where
   pub reads : q.reads ≡ p.reads ++ further
   pub far : (x : ℕ) → x < k → IsFar p.own.id x to further
 
--- the segment is at least that of the tail, or, of a row whose turn pass t read as held by another, at least that of its hold, as it was loaded
--- then
-abbrev pub Reaches : ℕ → ℕ → ℕ → ℕ → List Read → Type 0
-Reaches t cells tail low reads =
-    (tail / cells ≤ low) ⊎ ((x : ℕ) × (by : ℕ) × (m : ℕ) × Contains reads (Busy (suc x) by) × (by ≢ t) × Contains reads (Hold (suc x) m)
+-- the segment is at least that of the tail, or, of a row whose turn pass t read as held by another as it tried the rows, at least that of its
+-- hold, as it was loaded after the tries
+abbrev pub Reaches : ℕ → ℕ → ℕ → ℕ → List Read → List Read → Type 0
+Reaches t cells tail low tries holds =
+    (tail / cells ≤ low) ⊎ ((x : ℕ) × (by : ℕ) × (m : ℕ) × Contains tries (Busy (suc x) by) × (by ≢ t) × Contains holds (Hold (suc x) m)
     × (m / cells ≤ low))
 
 -- the pass stored a Trim of the first segment exactly where that rose, and the first segment is as far as the rows let it
@@ -57,4 +57,4 @@ pub record IsSwept (z : TableView) (p q : PassView) (low : ℕ) : Type 0 where
   pub each : (x : ℕ) → x < VARIABLES → (n : ℕ) × Contains holds (Hold (suc x) n) × (least ≤ n)
   pub is_one : (x : ℕ) × (x < VARIABLES) × Contains holds (Hold (suc x) least)
   pub low_is : low ≡ max before (least / z.key.cells)
-  pub reaches : Reaches p.own.id z.key.cells tail low (tries ++ (holds ++ (Hold 0 before ∷ Hold 0 low ∷ [])))
+  pub reaches : Reaches p.own.id z.key.cells tail low tries holds

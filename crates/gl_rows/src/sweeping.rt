@@ -45,7 +45,8 @@ fn try_rows(shared: &Shared, pass: &mut Pass, to: u64, window: &mut Window)
 
 /// Makes room in the ring: tries once to move each row up whose hold lies before the tail's segment, passes over rows that are held by
 /// others, and raises the first segment to that of the least hold. It answers the first segment, which is at least the tail's segment, but
-/// for a row whose turn this call read as held: then it is at least the segment of that row's hold.
+/// for a row whose turn this call read as held by another pass: then it is at least the segment of that row's hold, as it was loaded after
+/// the rows were tried.
 pub fn sweep(shared: &Shared, pass: &mut Pass, window: &mut Window) -> u64
     requires may { MaySettle shared.now pass.old }
     requires window { capacity shared.now.key ≤ window.old }

@@ -207,10 +207,6 @@ unused_fewer held rows r u = record {
 pub unused_none : (held : List Held) → AreUnused held [] → held ≡ []
 unused_none held u = held_none held u.tails u.drew u.holds
 
--- rows that were just taken
-pub taken_unused : (held : List Held) (rows : List TakenRow) → AreHeld held None rows [] undrawn → AreUnused held rows
-taken_unused held rows a = record { tails = []; drew = undrawn; holds = a; unused = λ y d e. absurd (cc) }
-
 pub last_near : (held : List Held) (rows : List TakenRow) (r : TakenRow) → AreUnused held (rows ++ r ∷ []) → r.var < VARIABLES
 last_near held rows r u = (front_are (vars_of rows) r.var (subst AreVariables (vars_pushed rows r) u.holds.are)).1
 

@@ -16,6 +16,5 @@ pub mod Published
 pub mod Publishes
 pub mod Stages
 pub mod Ready
-pub mod Causes
 pub mod NewLooks
 pub mod Apart

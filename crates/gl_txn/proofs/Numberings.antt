@@ -87,9 +87,5 @@ drawn_none p list rows tails a = record {
   above = λ y k m look c d. absurd (let l = d.1 in omega arith);
 }
 
-pub length_vars : (rows : List TakenRow) → length (vars_of rows) ≡ length rows
-length_vars [] = refl
-length_vars (r ∷ rs) = ap suc (length_vars rs)
-
 pub row_near : (rows : List TakenRow) (i : ℕ) (r : TakenRow) → AreVariables (vars_of rows) → slice_get rows i ≡ Some r → r.var < VARIABLES
 row_near rows i r are there = let v = var_at rows i r there in subst (λ k. k < VARIABLES) v.1 (near_in (vars_of rows) i are.2 v.0)

@@ -1,5 +1,5 @@
 -- One row after another is judged.
-use Rattle.std.proofs.Common.{◌≡◌, ℕ, zero, suc, ◌+◌, ◌≤◌, ◌==◌, List, [], ◌∷◌, ◌++◌, length, map, true, false, refl, sym, ap, ◌∙◌, subst, arith, Some, inl, inr, append_assoc, append-nil, eq-eqb, ne_eqb}
+use Rattle.std.proofs.Common.{◌≡◌, ℕ, zero, suc, ◌+◌, ◌≤◌, ◌==◌, List, [], ◌∷◌, ◌++◌, length, map, true, false, refl, sym, ap, ◌∙◌, subst, arith, Some, inl, inr, append_assoc, eq-eqb, ne_eqb}
 use Rattle.std.specs.Prelude.{Contains, ◌↔◌, is_some, slice_get}
 use Rattle.std.specs.List.{find}
 use Rattle.std.proofs.lemmas.Bool.{cases_lt}
@@ -36,10 +36,6 @@ is_written x (w ∷ ws) = elim (ℕ_discrete x w.var) [
   | no ne ↦ (let a : (w.var == x) ≡ false = ne_eqb w.var x (λ e. ne (sym e)) in let b : (x == w.var) ≡ false = ne_eqb x w.var ne
       in rw (a, b) (is_written x ws))
 ]
-
--- the pass after walks
-pub knows_none : (p : PassView) → KnowsOn p p
-knows_none p = record { more = []; is = ap (λ (l : List (ℕ × Stamp)). record p { known = l }) (sym (append-nil p.known)) }
 
 pub knows_more : (row : _) (p q r : PassView) → KnowsOn p q → HasWalked row q r → KnowsOn p r
 knows_more row p q r k w =

@@ -1,7 +1,7 @@
 -- From the rows that were taken to an end that is certain.
 use Rattle.gl_txn.proofs.Changes.{look_found}
 use Rattle.std.proofs.Common.{◌≡◌, ℕ, zero, suc, ◌-◌, ◌<◌, ◌≤◌, List, [], ◌∷◌, ◌++◌, map, refl, sym, ap, ◌∙◌, subst, arith, Some, None}
-use Rattle.std.specs.Prelude.{Contains, Option, ◌⊎◌, slice_get}
+use Rattle.std.specs.Prelude.{◌≢◌, Contains, Option, ◌⊎◌, slice_get}
 use Rattle.gl_model.specs.declared.event.Stamp.{Stamp}
 use Rattle.gl_model.specs.declared.limits.TheConstants.{THREADS}
 use Rattle.gl_model.specs.declared.row.Question.{Question}
@@ -204,18 +204,6 @@ may_judge p q rows tx h n saw within base thread near owned = record {
   owned = owned;
 }
 
-pub drops_as : (tx : Tx) (e : TxEnd) (why : _) (p q : PassView) → ((t : Tx) → entry_of e t ≡ Rattle.gl_model.specs.Entries.Abort t why)
-    → HasDropped tx why p q → EndsAs tx e p q
-drops_as tx e why p q entry d = record {
-  ended = d.ended;
-  looks = d.looks;
-  writes = d.writes;
-  own = ap (λ (u : PassView). u.own) d.is ∙ ap (λ f. record p.own { mine = p.own.mine ++ f ∷ []; drawn = []; held = [] })
-      (sym (entry d.ended));
-  quiet = ap (λ (u : PassView). u.quiet) d.is;
-  spare = ap (λ (u : PassView). u.spare) d.is;
-}
-
 -- the rows that were taken are held
 pub holds_rows : (z : TableView) (p q : PassView) (ys : List ℕ) (rows : List TakenRow) (tx : Tx) → MayTry z p (attempt_in tx) → ys
     ≡ variables_of tx → HaveTaken p q ys rows → HaveWrites tx.writes rows → HoldsRows q rows tx
@@ -327,6 +315,7 @@ module _ (p q r : PassView) (rows : List TakenRow) (tx : Tx) (h : HoldsRows p ro
       → IsWaitBy z (attempt_in tx) w (shelf_of p) p.seen p.reads rows s
   wait_cause z clear (wait.Busy by) s d = record {
     near = d.near;
+    other = subst (λ (u : PassView). by ≢ u.own.id) at_j d.other;
     clear = is_clear_by clear z.key.setting s [] (d.known ∙ sym (append-nil r.known)) s.seen (let c = d.seen in omega arith);
     reads = d.reads ∙ ap (λ (l : List Read). l ++ Busy 0 by ∷ []) reads_j;
   }

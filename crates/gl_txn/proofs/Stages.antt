@@ -1,22 +1,16 @@
 -- The parts of an end, one after another.
-use Rattle.std.proofs.Common.{◌≡◌, ℕ, zero, suc, List, [], ◌∷◌, ◌++◌, map, sym, ap, ◌∙◌, subst, arith, Some, None}
+use Rattle.std.proofs.Common.{◌≡◌, ℕ, zero, suc, List, [], ◌∷◌, map, sym, ◌∙◌, subst, arith, Some, None}
 use Rattle.gl_model.specs.declared.tx.Tx.{Tx}
-use Rattle.gl_model.specs.Entries.{Commit}
 use Rattle.gl_rule.specs.declared.slot.Slot.TheVariants as slot
 use Rattle.gl_rule.specs.View.{Held, new_held, with_tail, without}
-use Rattle.gl_state.specs.ListView.{ListView}
 use Rattle.gl_table.specs.PassView.{PassView}
 use Rattle.gl_table.specs.TableView.{TableView}
-use Rattle.gl_txn.specs.Drawing.{with_entry}
 use Rattle.gl_txn.specs.Holding.{AreHeld, AreUnused, held_of, found, undrawn}
-use Rattle.gl_txn.specs.Publishing.{HasReached, HasPublished, IsReady, IsReachStop}
-use Rattle.gl_txn.specs.Stages.{EndsAs, IsPutBack}
-use Rattle.gl_txn.specs.declared.stops.TxEnd.TheVariants as end
+use Rattle.gl_txn.specs.Publishing.{IsReady, IsReachStop}
 use Rattle.gl_txn.specs.declared.stops.TxWait.{TxWait}
 use Rattle.gl_txn.specs.declared.stops.TxWait.TheVariants as wait
 use Rattle.gl_txn.specs.declared.taken.TakenRow.{TakenRow}
 use Rattle.gl_txn.proofs.Finding.{found_gone, found_still, once_without}
-use Rattle.gl_txn.proofs.LookSteps.{or_no}
 use Rattle.gl_txn.proofs.Published.{held_reached}
 
 -- the list was put back beside the rows
@@ -32,7 +26,7 @@ held_list_left held t rows tails a = record { at = at; once = once_without 0 hel
 pub reach_unused : (z : TableView) (w : TxWait) (p q : PassView) (rows : List TakenRow) (tx : Tx) → IsReady p rows tx → IsReachStop z w p q
     → AreUnused q.own.held rows
 reach_unused z (wait.Busy by) p q rows tx r s =
-    subst (λ (u : PassView). AreUnused u.own.held rows) (sym s.1)
+    subst (λ (u : PassView). AreUnused u.own.held rows) (sym s.2)
     (record { tails = p.seen ∷ []; drew = undrawn; holds = r.held; unused = λ y d e. absurd (cc) })
 reach_unused z (wait.RingFull low tail) p q rows tx r s = subst (λ (u : PassView). AreUnused u.own.held rows) (sym s.3) (record {
   tails = tail ∷ p.seen ∷ [];
@@ -41,46 +35,3 @@ reach_unused z (wait.RingFull low tail) p q rows tx r s = subst (λ (u : PassVie
       rows (tail ∷ p.seen ∷ []) (held_reached p.own.held rows (p.seen ∷ []) r.held (slot.List s.0) tail);
   unused = λ y d e. absurd (cc);
 })
-
-pub reach_table : (z : TableView) (w : TxWait) (p q : PassView) → IsReachStop z w p q → q.own.table ≡ p.own.table
-reach_table z (wait.Busy by) p q s = ap (λ (u : PassView). u.own.table) s.1
-reach_table z (wait.RingFull low tail) p q s = ap (λ (u : PassView). u.own.table) s.3
-
-pub reach_back : (z : TableView) (w : TxWait) (p q r : PassView) → IsReachStop z w p q → r ≡ record q { own = record q.own { held = [] } }
-    → IsPutBack p r
-reach_back z (wait.Busy by) p q r s put =
-    let e = put ∙ ap (λ (u : PassView). record u { own = record u.own { held = [] } }) s.1 in
-    record { own = ap (λ (u : PassView). u.own) e; quiet = ap (λ (u : PassView). u.quiet) e; spare = ap (λ (u : PassView). u.spare) e }
-reach_back z (wait.RingFull low tail) p q r s put =
-    let e = put ∙ ap (λ (u : PassView). record u { own = record u.own { held = [] } }) s.3 in
-    record {
-      own = ap (λ (u : PassView). u.own) e;
-      quiet = ap (λ (u : PassView). u.quiet) e
-          ∙ or_no p.quiet;
-      spare = ap (λ (u : PassView). u.spare) e;
-    }
-
--- a commit that was published ends the attempt
-pub ends_done : (z : TableView) (l : ListView) (tx : Tx) (at : ℕ) (p q r : PassView) → HasReached z p l q → HasPublished tx at q r
-    → EndsAs tx (end.Done at) p r
-ends_done z l tx at p q r reached h =
-    let e = h.is ∙ ap (λ (u : PassView). record (with_entry u (Commit at h.ended)) {
-      seen = suc at;
-      known = u.known
-          ++ (at, Rattle.gl_table.specs.Committing.commit_stamp u.own.id h.ended) ∷ [];
-      stored = [];
-    }) reached.is in
-    record {
-      ended = h.ended;
-      looks = h.looks;
-      writes = h.writes;
-      own = ap (λ (u : PassView). u.own) e;
-      quiet = ap (λ (u : PassView). u.quiet) e;
-      spare = ap (λ (u : PassView). u.spare) e;
-    }
-
-pub reached_table : (z : TableView) (l : ListView) (p q : PassView) → HasReached z p l q → q.own.table ≡ p.own.table
-reached_table z l p q r = ap (λ (u : PassView). u.own.table) r.is
-
-pub reached_spare : (z : TableView) (l : ListView) (p q : PassView) → HasReached z p l q → q.spare ≡ p.spare
-reached_spare z l p q r = ap (λ (u : PassView). u.spare) r.is

@@ -1,6 +1,6 @@
 -- Taking rows one after another, and putting them back.
-use Rattle.std.proofs.Common.{◌≡◌, ℕ, suc, ◌+◌, ◌<◌, ◌==◌, List, [], ◌∷◌, ◌++◌, length, take, drop, get_or, false, refl, sym, ap, ◌∙◌, subst, arith, None, inl, inr, ne_eqb, append_assoc, append-nil}
-use Rattle.std.specs.Prelude.{Option, ℤ, ◌||◌, if◌then◌else◌}
+use Rattle.std.proofs.Common.{◌≡◌, ℕ, suc, ◌+◌, ◌<◌, ◌==◌, List, [], ◌∷◌, ◌++◌, length, take, drop, get_or, false, refl, sym, ap, ◌∙◌, subst, arith, None, inl, inr, ne_eqb, append_assoc}
+use Rattle.std.specs.Prelude.{◌≢◌, Option, ℤ, ◌||◌, if◌then◌else◌}
 use Rattle.std.proofs.lemmas.List.{take_more, take-append-drop}
 use Rattle.std.proofs.Math.Seq.{drop-cons}
 use Rattle.gl_model.specs.declared.limits.TheConstants.{THREADS}
@@ -12,7 +12,7 @@ use Rattle.gl_rule.specs.View.{Held, Read, Busy, Taken, new_held, without, took,
 use Rattle.gl_table.specs.PassView.{PassView, view_of, after}
 use Rattle.gl_txn.specs.Holding.{vars_of, takes, AreHeld, AreUnused, HaveTaken, HaveWrites, WereBusy, undrawn, write_in}
 use Rattle.gl_txn.specs.declared.taken.TakenRow.{TakenRow}
-use Rattle.gl_txn.proofs.Holdings.{held_more, held_nothing, vars_pushed, unused_none}
+use Rattle.gl_txn.proofs.Holdings.{held_more, vars_pushed, unused_none}
 use Rattle.gl_txn.proofs.LookSteps.{or_no}
 
 -- a row that was put back
@@ -34,11 +34,6 @@ put_is p q x is =
     ∙ ap (λ b. record p { own = record p.own { held = l }; quiet = b }) (or_no p.quiet)
     ∙ ap (λ (h : List Held). record p { own = record p.own { held = h } }) (sym (put_held p q x is))
 
--- one after another
-pub puts_more : (p q r : PassView) → q ≡ record p { own = record p.own { held = q.own.held } } → r
-    ≡ record q { own = record q.own { held = r.own.held } } → r ≡ record p { own = record p.own { held = r.own.held } }
-puts_more p q r a b = b ∙ ap (λ (q : PassView). record q { own = record q.own { held = r.own.held } }) a
-
 pub puts_all : (p q : PassView) → q ≡ record p { own = record p.own { held = q.own.held } } → AreUnused q.own.held [] → q
     ≡ record p { own = record p.own { held = [] } }
 puts_all p q a u = a ∙ ap (λ (h : List Held). record p { own = record p.own { held = h } }) (unused_none q.own.held u)
@@ -46,14 +41,6 @@ puts_all p q a u = a ∙ ap (λ (h : List Held). record p { own = record p.own {
 takes_pushed : (rows : List TakenRow) (r : TakenRow) → takes (rows ++ r ∷ []) ≡ takes rows ++ Taken (suc r.var) (slot.Row r.row) ∷ []
 takes_pushed [] r = refl
 takes_pushed (q ∷ rs) r = ap (λ (l : List Read). Taken (suc q.var) (slot.Row q.row) ∷ l) (takes_pushed rs r)
-
--- nothing was taken yet
-pub taken_none : (p : PassView) → p.own.held ≡ [] → HaveTaken p p [] []
-taken_none p none = record {
-  of = refl;
-  is = ap (λ (l : List Read). record p { reads = l }) (sym (append-nil p.reads));
-  held = held_nothing p.own.held none;
-}
 
 -- one row more was taken
 pub taken_more : (p q r : PassView) (ys : List ℕ) (rows : List TakenRow) (y : ℕ) (w : Option ℤ) (row : Row) → HaveTaken p q ys rows
@@ -93,10 +80,11 @@ taken_more p q r ys rows y w row t are is = record {
 
 -- the next one's turn was held, and those that were taken were put back
 pub were_busy : (p q r s : PassView) (ids : List ℕ) (i by : ℕ) (rows : List TakenRow) → p.own.held ≡ [] → i < length ids
-    → HaveTaken p q (take i ids) rows → by < THREADS → r ≡ after q (refused (view_of q) (suc (get_or ids i 0)) by)
+    → HaveTaken p q (take i ids) rows → by < THREADS → by ≢ q.own.id → r ≡ after q (refused (view_of q) (suc (get_or ids i 0)) by)
     → s ≡ record r { own = record r.own { held = [] } } → WereBusy ids by p s
-were_busy p q r s ids i by rows none near t few is put = record {
+were_busy p q r s ids i by rows none near t few other is put = record {
   near = few;
+  other = subst (λ (z : PassView). by ≢ z.own.id) t.is other;
   rows = rows;
   var = get_or ids i 0;
   rest = drop (suc i) ids;

@@ -53,7 +53,3 @@ with_look x value nth a = record a { looks = with_part (λ p. p.var) (record { v
 -- the writes of its end, which are dropped where they are not kept
 abbrev pub writes_at : Attempting → Bool → List Pair
 writes_at a keep = if keep then a.writes else []
-
--- the variables of its end
-abbrev pub variables_at : Attempting → Bool → List ℕ
-variables_at a keep = variables_in a.looks (writes_at a keep)

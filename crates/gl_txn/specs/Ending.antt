@@ -139,10 +139,11 @@ abbrev pub IsCause : TableView → Attempting → TxEnd → PassView → PassVie
 IsCause z a e p q = (rows : List TakenRow) × (vars_of rows ≡ variables_in a.looks a.writes)
     × IsCauseBy z a e (shelf_of p) p.seen (p.reads ++ takes rows) rows q
 
--- nothing speaks against the commit, and the list's turn was read as held
+-- nothing speaks against the commit, and the list's turn was read as held by another pass
 pub record ListWasBusy (z : TableView) (a : Attempting) (by : ℕ) (s : Shelf) (from : ℕ) (before : List Read) (rows : List TakenRow)
     (q : PassView) : Type 0 where
   pub near : by < THREADS
+  pub other : by ≢ s.thread
   pub clear : IsClear z.key.setting a s from q.seen rows q
   pub reads : q.reads ≡ before ++ Busy 0 by ∷ []
 
@@ -164,7 +165,7 @@ abbrev pub WaitsWithAll : TableView → Attempting → TxWait → PassView → P
 WaitsWithAll z a w p q = (rows : List TakenRow) × (vars_of rows ≡ variables_in a.looks a.writes)
     × IsWaitBy z a w (shelf_of p) p.seen (p.reads ++ takes rows) rows q
 
--- some of its rows, the first ones, were taken, and the turn of the next one was read as held
+-- some of its rows, the first ones, were taken, and the turn of the next one was read as held by another pass
 abbrev pub RowWasBusy : Attempting → TxWait → PassView → PassView → Type 0
 RowWasBusy a (wait.Busy by) p q = WereBusy (variables_in a.looks a.writes) by p q
 RowWasBusy a (wait.RingFull low tail) p q = ⊥

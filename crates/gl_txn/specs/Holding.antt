@@ -1,5 +1,5 @@
 -- The rows that an attempt's end holds, as the pass's view has them.
-use Rattle.std.specs.Prelude.{◌≡◌, ℕ, ℤ, zero, suc, ◌==◌, ◌<◌, false, if◌then◌else◌, List, [], ◌∷◌, ◌++◌, map, Contains, Option, Some, None}
+use Rattle.std.specs.Prelude.{◌≡◌, ◌≢◌, ℕ, ℤ, zero, suc, ◌==◌, ◌<◌, false, if◌then◌else◌, List, [], ◌∷◌, ◌++◌, map, Contains, Option, Some, None}
 use Rattle.gl_model.specs.declared.limits.TheConstants.{THREADS}
 use Rattle.std.specs.List.{find}
 use Rattle.gl_model.specs.declared.tx.Pair.{Pair}
@@ -71,9 +71,10 @@ pub record HaveTaken (p q : PassView) (ys : List ℕ) (rows : List TakenRow) : T
   pub is : q ≡ record p { own = record p.own { held = q.own.held }; reads = p.reads ++ takes rows }
   pub held : AreHeld q.own.held None rows [] undrawn
 
--- it took some of them, the first ones, found the next one's turn held, and put them back
+-- it took some of them, the first ones, found the next one's turn held by another pass, and put them back
 pub record WereBusy (ys : List ℕ) (by : ℕ) (p q : PassView) : Type 0 where
   pub near : by < THREADS
+  pub other : by ≢ p.own.id
   pub rows : List TakenRow
   pub var : ℕ
   pub rest : List ℕ

@@ -1,5 +1,5 @@
 -- A pass that reaches for the list, and publishes a commit.
-use Rattle.std.specs.Prelude.{◌≡◌, ℕ, suc, false, slice_get, ◌<◌, ◌≤◌, ◌^◌, List, [], ◌∷◌, ◌++◌, map, Some, None}
+use Rattle.std.specs.Prelude.{◌≡◌, ◌≢◌, ℕ, suc, false, slice_get, ◌<◌, ◌≤◌, ◌^◌, List, [], ◌∷◌, ◌++◌, map, Some, None}
 use Rattle.gl_model.specs.declared.limits.TheConstants.{THREADS}
 use Rattle.gl_model.specs.declared.tx.Tx.{Tx}
 use Rattle.gl_model.specs.Entries.{Commit}
@@ -45,9 +45,9 @@ pub record HasReached (z : TableView) (p : PassView) (l : ListView) (q : PassVie
   pub room : HasRoomAt z low tail
   pub is : q ≡ with_room p l low tail
 
--- the list's turn was held, or there was no room, and the list was put back
+-- the list's turn was held by another pass, or there was no room, and the list was put back
 abbrev pub IsReachStop : TableView → TxWait → PassView → PassView → Type 0
-IsReachStop z (wait.Busy by) p q = (by < THREADS) × (q ≡ record p { reads = p.reads ++ Busy 0 by ∷ [] })
+IsReachStop z (wait.Busy by) p q = (by < THREADS) × (by ≢ p.own.id) × (q ≡ record p { reads = p.reads ++ Busy 0 by ∷ [] })
 IsReachStop z (wait.RingFull low tail) p q = (l : ListView) × (p.seen ≤ tail) × (HasRoomAt z low tail → ⊥)
     × (q ≡ after (with_room p l low tail) (left (view_of (with_room p l low tail)) 0 false))
 

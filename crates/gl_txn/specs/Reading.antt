@@ -1,5 +1,5 @@
 -- What a read inside an attempt answers, and why it stops.
-use Rattle.std.specs.Prelude.{◌≡◌, ℕ, ℤ, suc, ◌<◌, false, [], ◌∷◌, ◌++◌, Option, Some, None}
+use Rattle.std.specs.Prelude.{◌≡◌, ◌≢◌, ℕ, ℤ, suc, ◌<◌, false, [], ◌∷◌, ◌++◌, Option, Some, None}
 use Rattle.gl_model.specs.declared.limits.TheConstants.{THREADS, TX_VARIABLES}
 use Rattle.gl_model.specs.declared.row.Row.{Row}
 use Rattle.gl_model.specs.declared.tx.Look.{Look}
@@ -33,9 +33,9 @@ LooksBy None None x value p q = (row : Row) × (row.value ≡ value)
 abbrev pub HasLooked : Attempting → ℕ → ℤ → PassView → PassView → Type 0
 HasLooked a x value p q = LooksBy (written a x) (looked a x) x value p q
 
--- why a read stopped: it needed a look, had room for it and read the row's turn as held; or it has no room for the variable
+-- why a read stopped: it needed a look, had room for it and read the row's turn as held by another pass; or it has no room for the variable
 abbrev pub IsReadStop : TxStop → Attempting → ℕ → PassView → PassView → Type 0
-IsReadStop (Busy by) a x p q = (is_in a x ≡ false) × (size a < TX_VARIABLES) × (by < THREADS)
+IsReadStop (Busy by) a x p q = (is_in a x ≡ false) × (size a < TX_VARIABLES) × (by < THREADS) × (by ≢ p.own.id)
     × (q ≡ after p (refused (view_of p) (suc x) by))
 IsReadStop TooLarge a x p q = IsTooLarge a x × (q ≡ p)
 

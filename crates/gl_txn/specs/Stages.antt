@@ -1,5 +1,5 @@
 -- What the parts of an attempt's end leave of the pass.
-use Rattle.std.specs.Prelude.{◌≡◌, ℕ, suc, ◌-◌, ◌<◌, ◌≤◌, ◌^◌, List, [], ◌∷◌, ◌++◌, None}
+use Rattle.std.specs.Prelude.{◌≡◌, ◌≢◌, ℕ, suc, ◌-◌, ◌<◌, ◌≤◌, ◌^◌, List, [], ◌∷◌, ◌++◌, None}
 use Rattle.gl_model.specs.declared.tx.Tx.{Tx}
 use Rattle.gl_model.specs.Records.{variables_of}
 use Rattle.gl_model.specs.declared.event.Stamp.{Stamp}
@@ -64,9 +64,10 @@ ReachedEnd z (end.Done at) p q = ReachedDone z at p q
 ReachedEnd z (end.Raised var) p q = ⊥
 ReachedEnd z (end.Changed var read found) p q = ⊥
 
--- the list's turn was held
+-- the list's turn was held by another pass
 pub record ReachedBusy (by : ℕ) (p q : PassView) : Type 0 where
   pub near : by < THREADS
+  pub other : by ≢ p.own.id
   pub reads : q.reads ≡ p.reads ++ Busy 0 by ∷ []
   pub seen : q.seen ≡ p.seen
   pub known : q.known ≡ p.known

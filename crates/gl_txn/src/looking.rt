@@ -1,5 +1,5 @@
 // A look: the word of a variable, under its row's turn, with a number.
-ghost use Rattle.std.specs.Prelude.{◌≡◌, ◌<◌, ◌≤◌, ◌^◌, suc, [], IfOk, IfErr};
+ghost use Rattle.std.specs.Prelude.{◌≡◌, ◌≢◌, ◌<◌, ◌≤◌, ◌^◌, suc, [], IfOk, IfErr};
 ghost use Rattle.gl_model.specs.declared.limits.TheConstants.{VARIABLES, THREADS};
 ghost use Rattle.gl_draws.specs.Ties.{counted};
 ghost use Rattle.gl_rule.specs.Lives.{Running, life_of};
@@ -21,6 +21,7 @@ pub(crate) fn look_at(shared: &Shared, pass: &mut Pass, var: u16) -> Result<Look
     requires runs { life_of pass.old.own.mine ≡ Running }
     requires room { count_on var pass.old.own.drawn ≡ 0 }
     ensures look { IfOk result (λ l. IsLookAt var l pass.old pass.new) }
+    ensures other { IfErr result (λ by. by ≢ pass.old.own.id) }
     ensures busy { IfErr result (λ by. (by < THREADS) × (pass.new ≡ after pass.old (refused (view_of pass.old) (suc var) by))) }
 {
     let kept = match shared.take_row(pass, var) {

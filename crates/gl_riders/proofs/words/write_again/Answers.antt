@@ -1,4 +1,4 @@
-use Rattle.std.proofs.Common.{◌≡◌, FitsSigned, w64}
+use Rattle.std.proofs.Common.{FitsSigned, w64}
 use Rattle.std.proofs.lemmas.Int.{to_z-of_z}
 use Rattle.gl_riders.proofs.Owings.{may_write, owns_write}
 use Rattle.gl_riders.proofs.words.write_again.Goals as goal

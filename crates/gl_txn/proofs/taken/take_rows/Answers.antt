@@ -13,7 +13,7 @@ returns-in-Err-clause-busy c =
     let busy = c.in-Err.ensures.busy in
     subst (λ (l : List ℕ). WereBusy l c.in-Err.busy.by c.args.pass.now c.put_rows.new.pass) c.ids-ids.ensures.same
     (were_busy c.args.pass.now c.loop-var.pass c.take_row.new.pass c.put_rows.new.pass c.ids-ids.result.now c.loop-var.var-index
-    c.in-Err.busy.by c.loop-var.rows.items c.requires.held c.loop-var-test.true c.loop-var.invariant.0 busy.0 busy.1
+    c.in-Err.busy.by c.loop-var.rows.items c.requires.held c.loop-var-test.true c.loop-var.invariant.0 busy.0 c.in-Err.ensures.other busy.1
     c.put_rows.ensures.pass)
 
 pub loop-var-preserved : goal.loop-var-preserved

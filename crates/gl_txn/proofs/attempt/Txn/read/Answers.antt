@@ -57,6 +57,7 @@ returns-in-Err-clause-cause c =
           ∙ neither a c.args.var w l,
       subst (λ (a : Attempting). size a < TX_VARIABLES) c.self.view_is fits.1,
       busy.0,
+      c.in-Err.ensures.other,
       busy.1,
     )
 
