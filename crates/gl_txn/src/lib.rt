@@ -17,3 +17,6 @@ mod taken;
 pub use attempt::Txn;
 pub use laws::causes_tell_the_ends_apart;
 pub use stops::{TxEnd, TxStop, TxWait};
+
+#[cfg(test)]
+mod tests;
