@@ -1,0 +1,4 @@
+mod Uses
+mod Turns
+mod Ends
+mod Said
