@@ -2,3 +2,4 @@ mod Uses
 mod Turns
 mod Ends
 mod Said
+mod Readings

@@ -111,7 +111,7 @@ one_kind name o is = go (is_journal name) refl
         let other : None ≡ Some o = sym (ap option_named name_is) ∙ is in
         absurd (cc)
 
-option_some : {X : Type 0} (x : Option X) → x ≡ option_and_then (λ y. Some y) x
+pub option_some : {X : Type 0} (x : Option X) → x ≡ option_and_then (λ y. Some y) x
 option_some None = refl
 option_some (Some y) = refl
 
