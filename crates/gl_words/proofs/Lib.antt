@@ -3,3 +3,4 @@ mod Turns
 mod Ends
 mod Said
 mod Readings
+mod Parses

@@ -67,7 +67,7 @@ journal_twice a b c d e = grind (arith, common_steps)
 
 -- ## One row more
 
-find_own : (p : Row → Bool) (rows : List Row) (r : Row) → list_any p rows ≡ false → p r ≡ true → find p (rows ++ r ∷ []) ≡ Some r
+pub find_own : (p : Row → Bool) (rows : List Row) (r : Row) → list_any p rows ≡ false → p r ≡ true → find p (rows ++ r ∷ []) ≡ Some r
 find_own p [] r none own = rw own refl
 find_own p (x ∷ xs) r none own = go (p x) none (λ more. find_own p xs r more own)
   where
@@ -75,11 +75,11 @@ find_own p (x ∷ xs) r none own = go (p x) none (λ more. find_own p xs r more 
     go true e more = absurd (true≢false e)
     go false e more = more e
 
-find_other : (p : Row → Bool) (rows : List Row) (r : Row) → p r ≡ false → find p (rows ++ r ∷ []) ≡ find p rows
+pub find_other : (p : Row → Bool) (rows : List Row) (r : Row) → p r ≡ false → find p (rows ++ r ∷ []) ≡ find p rows
 find_other p [] r other = rw other refl
 find_other p (x ∷ xs) r other = ap (cond (p x) (Some x)) (find_other p xs r other)
 
-find_none : (p : Row → Bool) (rows : List Row) → list_any p rows ≡ false → find p rows ≡ None
+pub find_none : (p : Row → Bool) (rows : List Row) → list_any p rows ≡ false → find p rows ≡ None
 find_none p [] none = refl
 find_none p (x ∷ xs) none = go (p x) none (find_none p xs)
   where
@@ -118,7 +118,7 @@ no_text o rows none =
 abbrev pub reads : List Row → Option Given
 reads rows = given_texts (λ o. first_of (name_of o) rows) (has_row (codes "journal") rows)
 
-same_numbers : {a a' b b' c c' d d' e e' : Option (Option ℕ)} {j j' : Bool} → a ≡ a' → b ≡ b' → c ≡ c' → d ≡ d' → e ≡ e' → j ≡ j'
+pub same_numbers : {a a' b b' c c' d d' e e' : Option (Option ℕ)} {j j' : Bool} → a ≡ a' → b ≡ b' → c ≡ c' → d ≡ d' → e ≡ e' → j ≡ j'
     → given_numbers a b c d e j ≡ given_numbers a' b' c' d' e' j'
 same_numbers p q r s t u = λ i. given_numbers (p i) (q i) (r i) (s i) (t i) (u i)
 

@@ -61,7 +61,7 @@ found name = rw (
 
 -- ## One use
 
-row_absent : (id : Text) (change : Row → List Row) (missing rows : List Row) → has_row id rows ≡ false → at_row id change missing rows ≡ rows ++ missing
+pub row_absent : (id : Text) (change : Row → List Row) (missing rows : List Row) → has_row id rows ≡ false → at_row id change missing rows ≡ rows ++ missing
 row_absent id change missing [] none = refl
 row_absent id change missing (r ∷ rs) none = go (bytes_eq r.id id) none (row_absent id change missing rs)
   where
