@@ -9,12 +9,12 @@ use Rattle.clap.specs.Kinds.{Kinds, or_else}
 use Rattle.clap.specs.Walk.{Held, Outcome, Row, Rule, Step, Text, Waiting, Walk, after_flag, after_step, arg_by_long, bundle_met, bundle_step, has_row, idle, long_met, next, option, plain, plain_word, settled, short_or_plain, used, walked}
 use Rattle.clap.specs.declared.error.kind.ErrorKind.{ErrorKind}
 use Rattle.clap.specs.declared.error.kind.ErrorKind.TheVariants.{ArgumentConflict, InvalidValue, TooManyValues, UnknownArgument}
-use Rattle.gl_words.specs.App.{name_of}
+use Rattle.gl_words.specs.App.{has_dashes, name_of}
 use Rattle.gl_words.specs.Options.{Word}
 use Rattle.gl_words.specs.declared.options.NumberOption.{NumberOption}
 use Rattle.gl_words.specs.declared.options.NumberOption.TheVariants.{Workers, Steps, Segments, Cells, Size}
 use Rattle.gl_words.proofs.Uses.{Kind, Use, flag, has_flags, id_of, is_value, kind_named, number, options, repeated, row_of, rows_of_uses, rows_with, rule_for, said, shape, then_rows, uses_from}
-use Rattle.gl_words.proofs.Turns.{at, dashes, ends_from, fault_at, fault_is, found, goes_on, has_dashes, held, stops, use_of_flag, use_of_number, used_flag, used_number, walk_at, walk_is}
+use Rattle.gl_words.proofs.Turns.{at, dashes, ends_from, fault_at, fault_is, found, goes_on, held, stops, use_of_flag, use_of_number, used_flag, used_number, walk_at, walk_is}
 
 -- ## A word with a name
 

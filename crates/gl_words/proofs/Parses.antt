@@ -5,13 +5,16 @@ use Rattle.std.specs.Option.{option_map_or}
 use Rattle.std.specs.Str.{bytes_eq}
 use Rattle.clap.specs.Faults.{check_fault, default_fault, defaults_fault, entered_fault, fault_of, settle_fault, walk_fault}
 use Rattle.clap.specs.Kinds.{IsAmong, Kinds, or_else}
+use Rattle.clap.proofs.WalkLemmas.{first_value-rows}
+use Rattle.clap.specs.Matches.{first_value}
+use Rattle.clap.specs.declared.parser.matches.Found.{Found}
 use Rattle.clap.specs.Simple.{App, built, entered, matches_of}
 use Rattle.clap.specs.Values.{bool_text}
-use Rattle.clap.specs.Walk.{Held, Row, Rule, Text, Walk, at_row, first_of, has_row, idle, more_values, nothing_held, one_of, row_text, settled, walked, with_default}
+use Rattle.clap.specs.Walk.{Held, Row, Rule, Text, Walk, at_row, first_of, has_row, idle, more_values, nothing_held, one_of, row_text, rows_of, settled, walked, with_default}
 use Rattle.clap.specs.declared.builder.value_parser.Reading.TheVariants.{AsWritten}
 use Rattle.clap.specs.declared.error.kind.ErrorKind.{ErrorKind}
 use Rattle.clap.specs.declared.parser.matches.ValueSource.TheVariants.{DefaultValue}
-use Rattle.gl_words.specs.App.{name_of, options_app}
+use Rattle.gl_words.specs.App.{has_dashes, name_of, options_app}
 use Rattle.gl_words.specs.Options.{Word, nothing_given, read_options}
 use Rattle.gl_words.specs.Texts.{given_texts, number_in}
 use Rattle.gl_words.specs.declared.options.Given.{Given}
@@ -20,7 +23,7 @@ use Rattle.gl_words.specs.declared.options.NumberOption.TheVariants.{Workers, St
 use Rattle.gl_words.proofs.Ends.{ended}
 use Rattle.gl_words.proofs.Readings.{find_none, find_other, find_own, journal_there, made, reads, rows_for, same_numbers, taken}
 use Rattle.gl_words.proofs.Said.{gives, said_by_uses}
-use Rattle.gl_words.proofs.Turns.{at, ends_from, has_dashes, row_absent, rows_ended}
+use Rattle.gl_words.proofs.Turns.{at, ends_from, row_absent, rows_ended}
 use Rattle.gl_words.proofs.Uses.{Use, flag, number, options, rows_of_uses, rows_with, rule_for, shape, then_rows, uses_from}
 
 -- ## What building the command leaves to fail after the walk: nothing but the last use
@@ -214,3 +217,11 @@ kept words none clear =
     go [] [] rows e = refl
     go [] (x ∷ xs) rows e = absurd (cc)
     go (x ∷ xs) s rows e = absurd (cc)
+
+-- the texts that the code reads are those of the rows
+pub found_texts : (f : Found) (rows : List Row) (asked : Bool) → rows_of f ≡ rows
+    → given_texts (λ o. first_value f (name_of o)) asked ≡ given_texts (λ o. first_of (name_of o) rows) asked
+found_texts f rows asked is = same_numbers (there Workers) (there Steps) (there Segments) (there Cells) (there Size) refl
+  where
+    there : (o : NumberOption) → number_in o (first_value f (name_of o)) ≡ number_in o (first_of (name_of o) rows)
+    there o = ap (number_in o) (first_value-rows f (name_of o) ∙ ap (first_of (name_of o)) is)

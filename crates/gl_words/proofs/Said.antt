@@ -11,12 +11,13 @@ use Rattle.std.proofs.lemmas.Slice.Eq.{bytes_eq-Decides}
 use Rattle.clap.specs.Lexer.{long_of, long_of_rest, name_and_value, short_of, strip_byte}
 use Rattle.clap.specs.Walk.{Text}
 use Rattle.gl_text.specs.Number.{digits_value, magnitude_of}
+use Rattle.gl_words.specs.App.{has_dashes}
 use Rattle.gl_words.specs.Options.{Word, give, give_alone, give_journal, give_named, is_equals, is_journal, name_and_number, named, number_of, option_named, read_options, within}
 use Rattle.gl_words.specs.declared.options.Given.{Given}
 use Rattle.gl_words.specs.declared.options.NumberOption.{NumberOption}
 use Rattle.gl_words.specs.declared.options.TheConstants.{MOST_DIGITS}
 use Rattle.gl_words.proofs.Uses.{Kind, Use, flag, has_flags, is_value, kind_named, number, said, uses_from}
-use Rattle.gl_words.proofs.Turns.{dashes, has_dashes}
+use Rattle.gl_words.proofs.Turns.{dashes}
 
 -- what one use gives, and what several give in turn
 abbrev pub give_use : Given → Use → Option Given

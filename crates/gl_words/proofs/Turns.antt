@@ -1,7 +1,6 @@
 -- One turn of clap's walk over the words of these options.
 use Rattle.std.proofs.Common.{◌≡◌, ◌∙◌, ◌&&◌, ◌||◌, ℕ, Bool, true, false, cond, refl, sym, ap, ap₂, append-nil, List, [], ◌∷◌, ◌++◌, Option, Some, None, is_some, codes, option_map}
 use Rattle.std.specs.Prelude.{if◌then◌else◌, fold, option_and_then, slice_get}
-use Rattle.std.specs.List.{list_any}
 use Rattle.std.specs.Str.{bytes_eq, chars}
 use Rattle.std.proofs.lemmas.Slice.Eq.{bytes_eq-Decides}
 use Rattle.clap.specs.Lexer.{long_of, short_of}
@@ -115,10 +114,6 @@ at waiting h = record { held = h; waiting = waiting; position = 1; is_trailing =
 
 abbrev pub dashes : Text
 dashes = 45 ∷ 45 ∷ []
-
--- a word is `--`
-abbrev pub has_dashes : List Text → Bool
-has_dashes = list_any (λ word. bytes_eq word dashes)
 
 -- what a word is, where it is `--` or not, and of this form
 abbrev pub met_at : Waiting → Text → Held → Bool → Option (Text × Option Text) → Held × Step

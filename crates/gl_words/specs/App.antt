@@ -1,5 +1,6 @@
 -- The options as clap's specification sees them.
-use Rattle.std.specs.Prelude.{Some, true, codes}
+use Rattle.std.specs.Prelude.{Bool, List, Some, true, bytes_eq, codes}
+use Rattle.std.specs.List.{list_any}
 use Rattle.clap.specs.Words.{App, Rule, new_app, new_rule, with_rule}
 use Rattle.clap.specs.Simple.{on_top}
 use Rattle.clap.specs.declared.builder.ArgAction.TheVariants.{Set, SetTrue}
@@ -28,3 +29,10 @@ bare_app = on_top (λ s. record s { no_binary_name = true; disable_help_flag = t
 abbrev pub options_app : App
 options_app = with_rule (with_rule (with_rule (with_rule (with_rule (with_rule bare_app (number_rule Workers)) (number_rule Steps))
     (number_rule Segments)) (number_rule Cells)) (number_rule Size)) journal_rule
+
+-- the word that clap would take for the end of the options
+abbrev pub is_dashes : Word → Bool
+is_dashes word = bytes_eq word (codes "--")
+
+abbrev pub has_dashes : List Word → Bool
+has_dashes = list_any is_dashes

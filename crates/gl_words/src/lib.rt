@@ -8,4 +8,4 @@ pub use options::{
     DEFAULT_STEPS, DEFAULT_WORKERS, Given, Limits, MOST_DIGITS, MOST_STEPS, MOST_WORKERS,
     NumberOption,
 };
-
+pub use words::given_by;
