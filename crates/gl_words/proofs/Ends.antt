@@ -1,20 +1,19 @@
 -- The end of clap's walk over the words, by the uses that they say.
-use Rattle.std.proofs.Common.{◌≡◌, ◌∙◌, ◌&&◌, ◌||◌, ℕ, Bool, true, false, not, cond, zero, suc, refl, sym, ap, ap₂, List, [], ◌∷◌, ◌++◌, Option, Some, None, is_some, codes, length, option_map, true≢false}
-use Rattle.std.specs.Prelude.{if◌then◌else◌, fold, option_and_then, slice_get}
+use Rattle.std.proofs.Common.{◌≡◌, ◌∙◌, ◌&&◌, ◌||◌, ℕ, Bool, true, false, not, cond, refl, sym, ap, ap₂, List, [], ◌∷◌, ◌++◌, Option, Some, None, is_some, codes, length, option_map, true≢false}
+use Rattle.std.specs.Prelude.{option_and_then, slice_get}
 use Rattle.std.specs.Option.{option_map_or}
 use Rattle.std.specs.Str.{bytes_eq, chars}
 use Rattle.clap.specs.Lexer.{long_of, short_of}
 use Rattle.clap.specs.Faults.{bundle_fault, bundle_step_fault, flags_fault, long_fault, settle_fault, step_fault, turn_fault, use_fault, walk_fault}
 use Rattle.clap.specs.Kinds.{Kinds, or_else}
-use Rattle.clap.specs.Walk.{Held, Outcome, Row, Rule, Step, Text, Waiting, Walk, after_flag, after_step, arg_by_long, bundle_met, bundle_step, has_row, idle, long_met, next, option, plain, plain_word, settled, short_or_plain, used, walked}
-use Rattle.clap.specs.declared.error.kind.ErrorKind.{ErrorKind}
+use Rattle.clap.specs.Walk.{Held, Outcome, Row, Rule, Step, Text, Waiting, Walk, after_flag, after_step, bundle_met, bundle_step, has_row, idle, long_met, next, option, plain, plain_word, settled, short_or_plain, used, walked}
 use Rattle.clap.specs.declared.error.kind.ErrorKind.TheVariants.{ArgumentConflict, InvalidValue, TooManyValues, UnknownArgument}
 use Rattle.gl_words.specs.App.{has_dashes, name_of}
 use Rattle.gl_words.specs.Options.{Word}
 use Rattle.gl_words.specs.declared.options.NumberOption.{NumberOption}
 use Rattle.gl_words.specs.declared.options.NumberOption.TheVariants.{Workers, Steps, Segments, Cells, Size}
-use Rattle.gl_words.proofs.Uses.{Kind, Use, flag, has_flags, id_of, is_value, kind_named, number, options, repeated, row_of, rows_of_uses, rows_with, rule_for, said, shape, then_rows, uses_from}
-use Rattle.gl_words.proofs.Turns.{at, dashes, ends_from, fault_at, fault_is, found, goes_on, held, stops, use_of_flag, use_of_number, used_flag, used_number, walk_at, walk_is}
+use Rattle.gl_words.proofs.Uses.{Kind, Use, flag, has_flags, id_of, kind_named, number, options, repeated, row_of, rows_of_uses, rule_for, said, shape, then_rows, uses_from}
+use Rattle.gl_words.proofs.Turns.{at, dashes, ends_from, fault_is, found, goes_on, held, stops, use_of_flag, use_of_number, used_flag, used_number, walk_is}
 
 -- ## A word with a name
 
@@ -181,18 +180,18 @@ idle_named rows p word rest name (Some t) (Some (number o)) other is kind more =
     let s = settle_fault options false h in
     let r = (settled options h).rows in
     settles_on (at idle h) (at idle (held (used (rule_for (number o)) (t ∷ []) r) None)) word rest s (use_fault false (rule_for (number o)) (t ∷ []) r)
-        (fault_by_name idle word name (Some t) h (Some (number o)) other is kind) (walk_by_name idle word name (Some t) h (Some (number o)) other is kind)
+    (fault_by_name idle word name (Some t) h (Some (number o)) other is kind) (walk_by_name idle word name (Some t) h (Some (number o)) other is kind)
     ∙ unless_then s r _ (λ rs. rows_of_uses rs (option_map (λ us. (number o, t) ∷ us) (uses_from None rest)))
-        (once_number o t r (λ rs. ends_from (at idle (held rs None)) rest)
-        ∙ then_same (repeated (name_of o) r) (r ++ row_of (number o) t ∷ []) (λ rs. ends_from (at idle (held rs None)) rest)
-            (λ rs. rows_of_uses rs (uses_from None rest)) (more.idly (r ++ row_of (number o) t ∷ []) None)
-        ∙ uses_head (number o) t r (uses_from None rest))
+    (once_number o t r (λ rs. ends_from (at idle (held rs None)) rest)
+    ∙ then_same (repeated (name_of o) r) (r ++ row_of (number o) t ∷ []) (λ rs. ends_from (at idle (held rs None)) rest)
+    (λ rs. rows_of_uses rs (uses_from None rest)) (more.idly (r ++ row_of (number o) t ∷ []) None)
+    ∙ uses_head (number o) t r (uses_from None rest))
 idle_named rows p word rest name None (Some (number o)) other is kind more =
     let h = held rows p in
     let s = settle_fault options false h in
     let r = (settled options h).rows in
     settles_on (at idle h) (at (option (name_of o)) (held r (Some (name_of o, [])))) word rest s []
-        (fault_by_name idle word name None h (Some (number o)) other is kind ∙ still s) (walk_by_name idle word name None h (Some (number o)) other is kind)
+    (fault_by_name idle word name None h (Some (number o)) other is kind ∙ still s) (walk_by_name idle word name None h (Some (number o)) other is kind)
     ∙ unless_then s r _ (λ rs. rows_of_uses rs (uses_from (Some o) rest)) (more.waiting o r)
 idle_named rows p word rest name (Some t) (Some flag) other is kind more =
     stops (at idle (held rows p)) word rest TooManyValues [] (fault_by_name idle word name (Some t) (held rows p) (Some flag) other is kind)
@@ -202,12 +201,12 @@ idle_named rows p word rest name None (Some flag) other is kind more =
     let s = settle_fault options false h in
     let r = (settled options h).rows in
     settles_on (at idle h) (at idle (held (used (rule_for flag) [] r) None)) word rest s (use_fault false (rule_for flag) [] r)
-        (fault_by_name idle word name None h (Some flag) other is kind) (walk_by_name idle word name None h (Some flag) other is kind)
+    (fault_by_name idle word name None h (Some flag) other is kind) (walk_by_name idle word name None h (Some flag) other is kind)
     ∙ unless_then s r _ (λ rs. rows_of_uses rs (option_map (λ us. (flag, codes "true") ∷ us) (uses_from None rest)))
-        (once_flag r (λ rs. ends_from (at idle (held rs None)) rest)
-        ∙ then_same (repeated (codes "journal") r) (r ++ row_of flag (codes "true") ∷ []) (λ rs. ends_from (at idle (held rs None)) rest)
-            (λ rs. rows_of_uses rs (uses_from None rest)) (more.idly (r ++ row_of flag (codes "true") ∷ []) None)
-        ∙ uses_head flag (codes "true") r (uses_from None rest))
+    (once_flag r (λ rs. ends_from (at idle (held rs None)) rest)
+    ∙ then_same (repeated (codes "journal") r) (r ++ row_of flag (codes "true") ∷ []) (λ rs. ends_from (at idle (held rs None)) rest)
+    (λ rs. rows_of_uses rs (uses_from None rest)) (more.idly (r ++ row_of flag (codes "true") ∷ []) None)
+    ∙ uses_head flag (codes "true") r (uses_from None rest))
 
 -- a word with no name is none of the options, where nothing waits
 idle_other : (rows : List Row) (p : Option (Text × List Text)) (word : Text) (rest : List Text) → bytes_eq word dashes ≡ false → long_of word ≡ None
@@ -230,10 +229,10 @@ idle_word rows p word rest other more = go (long_of word) refl
     go None is = idle_other rows p word rest other is
         ∙ sym (nothing_comes (settle_fault options false (held rows p)) (settled options (held rows p)).rows)
         ∙ ap (λ (form : Option (Text × Option Text)). after (held rows p)
-            (λ rs. rows_of_uses rs (option_and_then (λ q. said q.1 (kind_named q.0) (λ w. uses_from w rest)) form))) (sym is)
+        (λ rs. rows_of_uses rs (option_and_then (λ q. said q.1 (kind_named q.0) (λ w. uses_from w rest)) form))) (sym is)
     go (Some q) is = idle_named rows p word rest q.0 q.1 (kind_named q.0) other is refl more
         ∙ ap (λ (form : Option (Text × Option Text)). after (held rows p)
-            (λ rs. rows_of_uses rs (option_and_then (λ q. said q.1 (kind_named q.0) (λ w. uses_from w rest)) form))) (sym is)
+        (λ rs. rows_of_uses rs (option_and_then (λ q. said q.1 (kind_named q.0) (λ w. uses_from w rest)) form))) (sym is)
 
 -- ## An option that waits for its value
 
@@ -287,28 +286,28 @@ waiting_word o rows word rest other more = go (long_of word) (has_flags (short_o
         ≡ rows_of_uses rows (cond (not (is_some (long_of word)) && not (has_flags (short_of word))) (option_map (λ us. (number o, word) ∷ us) (uses_from None rest)) None)
     go (Some q) b is e = waiting_named o rows word q.0 rest q.1 (kind_named q.0) other is refl
         ∙ ap (λ (form : Option (Text × Option Text)). rows_of_uses rows (cond (not (is_some form) && not (has_flags (short_of word)))
-            (option_map (λ us. (number o, word) ∷ us) (uses_from None rest)) None)) (sym is)
+        (option_map (λ us. (number o, word) ∷ us) (uses_from None rest)) None)) (sym is)
     go None true is e =
         let hit = flagged (option (name_of o)) word rows (Some (name_of o, [])) (short_of word) e in
         stops _ word rest UnknownArgument hit.0 (fault_is (option (name_of o)) word (held rows (Some (name_of o, []))) None other is ∙ hit.1)
         ∙ ap₂ (λ (form : Option (Text × Option Text)) (c : Bool). rows_of_uses rows (cond (not (is_some form) && not c)
-            (option_map (λ us. (number o, word) ∷ us) (uses_from None rest)) None)) (sym is) (sym e)
+        (option_map (λ us. (number o, word) ∷ us) (uses_from None rest)) None)) (sym is) (sym e)
     go None false is e =
         goes_on (at (option (name_of o)) (held rows (Some (name_of o, [])))) (at idle (held rows (Some (name_of o, word ∷ [])))) word rest
-            (fault_is (option (name_of o)) word (held rows (Some (name_of o, []))) None other is
-            ∙ plain_fault (option (name_of o)) word rows (Some (name_of o, [])) (short_of word) e
-            ∙ ap (λ (met : Held × Step). step_fault shape 1 met.0 met.1) (valued o rows word))
-            (walk_is (option (name_of o)) word (held rows (Some (name_of o, []))) None other is
-            ∙ plain_walk (option (name_of o)) word rows (Some (name_of o, [])) (short_of word) e
-            ∙ ap (λ (met : Held × Step). after_step options word (at (option (name_of o)) (held rows (Some (name_of o, [])))) met.0 met.1) (valued o rows word))
+        (fault_is (option (name_of o)) word (held rows (Some (name_of o, []))) None other is
+        ∙ plain_fault (option (name_of o)) word rows (Some (name_of o, [])) (short_of word) e
+        ∙ ap (λ (met : Held × Step). step_fault shape 1 met.0 met.1) (valued o rows word))
+        (walk_is (option (name_of o)) word (held rows (Some (name_of o, []))) None other is
+        ∙ plain_walk (option (name_of o)) word rows (Some (name_of o, [])) (short_of word) e
+        ∙ ap (λ (met : Held × Step). after_step options word (at (option (name_of o)) (held rows (Some (name_of o, [])))) met.0 met.1) (valued o rows word))
         ∙ more.idly rows (Some (name_of o, word ∷ []))
         ∙ settled_value o rows word (λ rs. rows_of_uses rs (uses_from None rest))
         ∙ sym (unless_then (use_fault false (rule_for (number o)) (word ∷ []) rows) (used (rule_for (number o)) (word ∷ []) rows)
-            (rows_of_uses (used (rule_for (number o)) (word ∷ []) rows) (uses_from None rest)) (λ rs. rows_of_uses rs (uses_from None rest)) refl)
+        (rows_of_uses (used (rule_for (number o)) (word ∷ []) rows) (uses_from None rest)) (λ rs. rows_of_uses rs (uses_from None rest)) refl)
         ∙ once_number o word rows (λ rs. rows_of_uses rs (uses_from None rest))
         ∙ uses_head (number o) word rows (uses_from None rest)
         ∙ ap₂ (λ (form : Option (Text × Option Text)) (c : Bool). rows_of_uses rows (cond (not (is_some form) && not c)
-            (option_map (λ us. (number o, word) ∷ us) (uses_from None rest)) None)) (sym is) (sym e)
+        (option_map (λ us. (number o, word) ∷ us) (uses_from None rest)) None)) (sym is) (sym e)
 
 no_value : (o : NumberOption) (rows : List Row) → ends_from (at (option (name_of o)) (held rows (Some (name_of o, [])))) [] ≡ None
 unfolding walk_fault

@@ -1,30 +1,28 @@
 -- Where clap refuses the words, and what it keeps of them where it does not, by what the words say.
-use Rattle.std.proofs.Common.{◌≡◌, ◌∙◌, ◌||◌, ℕ, Bool, true, false, cond, refl, sym, ap, ap₂, List, [], ◌∷◌, ◌++◌, Option, Some, None, codes, length, subst, true≢false}
-use Rattle.std.specs.Prelude.{find, fold, is_some, option_and_then, option_map, slice_get}
-use Rattle.std.specs.Option.{option_map_or}
+use Rattle.std.proofs.Common.{◌≡◌, ◌∙◌, ◌||◌, Bool, true, false, cond, refl, sym, ap, ap₂, List, [], ◌∷◌, ◌++◌, Option, Some, None, codes, subst}
+use Rattle.std.specs.Prelude.{fold, is_some, option_and_then, slice_get}
 use Rattle.std.specs.Str.{bytes_eq}
 use Rattle.clap.specs.Faults.{check_fault, default_fault, defaults_fault, entered_fault, fault_of, settle_fault, walk_fault}
 use Rattle.clap.specs.Kinds.{IsAmong, Kinds, or_else}
 use Rattle.clap.proofs.WalkLemmas.{first_value-rows}
 use Rattle.clap.specs.Matches.{first_value}
 use Rattle.clap.specs.declared.parser.matches.Found.{Found}
-use Rattle.clap.specs.Simple.{App, built, entered, matches_of}
+use Rattle.clap.specs.Simple.{built, entered, matches_of}
 use Rattle.clap.specs.Values.{bool_text}
 use Rattle.clap.specs.Walk.{Held, Row, Rule, Text, Walk, at_row, first_of, has_row, idle, more_values, nothing_held, one_of, row_text, rows_of, settled, walked, with_default}
 use Rattle.clap.specs.declared.builder.value_parser.Reading.TheVariants.{AsWritten}
 use Rattle.clap.specs.declared.error.kind.ErrorKind.{ErrorKind}
 use Rattle.clap.specs.declared.parser.matches.ValueSource.TheVariants.{DefaultValue}
 use Rattle.gl_words.specs.App.{has_dashes, name_of, options_app}
-use Rattle.gl_words.specs.Options.{Word, nothing_given, read_options}
+use Rattle.gl_words.specs.Options.{nothing_given, read_options}
 use Rattle.gl_words.specs.Texts.{given_texts, number_in}
-use Rattle.gl_words.specs.declared.options.Given.{Given}
 use Rattle.gl_words.specs.declared.options.NumberOption.{NumberOption}
 use Rattle.gl_words.specs.declared.options.NumberOption.TheVariants.{Workers, Steps, Segments, Cells, Size}
 use Rattle.gl_words.proofs.Ends.{ended}
-use Rattle.gl_words.proofs.Readings.{find_none, find_other, find_own, journal_there, made, reads, rows_for, same_numbers, taken}
+use Rattle.gl_words.proofs.Readings.{find_other, find_own, journal_there, made, reads, rows_for, same_numbers, taken}
 use Rattle.gl_words.proofs.Said.{gives, said_by_uses}
 use Rattle.gl_words.proofs.Turns.{at, ends_from, row_absent, rows_ended}
-use Rattle.gl_words.proofs.Uses.{Use, flag, number, options, rows_of_uses, rows_with, rule_for, shape, then_rows, uses_from}
+use Rattle.gl_words.proofs.Uses.{Use, flag, number, options, rows_of_uses, rule_for, shape, then_rows, uses_from}
 
 -- ## What building the command leaves to fail after the walk: nothing but the last use
 
@@ -108,7 +106,7 @@ faults words =
     let s = settle_fault options false end in
     let stop = (walk_end words).stopped in
     ap₂ (λ (below : Kinds) (d : Kinds). or_else w (or_else below (or_else s (or_else d (check_fault shape (fold with_default (settled options end).rows options)
-        (is_some (entered (built options_app) stop))))))) (no_subcommand stop) (no_default_fault (settled options end).rows)
+    (is_some (entered (built options_app) stop))))))) (no_subcommand stop) (no_default_fault (settled options end).rows)
     ∙ ap (λ (b : Bool). or_else w (or_else s (check_fault shape (fold with_default (settled options end).rows options) b))) (not_entered stop)
     ∙ ap (or_else w) (or_nothing s)
 
@@ -203,15 +201,17 @@ pub kept : (words : List Text) → has_dashes words ≡ false → fault_of optio
 kept words none clear =
     let rows = (settled options (walk_end words).held).rows in
     let end : ends words ≡ Some rows = ends_by words ∙ go (walk_fault shape [] (at idle nothing_held) words) (settle_fault options false (walk_end words).held) rows
-        (sym (faults words) ∙ clear) in
+    (sym (faults words) ∙ clear) in
     let all = rows_of_made (uses_from None words) rows (sym (ends_is words none) ∙ end) in
-    let finished_is : matches_of options_app words ≡ with_journal rows = finish rows in
-    (has_row (codes "journal") rows, record {
-      journal = ap (one_of (codes "journal")) finished_is
-          ∙ subst (λ (rs : List Row). one_of (codes "journal") (with_journal rs) ≡ Some (bool_text (has_row (codes "journal") rs))) (sym all.1) (journal_said all.0);
-      numbers = ap (λ (rs : List Row). given_texts (λ o. first_of (name_of o) rs) (has_row (codes "journal") rows)) finished_is
-          ∙ same_texts rows (has_row (codes "journal") rows) ∙ sym (said_is words none ∙ ap (option_and_then reads) end);
-    })
+    let finished_is : matches_of options_app words ≡ with_journal rows = finish rows in (
+      has_row (codes "journal") rows,
+      record {
+        journal = ap (one_of (codes "journal")) finished_is
+            ∙ subst (λ (rs : List Row). one_of (codes "journal") (with_journal rs) ≡ Some (bool_text (has_row (codes "journal") rs))) (sym all.1) (journal_said all.0);
+        numbers = ap (λ (rs : List Row). given_texts (λ o. first_of (name_of o) rs) (has_row (codes "journal") rows)) finished_is
+            ∙ same_texts rows (has_row (codes "journal") rows) ∙ sym (said_is words none ∙ ap (option_and_then reads) end);
+      },
+    )
   where
     go : (w s : Kinds) (rows : List Row) → or_else w s ≡ [] → rows_ended_by w s rows ≡ Some rows
     go [] [] rows e = refl

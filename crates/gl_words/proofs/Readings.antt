@@ -1,11 +1,10 @@
 -- That the texts which clap keeps give what the uses give in turn.
-use Rattle.std.proofs.Common.{◌≡◌, ◌∙◌, ◌||◌, ℕ, Bool, true, false, cond, refl, sym, ap, ap₂, subst, arith, List, [], ◌∷◌, ◌++◌, map, Option, Some, None, is_some, option_map, codes, true≢false}
+use Rattle.std.proofs.Common.{◌≡◌, ◌∙◌, ◌||◌, ℕ, Bool, true, false, cond, refl, sym, ap, arith, List, [], ◌∷◌, ◌++◌, map, Option, Some, None, option_map, codes, true≢false}
 use Rattle.std.specs.Prelude.{find, option_and_then, slice_get}
 use Rattle.std.specs.List.{list_any}
 use Rattle.std.specs.Str.{bytes_eq}
 use Rattle.std.proofs.lemmas.Grind.{common_steps}
 use Rattle.std.proofs.lemmas.List.{map-append}
-use Rattle.std.proofs.lemmas.List.Folds.{list_any-append}
 use Rattle.clap.specs.Walk.{Row, Text, first_of, has_row, one_of}
 use Rattle.clap.specs.declared.error.kind.ErrorKind.TheVariants.{ArgumentConflict}
 use Rattle.gl_words.specs.App.{name_of}
@@ -15,7 +14,7 @@ use Rattle.gl_words.specs.declared.options.Given.{Given}
 use Rattle.gl_words.specs.declared.options.NumberOption.{NumberOption}
 use Rattle.gl_words.specs.declared.options.NumberOption.TheVariants.{Workers, Steps, Segments, Cells, Size}
 use Rattle.gl_words.proofs.Said.{give_use, gives, option_some}
-use Rattle.gl_words.proofs.Uses.{Kind, Use, flag, id_of, number, repeated, row_of, rows_with, text_of, then_rows}
+use Rattle.gl_words.proofs.Uses.{Kind, Use, flag, id_of, number, row_of, rows_with, text_of, then_rows}
 
 -- ## One number more, or one that is there
 

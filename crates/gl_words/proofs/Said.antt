@@ -1,14 +1,13 @@
 -- That the words say what their uses give, one after another.
-use Rattle.std.proofs.Common.{◌≡◌, ◌∙◌, ◌<◌, ◌≤◌, ◌+◌, ◌==◌, ◌&&◌, ◌||◌, ℕ, Bool, true, false, not, cond, refl, sym, ap, ap₂, subst, arith, List, [], ◌∷◌, ◌++◌, Option, Some, None, is_some, codes, length, take, drop, option_map, nat_lt, eqb-true, true≢false, inl, inr}
-use Rattle.std.specs.Prelude.{◌⊎◌, if◌then◌else◌, nat_le, option_and_then, slice_get}
-use Rattle.std.specs.List.{list_all, list_any, position_or_len}
-use Rattle.std.specs.Str.{bytes_eq, chars}
-use Rattle.std.specs.Char.{is_ascii_digit}
+use Rattle.std.proofs.Common.{◌≡◌, ◌∙◌, ◌+◌, ◌==◌, ◌&&◌, ◌||◌, ℕ, Bool, true, false, not, cond, refl, sym, ap, ap₂, arith, List, [], ◌∷◌, Option, Some, None, codes, length, take, drop, option_map, nat_lt, eqb-true, true≢false, inl, inr}
+use Rattle.std.specs.Prelude.{◌⊎◌, nat_le, option_and_then}
+use Rattle.std.specs.List.{list_any, position_or_len}
+use Rattle.std.specs.Str.{bytes_eq}
 use Rattle.std.proofs.lemmas.Bool.Decides.{nat_tests}
 use Rattle.std.proofs.lemmas.Bool.{ltb-false}
 use Rattle.std.proofs.lemmas.List.{take_all}
 use Rattle.std.proofs.lemmas.Slice.Eq.{bytes_eq-Decides}
-use Rattle.clap.specs.Lexer.{long_of, long_of_rest, name_and_value, short_of, strip_byte}
+use Rattle.clap.specs.Lexer.{long_of, name_and_value}
 use Rattle.clap.specs.Walk.{Text}
 use Rattle.gl_text.specs.Number.{digits_value, magnitude_of}
 use Rattle.gl_words.specs.App.{has_dashes}
@@ -16,7 +15,7 @@ use Rattle.gl_words.specs.Options.{Word, give, give_alone, give_journal, give_na
 use Rattle.gl_words.specs.declared.options.Given.{Given}
 use Rattle.gl_words.specs.declared.options.NumberOption.{NumberOption}
 use Rattle.gl_words.specs.declared.options.TheConstants.{MOST_DIGITS}
-use Rattle.gl_words.proofs.Uses.{Kind, Use, flag, has_flags, is_value, kind_named, number, said, uses_from}
+use Rattle.gl_words.proofs.Uses.{Use, flag, is_value, kind_named, number, said, uses_from}
 use Rattle.gl_words.proofs.Turns.{dashes}
 
 -- what one use gives, and what several give in turn
@@ -51,7 +50,7 @@ names_are : (text : Word) → name_and_number text ≡ name_and_value text
 names_are text =
     let n = position_or_len is_equals text in
     cut text n (nat_lt n (length text)) (list_any is_equals text) (any_within is_equals text)
-        (λ past. take_all n text (ltb-false n (length text) past))
+    (λ past. take_all n text (ltb-false n (length text) past))
 
 -- a word that is not `--` has the name and the number that clap reads
 named_as : (word : Word) → bytes_eq word dashes ≡ false → named word ≡ long_of word
@@ -84,7 +83,7 @@ none_in false = refl
 hyphen_no_number : (o : NumberOption) (rest : Word) → number_of o (45 ∷ rest) ≡ None
 hyphen_no_number o rest =
     let bad : magnitude_of (45 ∷ rest) ≡ None =
-        ap (λ (b : Bool). cond b (Some (digits_value (45 ∷ rest))) None) (none_in (nat_lt 0 (length (45 ∷ rest)) && nat_le (length (45 ∷ rest)) 19)) in
+    ap (λ (b : Bool). cond b (Some (digits_value (45 ∷ rest))) None) (none_in (nat_lt 0 (length (45 ∷ rest)) && nat_le (length (45 ∷ rest)) 19)) in
     go (nat_lt MOST_DIGITS (length (45 ∷ rest))) (magnitude_of (45 ∷ rest)) bad
   where
     go : (b : Bool) (m : Option ℕ) → m ≡ None → cond b None (within o m) ≡ None
@@ -184,15 +183,15 @@ pub said_by_uses : (words : List Word) (g : Given) → read_options g words ≡ 
 said_by_uses [] g = refl
 said_by_uses (word ∷ []) g =
     by_form word g (λ p. elim p.1 [ Some t ↦ give_named g p.0 t | None ↦ give_alone g p.0 ]) (λ p. said p.1 (kind_named p.0) (λ w. uses_from w [])) refl
-        (λ p. said_last g p.1 (option_named p.0) (is_journal p.0) (one_kind p.0))
+    (λ p. said_last g p.1 (option_named p.0) (is_journal p.0) (one_kind p.0))
 said_by_uses (word ∷ next ∷ rest) g =
     by_form word g (λ p. elim p.1 [
       | Some t ↦ option_and_then (λ m. read_options m (next ∷ rest)) (give_named g p.0 t)
       | None ↦ cond (is_journal p.0) (option_and_then (λ m. read_options m (next ∷ rest)) (give_journal g))
           (option_and_then (λ m. read_options m rest) (give_named g p.0 next))
     ]) (λ p. said p.1 (kind_named p.0) (λ w. uses_from w (next ∷ rest))) refl
-        (λ p. said_first g p.1 (option_named p.0) (is_journal p.0) next rest (one_kind p.0) (λ m. said_by_uses (next ∷ rest) m)
-            (λ m. said_by_uses rest m))
+    (λ p. said_first g p.1 (option_named p.0) (is_journal p.0) next rest (one_kind p.0) (λ m. said_by_uses (next ∷ rest) m)
+    (λ m. said_by_uses rest m))
 
 -- ## A word `--` is no form
 

@@ -1,18 +1,18 @@
 -- One turn of clap's walk over the words of these options.
-use Rattle.std.proofs.Common.{◌≡◌, ◌∙◌, ◌&&◌, ◌||◌, ℕ, Bool, true, false, cond, refl, sym, ap, ap₂, append-nil, List, [], ◌∷◌, ◌++◌, Option, Some, None, is_some, codes, option_map}
-use Rattle.std.specs.Prelude.{if◌then◌else◌, fold, option_and_then, slice_get}
-use Rattle.std.specs.Str.{bytes_eq, chars}
+use Rattle.std.proofs.Common.{◌≡◌, ◌∙◌, ◌&&◌, ◌||◌, ℕ, Bool, true, false, cond, refl, sym, ap, ap₂, append-nil, List, [], ◌∷◌, ◌++◌, Option, Some, None, codes, option_map}
+use Rattle.std.specs.Prelude.{if◌then◌else◌, fold}
+use Rattle.std.specs.Str.{bytes_eq}
 use Rattle.std.proofs.lemmas.Slice.Eq.{bytes_eq-Decides}
-use Rattle.clap.specs.Lexer.{long_of, short_of}
-use Rattle.clap.specs.Faults.{flag_word_fault, flags_fault, long_fault, settle_fault, step_fault, turn_fault, use_fault, walk_fault}
+use Rattle.clap.specs.Lexer.{long_of}
+use Rattle.clap.specs.Faults.{flag_word_fault, settle_fault, step_fault, turn_fault, use_fault, walk_fault}
 use Rattle.clap.specs.Kinds.{Kinds, or_else}
-use Rattle.clap.specs.Walk.{Held, Outcome, Row, Rule, Step, Text, Waiting, Walk, after_flag, after_step, arg_by_id, arg_by_long, at_row, bundle_met, has_row, idle, more_values, with_values, long_met, long_or_other, long_word, option, positional, settled, trailing, used, walked, without}
+use Rattle.clap.specs.Walk.{Held, Row, Step, Text, Waiting, Walk, after_step, arg_by_long, at_row, has_row, idle, more_values, with_values, long_or_other, option, positional, settled, trailing, used, walked, without}
 use Rattle.clap.specs.declared.builder.value_parser.Reading.TheVariants.{AsWritten}
 use Rattle.clap.specs.declared.error.kind.ErrorKind.{ErrorKind}
 use Rattle.clap.specs.declared.parser.matches.ValueSource.TheVariants.{CommandLine}
-use Rattle.clap.specs.declared.error.kind.ErrorKind.TheVariants.{ArgumentConflict, InvalidValue, UnknownArgument}
+use Rattle.clap.specs.declared.error.kind.ErrorKind.TheVariants.{ArgumentConflict}
 use Rattle.gl_words.specs.App.{name_of}
-use Rattle.gl_words.specs.Options.{Word, is_journal, option_named}
+use Rattle.gl_words.specs.Options.{Word}
 use Rattle.gl_words.specs.declared.options.NumberOption.{NumberOption}
 use Rattle.gl_words.specs.declared.options.NumberOption.TheVariants.{Workers, Steps, Segments, Cells, Size}
 use Rattle.gl_words.proofs.Uses.{Kind, flag, id_of, kind_named, number, options, repeated, row_of, rule_for, shape, text_of, then_rows}
@@ -39,9 +39,9 @@ found name = rw (
   flip (codes "segments") name,
   flip (codes "cells") name,
   flip (codes "size") name,
-  flip (codes "journal") name
+  flip (codes "journal") name,
 ) (go (bytes_eq name (codes "workers")) (bytes_eq name (codes "steps")) (bytes_eq name (codes "segments")) (bytes_eq name (codes "cells"))
-  (bytes_eq name (codes "size")) (bytes_eq name (codes "journal")))
+    (bytes_eq name (codes "size")) (bytes_eq name (codes "journal")))
   where
     go : (a b c d e f : Bool) → cond (a || false) (Some (rule_for (number Workers))) (cond (b || false) (Some (rule_for (number Steps)))
         (cond (c || false) (Some (rule_for (number Segments))) (cond (d || false) (Some (rule_for (number Cells)))

@@ -1,5 +1,5 @@
 -- What words say in clap's reading of them, one word after another: a list of uses, with each option as often as it is named.
-use Rattle.std.proofs.Common.{◌≡◌, ◌&&◌, ℕ, Bool, true, false, not, List, [], ◌∷◌, ◌++◌, Option, Some, None, is_some, codes, option_map}
+use Rattle.std.proofs.Common.{◌&&◌, Bool, not, List, [], ◌∷◌, ◌++◌, Option, Some, None, is_some, codes, option_map}
 use Rattle.std.specs.Prelude.{if◌then◌else◌, option_and_then, slice_get}
 use Rattle.std.specs.Str.{chars}
 use Rattle.clap.specs.Lexer.{long_of, short_of}

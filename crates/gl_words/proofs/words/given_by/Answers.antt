@@ -1,10 +1,9 @@
-use Rattle.std.proofs.Common.{◌≡◌, ◌∙◌, Bool, List, ℕ, [], ap, false, inl, inr, map, refl, string_bytes, sym, true}
-use Rattle.std.specs.List.{list_any}
+use Rattle.std.proofs.Common.{◌≡◌, ◌∙◌, ap, false, inl, inr, map, refl, string_bytes, sym, true}
 use Rattle.clap.proofs.WalkLemmas.{list_any-map, one_text-rows}
 use Rattle.clap.specs.Matches.{found_of}
 use Rattle.clap.specs.Simple.{matches_of}
 use Rattle.clap.specs.Walk.{one_of, rows_of}
-use Rattle.clap.specs.Words.{fault_of, is_simple}
+use Rattle.clap.specs.Words.{is_simple}
 use Rattle.clap.proofs.OnLiterals.{clap_on_literals}
 use Rattle.gl_words.specs.App.{has_dashes, is_dashes, options_app}
 use Rattle.gl_words.specs.Options.{nothing_given}
