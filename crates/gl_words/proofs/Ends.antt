@@ -62,7 +62,8 @@ bundled_fault w word h flags k c = or_else (bundle_step_fault options false c fl
     (after_flag options w word (bundled h flags k c).0 (bundled h flags k c).1).1)
 
 abbrev bundled_walk : Waiting → Text → Held → Text → ℕ → Option ℕ → Walk
-bundled_walk w word h flags k c = after_step options word (at w h) (after_flag options w word (bundled h flags k c).0 (bundled h flags k c).1).0
+bundled_walk w word h flags k c = after_step options word (at w h)
+    (after_flag options w word (bundled h flags k c).0 (bundled h flags k c).1).0
     (after_flag options w word (bundled h flags k c).0 (bundled h flags k c).1).1
 
 flagged : (w : Waiting) (word : Text) (rows : List Row) (p : Option (Text × List Text)) (s : Option Text) → has_flags s ≡ true
@@ -72,7 +73,8 @@ flagged w word rows p None has = absurd (true≢false (sym has))
 flagged w word rows p (Some []) has = absurd (true≢false (sym (rw no_chars at has)))
 flagged w word rows p (Some (x ∷ xs)) has = go (slice_get (chars (x ∷ xs)) 0) has
   where
-    go : (c : Option ℕ) → is_some c ≡ true → (ks : Kinds) × (bundled_fault w word (held rows p) (x ∷ xs) (length xs) c ≡ UnknownArgument ∷ ks)
+    go : (c : Option ℕ) → is_some c ≡ true
+        → (ks : Kinds) × (bundled_fault w word (held rows p) (x ∷ xs) (length xs) c ≡ UnknownArgument ∷ ks)
     go None has = absurd (true≢false (sym has))
     go (Some c) has = ([], refl)
 
@@ -98,7 +100,8 @@ plain_walk w word rows p (Some []) none = refl
 plain_walk w word rows p (Some (x ∷ xs)) none = go (slice_get (chars (x ∷ xs)) 0) none
   where
     go : (c : Option ℕ) → is_some c ≡ false → bundled_walk w word (held rows p) (x ∷ xs) (length xs) c
-        ≡ after_step options word (at w (held rows p)) (plain_word options w word (held rows p)).0 (plain_word options w word (held rows p)).1
+        ≡ after_step options word (at w (held rows p)) (plain_word options w word (held rows p)).0
+        (plain_word options w word (held rows p)).1
     go None none = refl
     go (Some c) none = absurd (true≢false none)
 
@@ -122,11 +125,13 @@ nothing_comes : (ks : Kinds) (rows : List Row) → then_rows ks rows (λ _. None
 nothing_comes [] rows = refl
 nothing_comes (k ∷ ks) rows = refl
 
-then_same : (ks : Kinds) (rows : List Row) (f g : List Row → Option (List Row)) → f rows ≡ g rows → then_rows ks rows f ≡ then_rows ks rows g
+then_same : (ks : Kinds) (rows : List Row) (f g : List Row → Option (List Row)) → f rows ≡ g rows
+    → then_rows ks rows f ≡ then_rows ks rows g
 then_same [] rows f g same = same
 then_same (k ∷ ks) rows f g same = refl
 
-unless_then : (ks : Kinds) (rows : List Row) (r : Option (List Row)) (f : List Row → Option (List Row)) → r ≡ f rows → unless ks r ≡ then_rows ks rows f
+unless_then : (ks : Kinds) (rows : List Row) (r : Option (List Row)) (f : List Row → Option (List Row)) → r ≡ f rows
+    → unless ks r ≡ then_rows ks rows f
 unless_then [] rows r f same = same
 unless_then (k ∷ ks) rows r f same = refl
 
@@ -134,14 +139,17 @@ once_number : (o : NumberOption) (t : Text) (rows : List Row) (f : List Row → 
     → unless (use_fault false (rule_for (number o)) (t ∷ []) rows) (f (used (rule_for (number o)) (t ∷ []) rows))
     ≡ then_rows (repeated (name_of o) rows) (rows ++ row_of (number o) t ∷ []) f
 once_number o t rows f =
-    ap (λ (ks : Kinds). unless ks (f (used (rule_for (number o)) (t ∷ []) rows))) (use_of_number o t rows) ∙ go (has_row (name_of o) rows) refl
+    ap (λ (ks : Kinds). unless ks (f (used (rule_for (number o)) (t ∷ []) rows))) (use_of_number o t rows)
+    ∙ go (has_row (name_of o) rows) refl
   where
-    go : (b : Bool) → has_row (name_of o) rows ≡ b → unless (cond b (ArgumentConflict ∷ []) []) (f (used (rule_for (number o)) (t ∷ []) rows))
+    go : (b : Bool) → has_row (name_of o) rows ≡ b
+        → unless (cond b (ArgumentConflict ∷ []) []) (f (used (rule_for (number o)) (t ∷ []) rows))
         ≡ then_rows (cond b (ArgumentConflict ∷ []) []) (rows ++ row_of (number o) t ∷ []) f
     go true e = refl
     go false e = ap f (used_number o t rows e)
 
-once_flag : (rows : List Row) (f : List Row → Option (List Row)) → unless (use_fault false (rule_for flag) [] rows) (f (used (rule_for flag) [] rows))
+once_flag : (rows : List Row) (f : List Row → Option (List Row))
+    → unless (use_fault false (rule_for flag) [] rows) (f (used (rule_for flag) [] rows))
     ≡ then_rows (repeated (codes "journal") rows) (rows ++ row_of flag (codes "true") ∷ []) f
 once_flag rows f =
     ap (λ (ks : Kinds). unless ks (f (used (rule_for flag) [] rows))) (use_of_flag rows) ∙ go (has_row (codes "journal") rows) refl
@@ -151,7 +159,8 @@ once_flag rows f =
     go true e = refl
     go false e = ap f (used_flag rows e)
 
-uses_head : (k : Kind) (t : Text) (rows : List Row) (us : Option (List Use)) → then_rows (repeated (id_of k) rows) (rows ++ row_of k t ∷ []) (λ more. rows_of_uses more us)
+uses_head : (k : Kind) (t : Text) (rows : List Row) (us : Option (List Use))
+    → then_rows (repeated (id_of k) rows) (rows ++ row_of k t ∷ []) (λ more. rows_of_uses more us)
     ≡ rows_of_uses rows (option_map (λ x. (k, t) ∷ x) us)
 uses_head k t rows None = nothing_comes (repeated (id_of k) rows) (rows ++ row_of k t ∷ [])
 uses_head k t rows (Some us) = refl
@@ -169,7 +178,8 @@ still : (ks : Kinds) → or_else ks [] ≡ or_else (or_else ks []) []
 still [] = refl
 still (k ∷ ks) = refl
 
-idle_named : (rows : List Row) (p : Option (Text × List Text)) (word : Text) (rest : List Text) (name : Word) (v : Option Text) (k : Option Kind)
+idle_named : (rows : List Row) (p : Option (Text × List Text)) (word : Text) (rest : List Text) (name : Word) (v : Option Text)
+    (k : Option Kind)
     → bytes_eq word dashes ≡ false → long_of word ≡ Some (name, v) → kind_named name ≡ k → Ended rest
     → ends_from (at idle (held rows p)) (word ∷ rest) ≡ after (held rows p) (λ rs. rows_of_uses rs (said v k (λ w. uses_from w rest)))
 idle_named rows p word rest name v None other is kind more =
@@ -179,8 +189,10 @@ idle_named rows p word rest name (Some t) (Some (number o)) other is kind more =
     let h = held rows p in
     let s = settle_fault options false h in
     let r = (settled options h).rows in
-    settles_on (at idle h) (at idle (held (used (rule_for (number o)) (t ∷ []) r) None)) word rest s (use_fault false (rule_for (number o)) (t ∷ []) r)
-    (fault_by_name idle word name (Some t) h (Some (number o)) other is kind) (walk_by_name idle word name (Some t) h (Some (number o)) other is kind)
+    settles_on (at idle h) (at idle (held (used (rule_for (number o)) (t ∷ []) r) None)) word rest s
+    (use_fault false (rule_for (number o)) (t ∷ []) r)
+    (fault_by_name idle word name (Some t) h (Some (number o)) other is kind)
+    (walk_by_name idle word name (Some t) h (Some (number o)) other is kind)
     ∙ unless_then s r _ (λ rs. rows_of_uses rs (option_map (λ us. (number o, t) ∷ us) (uses_from None rest)))
     (once_number o t r (λ rs. ends_from (at idle (held rs None)) rest)
     ∙ then_same (repeated (name_of o) r) (r ++ row_of (number o) t ∷ []) (λ rs. ends_from (at idle (held rs None)) rest)
@@ -191,7 +203,8 @@ idle_named rows p word rest name None (Some (number o)) other is kind more =
     let s = settle_fault options false h in
     let r = (settled options h).rows in
     settles_on (at idle h) (at (option (name_of o)) (held r (Some (name_of o, [])))) word rest s []
-    (fault_by_name idle word name None h (Some (number o)) other is kind ∙ still s) (walk_by_name idle word name None h (Some (number o)) other is kind)
+    (fault_by_name idle word name None h (Some (number o)) other is kind ∙ still s)
+    (walk_by_name idle word name None h (Some (number o)) other is kind)
     ∙ unless_then s r _ (λ rs. rows_of_uses rs (uses_from (Some o) rest)) (more.waiting o r)
 idle_named rows p word rest name (Some t) (Some flag) other is kind more =
     stops (at idle (held rows p)) word rest TooManyValues [] (fault_by_name idle word name (Some t) (held rows p) (Some flag) other is kind)
@@ -209,7 +222,8 @@ idle_named rows p word rest name None (Some flag) other is kind more =
     ∙ uses_head flag (codes "true") r (uses_from None rest))
 
 -- a word with no name is none of the options, where nothing waits
-idle_other : (rows : List Row) (p : Option (Text × List Text)) (word : Text) (rest : List Text) → bytes_eq word dashes ≡ false → long_of word ≡ None
+idle_other : (rows : List Row) (p : Option (Text × List Text)) (word : Text) (rest : List Text) → bytes_eq word dashes ≡ false
+    → long_of word ≡ None
     → ends_from (at idle (held rows p)) (word ∷ rest) ≡ None
 idle_other rows p word rest other is = go (has_flags (short_of word)) refl
   where
@@ -244,7 +258,8 @@ unsettled Cells rows = refl
 unsettled Size rows = refl
 
 -- its value, where the word is one
-valued : (o : NumberOption) (rows : List Row) (word : Text) → plain_word options (option (name_of o)) word (held rows (Some (name_of o, [])))
+valued : (o : NumberOption) (rows : List Row) (word : Text)
+    → plain_word options (option (name_of o)) word (held rows (Some (name_of o, [])))
     ≡ (held rows (Some (name_of o, word ∷ [])), next idle)
 valued Workers rows word = refl
 valued Steps rows word = refl
@@ -252,7 +267,8 @@ valued Segments rows word = refl
 valued Cells rows word = refl
 valued Size rows word = refl
 
-settled_value : (o : NumberOption) (rows : List Row) (word : Text) (f : List Row → Option (List Row)) → after (held rows (Some (name_of o, word ∷ []))) f
+settled_value : (o : NumberOption) (rows : List Row) (word : Text) (f : List Row → Option (List Row))
+    → after (held rows (Some (name_of o, word ∷ []))) f
     ≡ then_rows (use_fault false (rule_for (number o)) (word ∷ []) rows) (used (rule_for (number o)) (word ∷ []) rows) f
 settled_value Workers rows word f = refl
 settled_value Steps rows word f = refl
@@ -264,32 +280,38 @@ settled_value Size rows word f = refl
 waiting_named : (o : NumberOption) (rows : List Row) (word name : Text) (rest : List Text) (v : Option Text) (k : Option Kind)
     → bytes_eq word dashes ≡ false → long_of word ≡ Some (name, v) → kind_named name ≡ k
     → ends_from (at (option (name_of o)) (held rows (Some (name_of o, [])))) (word ∷ rest) ≡ None
-waiting_named o rows word name rest v k other is kind = go k v (fault_by_name (option (name_of o)) word name v (held rows (Some (name_of o, []))) k other is kind)
+waiting_named o rows word name rest v k other is kind = go k v
+    (fault_by_name (option (name_of o)) word name v (held rows (Some (name_of o, []))) k other is kind)
   where
     go : (k : Option Kind) (v : Option Text) → turn_fault shape [] (at (option (name_of o)) (held rows (Some (name_of o, [])))) word
         ≡ named_fault (option (name_of o)) word (held rows (Some (name_of o, []))) v (option_map rule_for k)
         → ends_from (at (option (name_of o)) (held rows (Some (name_of o, [])))) (word ∷ rest) ≡ None
     go None v fault = stops _ word rest UnknownArgument [] fault
-    go (Some (number p)) (Some t) fault = stops _ word rest InvalidValue [] (fault ∙ ap (λ (s : Kinds). or_else (or_else s (use_fault false (rule_for (number p)) (t ∷ [])
+    go (Some (number p)) (Some t) fault = stops _ word rest InvalidValue []
+        (fault ∙ ap (λ (s : Kinds). or_else (or_else s (use_fault false (rule_for (number p)) (t ∷ [])
         (settled options (held rows (Some (name_of o, [])))).rows)) []) (unsettled o rows))
     go (Some (number p)) None fault = stops _ word rest InvalidValue [] (fault ∙ ap (λ (s : Kinds). or_else s []) (unsettled o rows))
     go (Some flag) (Some t) fault = stops _ word rest TooManyValues [] fault
-    go (Some flag) None fault = stops _ word rest InvalidValue [] (fault ∙ ap (λ (s : Kinds). or_else (or_else s (use_fault false (rule_for flag) []
+    go (Some flag) None fault = stops _ word rest InvalidValue []
+        (fault ∙ ap (λ (s : Kinds). or_else (or_else s (use_fault false (rule_for flag) []
         (settled options (held rows (Some (name_of o, [])))).rows)) []) (unsettled o rows))
 
 waiting_word : (o : NumberOption) (rows : List Row) (word : Text) (rest : List Text) → bytes_eq word dashes ≡ false → Ended rest
-    → ends_from (at (option (name_of o)) (held rows (Some (name_of o, [])))) (word ∷ rest) ≡ rows_of_uses rows (uses_from (Some o) (word ∷ rest))
+    → ends_from (at (option (name_of o)) (held rows (Some (name_of o, [])))) (word ∷ rest)
+    ≡ rows_of_uses rows (uses_from (Some o) (word ∷ rest))
 waiting_word o rows word rest other more = go (long_of word) (has_flags (short_of word)) refl refl
   where
     go : (form : Option (Text × Option Text)) (b : Bool) → long_of word ≡ form → has_flags (short_of word) ≡ b
         → ends_from (at (option (name_of o)) (held rows (Some (name_of o, [])))) (word ∷ rest)
-        ≡ rows_of_uses rows (cond (not (is_some (long_of word)) && not (has_flags (short_of word))) (option_map (λ us. (number o, word) ∷ us) (uses_from None rest)) None)
+        ≡ rows_of_uses rows (cond (not (is_some (long_of word)) && not (has_flags (short_of word)))
+        (option_map (λ us. (number o, word) ∷ us) (uses_from None rest)) None)
     go (Some q) b is e = waiting_named o rows word q.0 rest q.1 (kind_named q.0) other is refl
         ∙ ap (λ (form : Option (Text × Option Text)). rows_of_uses rows (cond (not (is_some form) && not (has_flags (short_of word)))
         (option_map (λ us. (number o, word) ∷ us) (uses_from None rest)) None)) (sym is)
     go None true is e =
         let hit = flagged (option (name_of o)) word rows (Some (name_of o, [])) (short_of word) e in
-        stops _ word rest UnknownArgument hit.0 (fault_is (option (name_of o)) word (held rows (Some (name_of o, []))) None other is ∙ hit.1)
+        stops _ word rest UnknownArgument hit.0
+        (fault_is (option (name_of o)) word (held rows (Some (name_of o, []))) None other is ∙ hit.1)
         ∙ ap₂ (λ (form : Option (Text × Option Text)) (c : Bool). rows_of_uses rows (cond (not (is_some form) && not c)
         (option_map (λ us. (number o, word) ∷ us) (uses_from None rest)) None)) (sym is) (sym e)
     go None false is e =
@@ -299,11 +321,13 @@ waiting_word o rows word rest other more = go (long_of word) (has_flags (short_o
         ∙ ap (λ (met : Held × Step). step_fault shape 1 met.0 met.1) (valued o rows word))
         (walk_is (option (name_of o)) word (held rows (Some (name_of o, []))) None other is
         ∙ plain_walk (option (name_of o)) word rows (Some (name_of o, [])) (short_of word) e
-        ∙ ap (λ (met : Held × Step). after_step options word (at (option (name_of o)) (held rows (Some (name_of o, [])))) met.0 met.1) (valued o rows word))
+        ∙ ap (λ (met : Held × Step). after_step options word (at (option (name_of o)) (held rows (Some (name_of o, [])))) met.0 met.1)
+        (valued o rows word))
         ∙ more.idly rows (Some (name_of o, word ∷ []))
         ∙ settled_value o rows word (λ rs. rows_of_uses rs (uses_from None rest))
         ∙ sym (unless_then (use_fault false (rule_for (number o)) (word ∷ []) rows) (used (rule_for (number o)) (word ∷ []) rows)
-        (rows_of_uses (used (rule_for (number o)) (word ∷ []) rows) (uses_from None rest)) (λ rs. rows_of_uses rs (uses_from None rest)) refl)
+        (rows_of_uses (used (rule_for (number o)) (word ∷ []) rows) (uses_from None rest)) (λ rs. rows_of_uses rs (uses_from None rest))
+        refl)
         ∙ once_number o word rows (λ rs. rows_of_uses rs (uses_from None rest))
         ∙ uses_head (number o) word rows (uses_from None rest)
         ∙ ap₂ (λ (form : Option (Text × Option Text)) (c : Bool). rows_of_uses rows (cond (not (is_some form) && not c)

@@ -47,7 +47,8 @@ default_of_flag rows = go (has_row (codes "journal") rows)
     go true = refl
     go false = refl
 
-pass_number : (o : NumberOption) (rows : List Row) (rest : List Rule) → defaults_fault rows (rule_for (number o) ∷ rest) ≡ defaults_fault rows rest
+pass_number : (o : NumberOption) (rows : List Row) (rest : List Rule)
+    → defaults_fault rows (rule_for (number o) ∷ rest) ≡ defaults_fault rows rest
 unfolding defaults_fault
 pass_number o rows rest =
     ap₂ (λ (ks : Kinds) (more : List Row). or_else ks (defaults_fault more rest)) (default_of_number o rows) (kept_by_number o rows)
@@ -60,7 +61,8 @@ no_default_fault : (rows : List Row) → defaults_fault rows options ≡ []
 no_default_fault rows = pass_number Workers rows _ ∙ pass_number Steps rows _ ∙ pass_number Segments rows _ ∙ pass_number Cells rows _
     ∙ pass_number Size rows _ ∙ pass_flag rows
 
-finish_number : (o : NumberOption) (rows : List Row) (rest : List Rule) → fold with_default rows (rule_for (number o) ∷ rest) ≡ fold with_default rows rest
+finish_number : (o : NumberOption) (rows : List Row) (rest : List Rule)
+    → fold with_default rows (rule_for (number o) ∷ rest) ≡ fold with_default rows rest
 finish_number o rows rest = ap (λ (more : List Row). fold with_default more rest) (kept_by_number o rows)
 
 abbrev last_one : List Rule
@@ -105,9 +107,11 @@ faults words =
     let end = (walk_end words).held in
     let s = settle_fault options false end in
     let stop = (walk_end words).stopped in
-    ap₂ (λ (below : Kinds) (d : Kinds). or_else w (or_else below (or_else s (or_else d (check_fault shape (fold with_default (settled options end).rows options)
+    ap₂ (λ (below : Kinds) (d : Kinds). or_else w
+    (or_else below (or_else s (or_else d (check_fault shape (fold with_default (settled options end).rows options)
     (is_some (entered (built options_app) stop))))))) (no_subcommand stop) (no_default_fault (settled options end).rows)
-    ∙ ap (λ (b : Bool). or_else w (or_else s (check_fault shape (fold with_default (settled options end).rows options) b))) (not_entered stop)
+    ∙ ap (λ (b : Bool). or_else w (or_else s (check_fault shape (fold with_default (settled options end).rows options) b)))
+    (not_entered stop)
     ∙ ap (or_else w) (or_nothing s)
 
 -- ## The rows at the end
@@ -119,11 +123,13 @@ abbrev with_journal : List Row → List Row
 with_journal rows = with_default rows (rule_for flag)
 
 added : (rows : List Row) → has_row (codes "journal") rows ≡ false → with_journal rows ≡ rows ++ default_row ∷ []
-added rows none = ap (λ (b : Bool). cond b rows (at_row (codes "journal") (more_values DefaultValue (codes "false" ∷ [])) (default_row ∷ []) rows)) none
+added rows none = ap
+    (λ (b : Bool). cond b rows (at_row (codes "journal") (more_values DefaultValue (codes "false" ∷ [])) (default_row ∷ []) rows)) none
     ∙ row_absent (codes "journal") (more_values DefaultValue (codes "false" ∷ [])) (default_row ∷ []) rows none
 
 stays : (rows : List Row) → has_row (codes "journal") rows ≡ true → with_journal rows ≡ rows
-stays rows has = ap (λ (b : Bool). cond b rows (at_row (codes "journal") (more_values DefaultValue (codes "false" ∷ [])) (default_row ∷ []) rows)) has
+stays rows has = ap (λ (b : Bool). cond b rows
+    (at_row (codes "journal") (more_values DefaultValue (codes "false" ∷ [])) (default_row ∷ []) rows)) has
 
 text_stays : (id : Text) (rows : List Row) → bytes_eq (codes "journal") id ≡ false → first_of id (with_journal rows) ≡ first_of id rows
 text_stays id rows other = go (has_row (codes "journal") rows) refl
@@ -133,10 +139,12 @@ text_stays id rows other = go (has_row (codes "journal") rows) refl
     go false e = ap (first_of id) (added rows e)
         ∙ ap (option_and_then (λ r. slice_get r.values 0)) (find_other (λ r. bytes_eq r.id id) rows default_row other)
 
-journal_said : (us : List Use) → one_of (codes "journal") (with_journal (rows_for us)) ≡ Some (bool_text (has_row (codes "journal") (rows_for us)))
+journal_said : (us : List Use)
+    → one_of (codes "journal") (with_journal (rows_for us)) ≡ Some (bool_text (has_row (codes "journal") (rows_for us)))
 journal_said us = go (has_row (codes "journal") (rows_for us)) refl
   where
-    go : (b : Bool) → has_row (codes "journal") (rows_for us) ≡ b → one_of (codes "journal") (with_journal (rows_for us)) ≡ Some (bool_text (has_row (codes "journal") (rows_for us)))
+    go : (b : Bool) → has_row (codes "journal") (rows_for us) ≡ b
+        → one_of (codes "journal") (with_journal (rows_for us)) ≡ Some (bool_text (has_row (codes "journal") (rows_for us)))
     go true e = ap (one_of (codes "journal")) (stays (rows_for us) e) ∙ journal_there us e ∙ sym (ap (λ (b : Bool). Some (bool_text b)) e)
     go false e = ap (one_of (codes "journal")) (added (rows_for us) e)
         ∙ ap (option_and_then row_text) (find_own (λ r. bytes_eq r.id (codes "journal")) (rows_for us) default_row e refl)
@@ -160,7 +168,8 @@ by_faults [] h = refl
 by_faults (k ∷ ks) h = refl
 
 ends_by : (words : List Text) → ends words
-    ≡ rows_ended_by (walk_fault shape [] (at idle nothing_held) words) (settle_fault options false (walk_end words).held) (settled options (walk_end words).held).rows
+    ≡ rows_ended_by (walk_fault shape [] (at idle nothing_held) words) (settle_fault options false (walk_end words).held)
+    (settled options (walk_end words).held).rows
 ends_by words = by_faults (walk_fault shape [] (at idle nothing_held) words) (walk_end words).held
 
 -- what the words say is read off the rows at the end
@@ -172,9 +181,11 @@ said_is words none = said_by_uses words nothing_given ∙ sym (ap (option_and_th
     go (Some us) = taken us [] [] refl
 
 -- clap refuses nothing that says something
-pub refused : (words : List Text) (k : ErrorKind) → has_dashes words ≡ false → IsAmong k (fault_of options_app words) → read_options nothing_given words ≡ None
+pub refused : (words : List Text) (k : ErrorKind) → has_dashes words ≡ false → IsAmong k (fault_of options_app words)
+    → read_options nothing_given words ≡ None
 refused words k none among = said_is words none ∙ ap (option_and_then reads)
-    (ends_by words ∙ go (walk_fault shape [] (at idle nothing_held) words) (settle_fault options false (walk_end words).held) (subst (IsAmong k) (faults words) among))
+    (ends_by words ∙ go (walk_fault shape [] (at idle nothing_held) words) (settle_fault options false (walk_end words).held)
+    (subst (IsAmong k) (faults words) among))
   where
     go : (w s : Kinds) → IsAmong k (or_else w s) → rows_ended_by w s (settled options (walk_end words).held).rows ≡ None
     go [] [] bad = absurd bad
@@ -186,8 +197,10 @@ pub record Kept (words : List Text) (asked : Bool) : Type 0 where
   pub journal : one_of (codes "journal") (matches_of options_app words) ≡ Some (bool_text asked)
   pub numbers : given_texts (λ o. first_of (name_of o) (matches_of options_app words)) asked ≡ read_options nothing_given words
 
-same_texts : (rows : List Row) (asked : Bool) → given_texts (λ o. first_of (name_of o) (with_journal rows)) asked ≡ given_texts (λ o. first_of (name_of o) rows) asked
-same_texts rows asked = same_numbers (ap (number_in Workers) (text_stays (codes "workers") rows refl)) (ap (number_in Steps) (text_stays (codes "steps") rows refl))
+same_texts : (rows : List Row) (asked : Bool)
+    → given_texts (λ o. first_of (name_of o) (with_journal rows)) asked ≡ given_texts (λ o. first_of (name_of o) rows) asked
+same_texts rows asked = same_numbers (ap (number_in Workers) (text_stays (codes "workers") rows refl))
+    (ap (number_in Steps) (text_stays (codes "steps") rows refl))
     (ap (number_in Segments) (text_stays (codes "segments") rows refl)) (ap (number_in Cells) (text_stays (codes "cells") rows refl))
     (ap (number_in Size) (text_stays (codes "size") rows refl)) refl
 
@@ -200,14 +213,16 @@ rows_of_made (Some us) rows is = made us [] [] rows refl is
 pub kept : (words : List Text) → has_dashes words ≡ false → fault_of options_app words ≡ [] → (asked : Bool) × Kept words asked
 kept words none clear =
     let rows = (settled options (walk_end words).held).rows in
-    let end : ends words ≡ Some rows = ends_by words ∙ go (walk_fault shape [] (at idle nothing_held) words) (settle_fault options false (walk_end words).held) rows
+    let end : ends words ≡ Some rows = ends_by words
+    ∙ go (walk_fault shape [] (at idle nothing_held) words) (settle_fault options false (walk_end words).held) rows
     (sym (faults words) ∙ clear) in
     let all = rows_of_made (uses_from None words) rows (sym (ends_is words none) ∙ end) in
     let finished_is : matches_of options_app words ≡ with_journal rows = finish rows in (
       has_row (codes "journal") rows,
       record {
         journal = ap (one_of (codes "journal")) finished_is
-            ∙ subst (λ (rs : List Row). one_of (codes "journal") (with_journal rs) ≡ Some (bool_text (has_row (codes "journal") rs))) (sym all.1) (journal_said all.0);
+            ∙ subst (λ (rs : List Row). one_of (codes "journal") (with_journal rs) ≡ Some (bool_text (has_row (codes "journal") rs)))
+            (sym all.1) (journal_said all.0);
         numbers = ap (λ (rs : List Row). given_texts (λ o. first_of (name_of o) rs) (has_row (codes "journal") rows)) finished_is
             ∙ same_texts rows (has_row (codes "journal") rows) ∙ sym (said_is words none ∙ ap (option_and_then reads) end);
       },

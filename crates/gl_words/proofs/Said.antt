@@ -39,7 +39,8 @@ any_within p (x ∷ xs) = go (p x) (any_within p xs)
 
 -- the parts of a text at a place n that is in it or not
 cut : (text : Word) (n : ℕ) (here any : Bool) → any ≡ here → (here ≡ false → take n text ≡ text)
-    → ◌≡◌ {A = Word × Option Word} (elim (cond here (Some n) None) [ None ↦ (text, None) | Some at ↦ (take at text, Some (drop (at + 1) text)) ])
+    → ◌≡◌ {A = Word × Option Word}
+    (elim (cond here (Some n) None) [ None ↦ (text, None) | Some at ↦ (take at text, Some (drop (at + 1) text)) ])
     (take n text, cond any (Some (drop (n + 1) text)) None)
 cut text n true true e past = refl
 cut text n false false e past = ap (λ (t : Word). (t, None)) (sym (past refl))
@@ -83,7 +84,8 @@ none_in false = refl
 hyphen_no_number : (o : NumberOption) (rest : Word) → number_of o (45 ∷ rest) ≡ None
 hyphen_no_number o rest =
     let bad : magnitude_of (45 ∷ rest) ≡ None =
-    ap (λ (b : Bool). cond b (Some (digits_value (45 ∷ rest))) None) (none_in (nat_lt 0 (length (45 ∷ rest)) && nat_le (length (45 ∷ rest)) 19)) in
+    ap (λ (b : Bool). cond b (Some (digits_value (45 ∷ rest))) None)
+    (none_in (nat_lt 0 (length (45 ∷ rest)) && nat_le (length (45 ∷ rest)) 19)) in
     go (nat_lt MOST_DIGITS (length (45 ∷ rest))) (magnitude_of (45 ∷ rest)) bad
   where
     go : (b : Bool) (m : Option ℕ) → m ≡ None → cond b None (within o m) ≡ None
@@ -126,7 +128,12 @@ put_first g u (Some m) more (Some us) is all = all m ∙ sym (ap (option_and_the
 
 -- the last word
 said_last : (g : Given) (v : Option Text) (on : Option NumberOption) (j : Bool) → ((o : NumberOption) → on ≡ Some o → j ≡ false)
-    → ◌≡◌ {A = Option Given} (elim v [ Some t ↦ option_and_then (λ o. option_and_then (λ n. give o n g) (number_of o t)) on | None ↦ cond j (give_journal g) None ])
+    → ◌≡◌ {A = Option Given}
+    (elim v [
+      | Some t ↦ option_and_then (λ o. option_and_then (λ n. give o n g) (number_of o t)) on
+      | None ↦ cond j (give_journal g)
+          None
+    ])
     (option_and_then (gives g) (said v (elim on [ Some o ↦ Some (number o) | None ↦ cond j (Some flag) None ]) (λ w. uses_from w [])))
 said_last g (Some t) (Some o) j one =
     option_some (option_and_then (λ n. give o n g) (number_of o t))
@@ -134,7 +141,8 @@ said_last g (Some t) (Some o) j one =
 said_last g (Some t) None true one = refl
 said_last g (Some t) None false one = refl
 said_last g None (Some o) j one = ap (λ (b : Bool). cond b (give_journal g) None) (one o refl)
-said_last g None None true one = option_some (give_journal g) ∙ put_first g (flag, codes "true") (give_journal g) (λ m. Some m) (Some []) refl (λ m. refl)
+said_last g None None true one = option_some (give_journal g)
+    ∙ put_first g (flag, codes "true") (give_journal g) (λ m. Some m) (Some []) refl (λ m. refl)
 said_last g None None false one = refl
 
 -- a word before others
@@ -143,28 +151,36 @@ said_first : (g : Given) (v : Option Text) (on : Option NumberOption) (j : Bool)
     → ((m : Given) → read_options m (next ∷ rest) ≡ option_and_then (gives m) (uses_from None (next ∷ rest)))
     → ((m : Given) → read_options m rest ≡ option_and_then (gives m) (uses_from None rest))
     → ◌≡◌ {A = Option Given} (elim v [
-      | Some t ↦ option_and_then (λ m. read_options m (next ∷ rest)) (option_and_then (λ o. option_and_then (λ n. give o n g) (number_of o t)) on)
+      | Some t ↦ option_and_then (λ m. read_options m (next ∷ rest))
+          (option_and_then (λ o. option_and_then (λ n. give o n g) (number_of o t)) on)
       | None ↦ cond j (option_and_then (λ m. read_options m (next ∷ rest)) (give_journal g))
           (option_and_then (λ m. read_options m rest) (option_and_then (λ o. option_and_then (λ n. give o n g) (number_of o next)) on))
     ])
-    (option_and_then (gives g) (said v (elim on [ Some o ↦ Some (number o) | None ↦ cond j (Some flag) None ]) (λ w. uses_from w (next ∷ rest))))
+    (option_and_then (gives g)
+    (said v (elim on [ Some o ↦ Some (number o) | None ↦ cond j (Some flag) None ]) (λ w. uses_from w (next ∷ rest))))
 said_first g (Some t) (Some o) j next rest one here later =
-    put_first g (number o, t) (option_and_then (λ n. give o n g) (number_of o t)) (λ m. read_options m (next ∷ rest)) (uses_from None (next ∷ rest)) refl here
+    put_first g (number o, t) (option_and_then (λ n. give o n g) (number_of o t)) (λ m. read_options m (next ∷ rest))
+    (uses_from None (next ∷ rest)) refl here
 said_first g (Some t) None true next rest one here later = refl
 said_first g (Some t) None false next rest one here later = refl
-said_first g None (Some o) j next rest one here later = ap (λ (b : Bool). cond b (option_and_then (λ m. read_options m (next ∷ rest)) (give_journal g))
-    (option_and_then (λ m. read_options m rest) (option_and_then (λ n. give o n g) (number_of o next)))) (one o refl) ∙ go (is_value next) refl
+said_first g None (Some o) j next rest one here later = ap
+    (λ (b : Bool). cond b (option_and_then (λ m. read_options m (next ∷ rest)) (give_journal g))
+    (option_and_then (λ m. read_options m rest) (option_and_then (λ n. give o n g) (number_of o next)))) (one o refl)
+    ∙ go (is_value next) refl
   where
     go : (b : Bool) → is_value next ≡ b → option_and_then (λ m. read_options m rest) (option_and_then (λ n. give o n g) (number_of o next))
         ≡ option_and_then (gives g) (cond b (option_map (λ us. (number o, next) ∷ us) (uses_from None rest)) None)
-    go true e = put_first g (number o, next) (option_and_then (λ n. give o n g) (number_of o next)) (λ m. read_options m rest) (uses_from None rest) refl later
-    go false e = ap (λ (x : Option ℕ). option_and_then (λ m. read_options m rest) (option_and_then (λ n. give o n g) x)) (flag_no_number o next e)
+    go true e = put_first g (number o, next) (option_and_then (λ n. give o n g) (number_of o next)) (λ m. read_options m rest)
+        (uses_from None rest) refl later
+    go false e = ap (λ (x : Option ℕ). option_and_then (λ m. read_options m rest) (option_and_then (λ n. give o n g) x))
+        (flag_no_number o next e)
 said_first g None None true next rest one here later =
     put_first g (flag, codes "true") (give_journal g) (λ m. read_options m (next ∷ rest)) (uses_from None (next ∷ rest)) refl here
 said_first g None None false next rest one here later = refl
 
 -- what a word says is told by its name and number; `--` has none in clap's reading, and is no option in ours
-by_form : (word : Word) (g : Given) (f : Word × Option Word → Option Given) (h : Word × Option Word → Option (List Use)) → f ([], None) ≡ None
+by_form : (word : Word) (g : Given) (f : Word × Option Word → Option Given) (h : Word × Option Word → Option (List Use))
+    → f ([], None) ≡ None
     → ((p : Word × Option Word) → f p ≡ option_and_then (gives g) (h p))
     → option_and_then f (named word) ≡ option_and_then (gives g) (option_and_then h (long_of word))
 by_form word g f h none all = go (bytes_eq word dashes) refl
@@ -173,7 +189,8 @@ by_form word g f h none all = go (bytes_eq word dashes) refl
     same None = refl
     same (Some p) = all p
 
-    go : (b : Bool) → bytes_eq word dashes ≡ b → option_and_then f (named word) ≡ option_and_then (gives g) (option_and_then h (long_of word))
+    go : (b : Bool) → bytes_eq word dashes ≡ b
+        → option_and_then f (named word) ≡ option_and_then (gives g) (option_and_then h (long_of word))
     go true e =
         let is : word ≡ dashes = (bytes_eq-Decides word dashes).0 e in
         rw is none
@@ -182,7 +199,8 @@ by_form word g f h none all = go (bytes_eq word dashes) refl
 pub said_by_uses : (words : List Word) (g : Given) → read_options g words ≡ option_and_then (gives g) (uses_from None words)
 said_by_uses [] g = refl
 said_by_uses (word ∷ []) g =
-    by_form word g (λ p. elim p.1 [ Some t ↦ give_named g p.0 t | None ↦ give_alone g p.0 ]) (λ p. said p.1 (kind_named p.0) (λ w. uses_from w [])) refl
+    by_form word g (λ p. elim p.1 [ Some t ↦ give_named g p.0 t | None ↦ give_alone g p.0 ])
+    (λ p. said p.1 (kind_named p.0) (λ w. uses_from w [])) refl
     (λ p. said_last g p.1 (option_named p.0) (is_journal p.0) (one_kind p.0))
 said_by_uses (word ∷ next ∷ rest) g =
     by_form word g (λ p. elim p.1 [
@@ -195,7 +213,8 @@ said_by_uses (word ∷ next ∷ rest) g =
 
 -- ## A word `--` is no form
 
-dashes_by_form : (word : Word) (f : Word × Option Word → Option Given) → bytes_eq word dashes ≡ true → f ([], None) ≡ None → option_and_then f (named word) ≡ None
+dashes_by_form : (word : Word) (f : Word × Option Word → Option Given) → bytes_eq word dashes ≡ true → f ([], None) ≡ None
+    → option_and_then f (named word) ≡ None
 dashes_by_form word f e none =
     let is : word ≡ dashes = (bytes_eq-Decides word dashes).0 e in
     rw is none
@@ -211,7 +230,8 @@ none_next : (f : Given → Option Given) (x : Option Given) → ((m : Given) →
 none_next f None all = refl
 none_next f (Some m) all = all m
 
-no_form : (form : Option (Word × Option Word)) (f : Word × Option Word → Option Given) → ((p : Word × Option Word) → f p ≡ None) → option_and_then f form ≡ None
+no_form : (form : Option (Word × Option Word)) (f : Word × Option Word → Option Given) → ((p : Word × Option Word) → f p ≡ None)
+    → option_and_then f form ≡ None
 no_form None f all = refl
 no_form (Some p) f all = all p
 
@@ -228,12 +248,16 @@ dashes_say_nothing (word ∷ next ∷ rest) g has = elim (or_split (bytes_eq wor
 ]
   where
     behind : (name : Word) → ((m : Given) → has_dashes rest ≡ true → read_options m rest ≡ None)
-        → (bytes_eq next dashes ≡ true) ⊎ (has_dashes rest ≡ true) → option_and_then (λ m. read_options m rest) (give_named g name next) ≡ None
+        → (bytes_eq next dashes ≡ true) ⊎ (has_dashes rest ≡ true)
+        → option_and_then (λ m. read_options m rest) (give_named g name next) ≡ None
     behind name all (inl e) = go (option_named name)
       where
-        go : (on : Option NumberOption) → option_and_then (λ m. read_options m rest) (option_and_then (λ o. option_and_then (λ n. give o n g) (number_of o next)) on) ≡ None
+        go : (on : Option NumberOption)
+            → option_and_then (λ m. read_options m rest) (option_and_then (λ o. option_and_then (λ n. give o n g) (number_of o next)) on)
+            ≡ None
         go None = refl
-        go (Some o) = ap (λ (x : Option ℕ). option_and_then (λ m. read_options m rest) (option_and_then (λ n. give o n g) x)) (dashes_no_number o next e)
+        go (Some o) = ap (λ (x : Option ℕ). option_and_then (λ m. read_options m rest) (option_and_then (λ n. give o n g) x))
+            (dashes_no_number o next e)
     behind name all (inr more) = none_next (λ m. read_options m rest) (give_named g name next) (λ m. all m more)
 
     first : (name : Word) (v : Option Word) → ((m : Given) → read_options m (next ∷ rest) ≡ None)
@@ -244,7 +268,8 @@ dashes_say_nothing (word ∷ next ∷ rest) g has = elim (or_split (bytes_eq wor
               (option_and_then (λ m. read_options m rest) (give_named g name next))
         ]) None
     first name (Some t) here split all = none_next (λ m. read_options m (next ∷ rest)) (give_named g name t) here
-    first name None here split all = pick (is_journal name) (none_next (λ m. read_options m (next ∷ rest)) (give_journal g) here) (behind name all split)
+    first name None here split all = pick (is_journal name) (none_next (λ m. read_options m (next ∷ rest)) (give_journal g) here)
+        (behind name all split)
       where
         pick : (b : Bool) {x y : Option Given} → x ≡ None → y ≡ None → cond b x y ≡ None
         pick true one two = one

@@ -46,7 +46,8 @@ found name = rw (
     go : (a b c d e f : Bool) → cond (a || false) (Some (rule_for (number Workers))) (cond (b || false) (Some (rule_for (number Steps)))
         (cond (c || false) (Some (rule_for (number Segments))) (cond (d || false) (Some (rule_for (number Cells)))
         (cond (e || false) (Some (rule_for (number Size))) (cond (f || false) (Some (rule_for flag)) None)))))
-        ≡ option_map rule_for (elim (cond a (Some Workers) (cond b (Some Steps) (cond c (Some Segments) (cond d (Some Cells) (cond e (Some Size) None))))) [
+        ≡ option_map rule_for
+        (elim (cond a (Some Workers) (cond b (Some Steps) (cond c (Some Segments) (cond d (Some Cells) (cond e (Some Size) None))))) [
           | Some o ↦ Some (number o)
           | None ↦ cond f (Some flag) None
         ])
@@ -60,7 +61,8 @@ found name = rw (
 
 -- ## One use
 
-pub row_absent : (id : Text) (change : Row → List Row) (missing rows : List Row) → has_row id rows ≡ false → at_row id change missing rows ≡ rows ++ missing
+pub row_absent : (id : Text) (change : Row → List Row) (missing rows : List Row) → has_row id rows ≡ false
+    → at_row id change missing rows ≡ rows ++ missing
 row_absent id change missing [] none = refl
 row_absent id change missing (r ∷ rs) none = go (bytes_eq r.id id) none (row_absent id change missing rs)
   where
@@ -74,7 +76,8 @@ alone : (b : Bool) → or_else (cond (b && true) (ArgumentConflict ∷ []) []) [
 alone true = refl
 alone false = refl
 
-pub use_of_number : (o : NumberOption) (t : Text) (rows : List Row) → use_fault false (rule_for (number o)) (t ∷ []) rows ≡ repeated (name_of o) rows
+pub use_of_number : (o : NumberOption) (t : Text) (rows : List Row)
+    → use_fault false (rule_for (number o)) (t ∷ []) rows ≡ repeated (name_of o) rows
 use_of_number Workers t rows = alone (has_row (codes "workers") rows)
 use_of_number Steps t rows = alone (has_row (codes "steps") rows)
 use_of_number Segments t rows = alone (has_row (codes "segments") rows)
@@ -160,11 +163,13 @@ pub goes_on : (w v : Walk) (word : Text) (rest : List Text) → turn_fault shape
     → ends_from w (word ∷ rest) ≡ ends_from v rest
 unfolding walk_fault
 goes_on w v word rest clear on =
-    ap (λ (ks : Kinds). rows_ended (or_else ks (walk_fault shape [] (walked options [] w word) rest)) (fold (walked options []) (walked options [] w word) rest).held) clear
+    ap (λ (ks : Kinds). rows_ended (or_else ks (walk_fault shape [] (walked options [] w word) rest))
+    (fold (walked options []) (walked options [] w word) rest).held) clear
     ∙ ap (λ (u : Walk). ends_from u rest) on
 
 pub stops : (w : Walk) (word : Text) (rest : List Text) (k : ErrorKind) (ks : Kinds) → turn_fault shape [] w word ≡ k ∷ ks
     → ends_from w (word ∷ rest) ≡ None
 unfolding walk_fault
 stops w word rest k ks fault =
-    ap (λ (fs : Kinds). rows_ended (or_else fs (walk_fault shape [] (walked options [] w word) rest)) (fold (walked options []) (walked options [] w word) rest).held) fault
+    ap (λ (fs : Kinds). rows_ended (or_else fs (walk_fault shape [] (walked options [] w word) rest))
+    (fold (walked options []) (walked options [] w word) rest).held) fault
