@@ -6,7 +6,8 @@ use Rattle.gl_threads.specs.Options.{AreOptions}
 use Rattle.gl_trace.specs.declared.limits.TheConstants.{TRACE_BYTES}
 use Rattle.gl_run.specs.declared.words.Command.{Command}
 use Rattle.gl_run.specs.declared.words.Command.TheVariants as commands
-use Rattle.gl_run.specs.Options.{IsLoad, Word, load_options, run_options}
+use Rattle.gl_words.specs.Options.{Word}
+use Rattle.gl_run.specs.Options.{IsLoad, load_options, run_options}
 use Rattle.gl_run.specs.declared.options.LoadOptions.{LoadOptions}
 use Rattle.gl_run.specs.declared.options.RunOptions.{RunOptions}
 

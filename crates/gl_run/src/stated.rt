@@ -1,9 +1,10 @@
 // The limits and statuses of the command line, with their numbers written out.
 ghost use Rattle.std.specs.Prelude.{◌≡◌, None, Some};
-ghost use Rattle.gl_run.specs.Options.{limits_of, nothing_given, options_of};
+ghost use Rattle.gl_words.specs.Options.{limits_of, nothing_given};
+ghost use Rattle.gl_words.specs.declared.options.NumberOption.TheVariants.{Cells, Segments, Size, Steps, Workers};
+ghost use Rattle.gl_words.specs.declared.options.TheConstants.{DEFAULT_WORKERS, MOST_DIGITS};
+ghost use Rattle.gl_run.specs.Options.{options_of};
 ghost use Rattle.gl_run.specs.Words.{most_of};
-ghost use Rattle.gl_run.specs.declared.options.NumberOption.TheVariants.{Cells, Segments, Size, Steps, Workers};
-ghost use Rattle.gl_run.specs.declared.options.TheConstants.{DEFAULT_WORKERS, MOST_DIGITS};
 ghost use Rattle.gl_run.specs.declared.load.TheConstants.{LOAD_STEPS};
 ghost use Rattle.gl_run.specs.declared.status.TheConstants.{ALL_WELL, NOT_HALTED, NOT_LAWFUL, NO_COMMAND, NO_MEMORY, RACES, READ_FAILED, REFUSED, WRITE_FAILED};
 ghost use Rattle.gl_run.specs.declared.options.LoadOptions.{LoadOptions};

@@ -13,7 +13,7 @@ use crate::words::{command_of, run_command_of, text_command_of};
 use gl_io::{Failed, Sink, Source, write_all};
 use gl_shortcut::Cuts;
 use gl_threads::Gate;
-use std::alloc::Global;
+use std::alloc::{AllocError, Global};
 use std::sync::Wait;
 use std::thread::Threads;
 
@@ -86,15 +86,11 @@ pub fn goldi_run<S: Source, K: Sink, G: Gate, R: Threads + Wait + Sync>(
     ensures left { HasLeft (run_command_of (map string_bytes words.now)) (S.left source.old) (S.left source.new) result.status }
     ensures written { Serves Keep.Record (run_command_of (map string_bytes words.now)) (S.left source.old) result.status result.kept (K.written sink.old) (K.written sink.new) }
 {
-    let reply = reply(
-        rt,
-        alloc,
-        run_command_of(words),
-        source,
-        cuts,
-        gate,
-        Keep::Record,
-    );
+    let asked = match run_command_of(alloc, words) {
+        Ok(asked) => asked,
+        Err(AllocError) => return finish(sink, Err(Stop::Memory)),
+    };
+    let reply = reply(rt, alloc, asked, source, cuts, gate, Keep::Record);
     finish(sink, reply)
 }
 
@@ -113,15 +109,11 @@ pub fn goldi<S: Source, K: Sink, G: Gate, R: Threads + Wait + Sync>(
     ensures left { HasLeft (command_of (map string_bytes words.now)) (S.left source.old) (S.left source.new) result.status }
     ensures written { Serves Keep.Record (command_of (map string_bytes words.now)) (S.left source.old) result.status result.kept (K.written sink.old) (K.written sink.new) }
 {
-    let reply = reply(
-        rt,
-        alloc,
-        command_of(words),
-        source,
-        cuts,
-        gate,
-        Keep::Record,
-    );
+    let asked = match command_of(alloc, words) {
+        Ok(asked) => asked,
+        Err(AllocError) => return finish(sink, Err(Stop::Memory)),
+    };
+    let reply = reply(rt, alloc, asked, source, cuts, gate, Keep::Record);
     finish(sink, reply)
 }
 
@@ -140,14 +132,10 @@ pub fn goldi_without_trace<S: Source, K: Sink, G: Gate, R: Threads + Wait + Sync
     ensures left { HasLeft (command_of (map string_bytes words.now)) (S.left source.old) (S.left source.new) result.status }
     ensures written { Serves Keep.Nothing (command_of (map string_bytes words.now)) (S.left source.old) result.status result.kept (K.written sink.old) (K.written sink.new) }
 {
-    let reply = reply(
-        rt,
-        alloc,
-        command_of(words),
-        source,
-        cuts,
-        gate,
-        Keep::Nothing,
-    );
+    let asked = match command_of(alloc, words) {
+        Ok(asked) => asked,
+        Err(AllocError) => return finish(sink, Err(Stop::Memory)),
+    };
+    let reply = reply(rt, alloc, asked, source, cuts, gate, Keep::Nothing);
     finish(sink, reply)
 }

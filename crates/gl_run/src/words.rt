@@ -1,10 +1,11 @@
 // The words of the command line.
-ghost use Rattle.std.specs.Prelude.{◌≡◌, IfSome, None, Some, string_bytes, map};
+ghost use Rattle.std.specs.Prelude.{◌≡◌, IfOk, IfSome, None, Some, string_bytes, map};
 ghost use Rattle.gl_run.specs.Words.{HasLimits, alone, command_named, command_of, most_of, run_command_of, run_part, text_command_of, text_part};
 
 use crate::options::{LoadOptions, RunOptions, load_options, run_options};
 use gl_audited::AUDIT_BYTES;
 use gl_trace::TRACE_BYTES;
+use std::alloc::{AllocError, Global};
 
 /// A command.
 #[derive(Clone, Copy)]
@@ -51,56 +52,73 @@ fn alone(options: &[String], command: Command) -> Option<Command>
 }
 
 // The command of this name with these options.
-fn command_named(word: &[u8], options: &[String]) -> Option<Command>
-    ensures value { result ≡ command_named word.now (map string_bytes options.now) }
-    ensures limits { IfSome result HasLimits }
+fn command_named(
+    alloc: Global,
+    word: &[u8],
+    options: &[String],
+) -> Result<Option<Command>, AllocError>
+    ensures value { IfOk result (λ asked. asked ≡ command_named word.now (map string_bytes options.now)) }
+    ensures limits { IfOk result (λ asked. IfSome asked HasLimits) }
+{
+    match word {
+        b"check" => Ok(alone(options, Command::Check)),
+        b"list" => Ok(alone(options, Command::List)),
+        b"run" => match run_options(alloc, options)? {
+            Some(options) => Ok(Some(Command::Run(options))),
+            None => Ok(None),
+        },
+        b"load" => match load_options(alloc, options)? {
+            Some(options) => Ok(Some(Command::Load(options))),
+            None => Ok(None),
+        },
+        b"audit" => Ok(alone(options, Command::Audit)),
+        _ => Ok(None),
+    }
+}
+
+// The command that the words ask for, if they are one of the stated forms.
+pub fn command_of(alloc: Global, words: &[String]) -> Result<Option<Command>, AllocError>
+    ensures value { IfOk result (λ asked. asked ≡ command_of (map string_bytes words.now)) }
+    ensures limits { IfOk result (λ asked. IfSome asked HasLimits) }
+{
+    match words {
+        [] | [_] => Ok(None),
+        [_, word, options @ ..] => command_named(alloc, word.as_bytes(), options),
+    }
+}
+
+// The command of this name, if it is one that reads a text and runs nothing.
+fn text_command_named(word: &[u8], options: &[String]) -> Option<Command>
+    ensures value { result ≡ text_part (command_named word.now (map string_bytes options.now)) }
+    ensures runs_nothing { run_part result ≡ None }
 {
     match word {
         b"check" => alone(options, Command::Check),
         b"list" => alone(options, Command::List),
-        b"run" => match run_options(options) {
-            Some(options) => Some(Command::Run(options)),
-            None => None,
-        },
-        b"load" => match load_options(options) {
-            Some(options) => Some(Command::Load(options)),
-            None => None,
-        },
         b"audit" => alone(options, Command::Audit),
         _ => None,
     }
 }
 
-// The command that the words ask for, if they are one of the stated forms.
-pub fn command_of(words: &[String]) -> Option<Command>
-    ensures value { result ≡ command_of (map string_bytes words.now) }
-    ensures limits { IfSome result HasLimits }
-{
-    match words {
-        [] | [_] => None,
-        [_, word, options @ ..] => command_named(word.as_bytes(), options),
-    }
-}
-
-// The command, if it is one that reads a text and runs nothing.
+// The command, if it is one that reads a text and runs nothing. The options of another are not looked at.
 pub fn text_command_of(words: &[String]) -> Option<Command>
     ensures value { result ≡ text_command_of (map string_bytes words.now) }
     ensures runs_nothing { run_part result ≡ None }
 {
-    match command_of(words) {
-        Some(Command::Run(_)) | Some(Command::Load(_)) => None,
-        other => other,
+    match words {
+        [] | [_] => None,
+        [_, word, options @ ..] => text_command_named(word.as_bytes(), options),
     }
 }
 
 // The command, if it is one that runs a program.
-pub fn run_command_of(words: &[String]) -> Option<Command>
-    ensures value { result ≡ run_command_of (map string_bytes words.now) }
-    ensures limits { IfSome result HasLimits }
+pub fn run_command_of(alloc: Global, words: &[String]) -> Result<Option<Command>, AllocError>
+    ensures value { IfOk result (λ asked. asked ≡ run_command_of (map string_bytes words.now)) }
+    ensures limits { IfOk result (λ asked. IfSome asked HasLimits) }
 {
-    match command_of(words) {
-        Some(Command::Run(options)) => Some(Command::Run(options)),
-        Some(Command::Load(options)) => Some(Command::Load(options)),
-        _ => None,
+    match command_of(alloc, words)? {
+        Some(Command::Run(options)) => Ok(Some(Command::Run(options))),
+        Some(Command::Load(options)) => Ok(Some(Command::Load(options))),
+        _ => Ok(None),
     }
 }

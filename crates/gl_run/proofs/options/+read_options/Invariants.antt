@@ -1,6 +1,0 @@
--- the words that are left
-use Rattle.std.proofs.Common.{length}
-use Rattle.gl_run.proofs.options.+read_options.Given as goal
-
-abbrev pub decreases-read_options : goal.decreases-read_options
-decreases-read_options l = length l.words.now

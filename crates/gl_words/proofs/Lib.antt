@@ -1,0 +1,6 @@
+mod Uses
+mod Turns
+mod Ends
+mod Said
+mod Readings
+mod Parses
