@@ -1,5 +1,6 @@
 pub mod Asking
 pub mod Growing
+pub mod MadeBy
 pub mod OneLine
 pub mod OneSite
 pub mod Said

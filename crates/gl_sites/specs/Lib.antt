@@ -1,3 +1,4 @@
 pub mod Adding
+pub mod Makers
 pub mod Sites
 pub mod SourceLines
