@@ -1,0 +1,3 @@
+pub mod LawfulRuns
+pub mod Sources
+pub mod Telling
