@@ -2,7 +2,13 @@
 #![tactic(auto)]
 
 mod facts;
+mod page;
+mod phrases;
 mod run;
+mod text;
+mod whole;
 
 pub use facts::{Explanation, Side};
+pub use page::Page;
 pub use run::Run;
+pub use whole::explain_run;
