@@ -9,6 +9,5 @@ mod text;
 mod whole;
 
 pub use facts::{Explanation, Side};
-pub use page::Page;
 pub use run::Run;
 pub use whole::explain_run;

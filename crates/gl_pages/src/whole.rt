@@ -5,11 +5,12 @@ ghost use Rattle.gl_bytecode.specs.Lawful.{Lawful};
 ghost use Rattle.gl_model.specs.Lists.{lists_of};
 ghost use Rattle.gl_pages.specs.Answers.{ExplainsAudit, ExplainsRun};
 
-use crate::page::{Page, not_lawful, refused};
+use crate::page::not_lawful;
 use crate::run::Run;
 use crate::text::{push_all, push_ending};
 use gl_audit::{Finding, audit};
 use gl_audited::{Audited, program_text, read_audit};
+use gl_explain::{Page, refused};
 use gl_names::names_of;
 use gl_text::TextError;
 use std::alloc::{AllocError, Global};
