@@ -33,6 +33,10 @@ pub record IsCutAt (text : List ℕ) (n : ℕ) : Type 0 where
   pub before : list_any begins_record (lines (take n text)) ≡ false
   pub after : (n ≡ length text) ⊎ (first_begins_record (lines (drop n text)) ≡ true)
 
+-- the part is the text of the program
+abbrev pub IsProgramText : List ℕ → List ℕ → Type 0
+IsProgramText text part = (n : ℕ) × IsCutAt text n × (part ≡ take n text)
+
 -- the first n bytes are the first line, with its line feed if it has one
 abbrev pub IsLineEnd : List ℕ → ℕ → Type 0
 IsLineEnd text n =

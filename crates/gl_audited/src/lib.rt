@@ -4,8 +4,10 @@
 mod cut;
 mod laws;
 mod limits;
+mod part;
 mod reader;
 
 pub use laws::{limits_are_stated, one_meaning};
 pub use limits::AUDIT_BYTES;
+pub use part::program_text;
 pub use reader::{Audited, read_audit};

@@ -12,6 +12,7 @@ mod stands;
 pub use cause::{Cause, causes};
 pub use laws::an_entry_has_one_cause;
 pub use owned::owned_at;
+pub use races::{is_plain, writes_to};
 
 #[cfg(test)]
 mod tests;

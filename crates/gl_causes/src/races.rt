@@ -56,8 +56,8 @@ fn own_number(entry: &Entry, var: u16) -> Option<u64>
     }
 }
 
-// Whether an access of the variable writes it.
-fn writes_to(entry: &Entry, var: u16) -> bool
+/// Whether an access of the variable writes it.
+pub fn writes_to(entry: &Entry, var: u16) -> bool
     ensures { result ≡ writes_to var (seen entry.now) }
 {
     match entry {
@@ -67,8 +67,8 @@ fn writes_to(entry: &Entry, var: u16) -> bool
     }
 }
 
-// Whether the entry is a plain access.
-fn is_plain(entry: &Entry) -> bool
+/// Whether the entry is a plain access.
+pub fn is_plain(entry: &Entry) -> bool
     ensures { result ≡ is_plain (seen entry.now) }
 {
     matches!(entry, Entry::Plain { .. })

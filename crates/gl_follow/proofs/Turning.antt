@@ -41,13 +41,13 @@ drop_next [] (suc n) e fs is = cc
 drop_next (a ∷ es) zero e fs is = cc
 drop_next (a ∷ es) (suc n) e fs is = drop_next es n e fs is
 
-less_by : (es : List Entry) (n : ℕ) (e : Entry) (fs : List Entry) → drop n es ≡ e ∷ fs → n < length es
+pub less_by : (es : List Entry) (n : ℕ) (e : Entry) (fs : List Entry) → drop n es ≡ e ∷ fs → n < length es
 less_by [] zero e fs is = absurd (cc)
 less_by [] (suc n) e fs is = absurd (cc)
 less_by (a ∷ es) zero e fs is = omega arith
 less_by (a ∷ es) (suc n) e fs is = (let more = less_by es n e fs is in omega arith)
 
-at_by : (es : List Entry) (n : ℕ) (e : Entry) (fs : List Entry) → drop n es ≡ e ∷ fs → slice_get es n ≡ Some e
+pub at_by : (es : List Entry) (n : ℕ) (e : Entry) (fs : List Entry) → drop n es ≡ e ∷ fs → slice_get es n ≡ Some e
 at_by [] zero e fs is = absurd (cc)
 at_by [] (suc n) e fs is = absurd (cc)
 at_by (a ∷ es) zero e fs is = (let same : a ≡ e = cc in ap Some same)

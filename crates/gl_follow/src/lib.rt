@@ -10,3 +10,4 @@ mod words;
 
 pub use laws::a_list_fails_its_program_at_one_place;
 pub use program::program_fault;
+pub use replay::Replay;

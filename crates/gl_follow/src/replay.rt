@@ -9,6 +9,7 @@ ghost use Rattle.gl_bytecode.specs.Programs.{Bytecode};
 ghost use Rattle.gl_bytecode.specs.Runs.{Made, is_its_end, known_word, knows, looks_after, outset, replied, reply_in, reply_of_abort, reply_of_commit, told_one, touched, word_of, writes_after};
 ghost use Rattle.gl_bytecode.specs.declared.ask.Ask.TheVariants.{Over as AskOver, Read, Write};
 ghost use Rattle.gl_bytecode.specs.declared.ask.Reply.TheVariants.{Go, Value};
+ghost use Rattle.gl_vm.specs.Standing.{site_of};
 ghost use Rattle.gl_follow.specs.Following.{BeginsRight, quiet_for, quiet_inside, quiet_outside, quiet_read, quiet_write};
 ghost use Rattle.gl_follow.specs.Steps.{CanGo, GoesQuietly, HasRoomFor, IsNoAnswer, Passes, Refuses, StaysSilent};
 
@@ -16,13 +17,13 @@ use crate::answers::{by_act, by_plain, word_ahead};
 use crate::words::Words;
 use gl_bytecode::{Ask, Program, RACE, Reply, TX_TOO_LARGE};
 use gl_model::{Ending, Entry, Tx, Why};
-use gl_vm::Machine;
+use gl_vm::{Machine, Site};
 use std::alloc::{AllocError, Global};
 use std::marker::Model;
 
-// A thread's machine that is driven by the thread's list, and what its running attempt looked at and wrote so far.
+/// A thread's machine that is driven by the thread's list, and what its running attempt looked at and wrote so far.
 #[derive(Drop)]
-pub(crate) struct Replay {
+pub struct Replay {
     machine: Machine,
     words: Words,
 }
@@ -36,8 +37,8 @@ impl Model for Replay {
 }
 
 impl Replay {
-    // A machine that was asked nothing yet.
-    pub(crate) fn new(
+    /// A machine that was asked nothing yet.
+    pub fn new(
         alloc: Global,
         program: &Program,
         thread: u8,
@@ -62,15 +63,22 @@ impl Replay {
         }
     }
 
-    // Tells a caller's proof that the attempt touched at most `TX_VARIABLES` variables.
-    pub(crate) fn keeps(&self)
+    /// The instruction that has asked and waits for the answer, or that has ended the attempt that runs, if it is one.
+    pub fn site(&self) -> Option<Site>
+        ensures { result ≡ site_of self.now.config }
+    {
+        self.machine.site()
+    }
+
+    /// Tells a caller's proof that the attempt touched at most `TX_VARIABLES` variables.
+    pub fn keeps(&self)
         ensures { touched self.now ≤ TX_VARIABLES }
     {
         self.words.keeps();
     }
 
-    // Goes on by the reply that leaves no entry, where what was asked takes one; these entries are still ahead.
-    pub(crate) fn goes_quietly(&mut self, program: &Program, list: &[Entry]) -> bool
+    /// Goes on by the reply that leaves no entry, where what was asked takes one; these entries are still ahead.
+    pub fn goes_quietly(&mut self, program: &Program, list: &[Entry]) -> bool
         requires can { CanGo program.now self.old }
         ensures moved { MatchBool result (GoesQuietly program.now self.old (map seen list.now) self.new) (StaysSilent self.old (map seen list.now) self.new) }
         ensures can { CanGo program.now self.new }
@@ -85,8 +93,8 @@ impl Replay {
         }
     }
 
-    // Passes over the entry where it is a Trim, and goes on by it where it answers what was asked.
-    pub(crate) fn passes(&mut self, program: &Program, entry: &Entry) -> bool
+    /// Passes over the entry where it is a Trim, and goes on by it where it answers what was asked.
+    pub fn passes(&mut self, program: &Program, entry: &Entry) -> bool
         requires can { CanGo program.now self.old }
         requires right { BeginsRight program.now (seen entry.now) }
         ensures moved { MatchBool result (Passes program.now self.old (seen entry.now) self.new) (Refuses program.now self.old (seen entry.now) self.new) }

@@ -1,3 +1,5 @@
 pub mod Adding
+pub mod Makers
+pub mod Recorded
 pub mod Sites
 pub mod SourceLines

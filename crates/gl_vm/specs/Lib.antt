@@ -3,3 +3,4 @@ pub mod MachineView
 pub mod Named
 pub mod Orderly
 pub mod Ready
+pub mod Standing

@@ -7,9 +7,11 @@ mod laws;
 mod machine;
 mod operands;
 mod rows;
+mod standing;
 #[cfg(test)]
 mod tests;
 
 pub use gl_bytecode::{Ask, Reply};
 pub use laws::entries_are_bounded;
 pub use machine::Machine;
+pub use standing::Site;

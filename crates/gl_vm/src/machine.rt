@@ -22,14 +22,14 @@ pub struct Machine {
     thread: u8,
     limit: u32,
     counted: u32,
-    frame: Frame,
+    pub(crate) frame: Frame,
     callers: Callers,
     levels: Vec<u32>,
     // The frame as it stood at the beginning of the attempt, and how many callers it had.
     in_attempt: bool,
     kept: Frame,
     kept_depth: usize,
-    stage: Stage,
+    pub(crate) stage: Stage,
 }
 
 impl Model for Machine {

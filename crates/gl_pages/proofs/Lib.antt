@@ -1,0 +1,4 @@
+pub mod LawfulRuns
+pub mod Pieces
+pub mod Sources
+pub mod Telling

@@ -1,0 +1,4 @@
+pub mod Answers
+pub mod Explained
+pub mod LawfulRun
+pub mod Texts

@@ -1,0 +1,27 @@
+// What is said of a race.
+use gl_places::Place;
+use gl_sites::SourceLine;
+
+/// One of the two accesses of a race.
+#[derive(Drop)]
+pub struct Side<'a> {
+    /// Where it stands in the record.
+    pub place: Place,
+    /// Whether it is a plain access, and no commit or attempt at one.
+    pub plain: bool,
+    /// Whether it writes the variable.
+    pub write: bool,
+    /// The line of the instruction that made it. Of a refused attempt it is that of the instruction that ended the attempt.
+    pub source: Option<SourceLine<'a>>,
+    /// The monitors that its thread owned there, rising.
+    pub owned: Vec<u16>,
+}
+
+/// Why an entry was refused on a variable: the access that it races with, and how many others there are.
+#[derive(Drop)]
+pub struct Explanation<'a> {
+    pub at: Side<'a>,
+    pub var: u16,
+    pub other: Side<'a>,
+    pub others: usize,
+}

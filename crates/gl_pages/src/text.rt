@@ -1,0 +1,140 @@
+// The text of an explanation.
+ghost use Rattle.std.specs.Prelude.{◌≡◌, ◌++◌, OnOk};
+ghost use Rattle.std.specs.List.{flat_map};
+ghost use Rattle.gl_names.specs.Names.{name_of};
+ghost use Rattle.gl_explain.specs.Texts.{ending_text};
+ghost use Rattle.gl_pages.specs.Texts.{explanation_text, facts_text, others_text, owned_text, place_text, side_text, sides_text, source_text, touch_text};
+
+use crate::facts::{Explanation, Side};
+use crate::phrases::{push, push_access, push_monitors, push_number, push_thread};
+use gl_names::Names;
+use gl_sites::SourceLine;
+use std::alloc::AllocError;
+
+fn push_source(out: &mut Vec<u8>, source: &Option<SourceLine<'_>>) -> Result<(), AllocError>
+    ensures { OnOk result (out.new.items ≡ out.old.items ++ source_text source.now) }
+{
+    match source {
+        None => push(out, ", in no line"),
+        Some(line) => {
+            push(out, ", function ")?;
+            out.extend_from_slice(line.function)?;
+            push_number(out, ", line ", u64::from(line.number))?;
+            push(out, ", `")?;
+            out.extend_from_slice(line.text)?;
+            push(out, "`")
+        }
+    }
+}
+
+fn push_place(out: &mut Vec<u8>, names: &Names<'_>, side: &Side<'_>) -> Result<(), AllocError>
+    ensures { OnOk result (out.new.items ≡ out.old.items ++ place_text (name_of names.now) side.now) }
+{
+    push_thread(out, "thread ", names, side.place.thread)?;
+    push_source(out, &side.source)
+}
+
+// What the access does to the variable, behind the words that stand before a commit.
+fn push_touch(
+    out: &mut Vec<u8>,
+    names: &Names<'_>,
+    commit: &str,
+    var: u16,
+    side: &Side<'_>,
+) -> Result<(), AllocError>
+    ensures { OnOk result (out.new.items ≡ out.old.items ++ touch_text (name_of names.now) commit.now var side.now) }
+{
+    if !side.plain {
+        push(out, commit)?;
+    }
+    push_access(out, names, side.write, var)
+}
+
+fn push_side(
+    out: &mut Vec<u8>,
+    names: &Names<'_>,
+    commit: &str,
+    var: u16,
+    side: &Side<'_>,
+) -> Result<(), AllocError>
+    ensures { OnOk result (out.new.items ≡ out.old.items ++ side_text (name_of names.now) commit.now var side.now) }
+{
+    push_place(out, names, side)?;
+    push(out, ": ")?;
+    push_touch(out, names, commit, var, side)
+}
+
+// The two accesses that race.
+fn push_sides(out: &mut Vec<u8>, names: &Names<'_>, e: &Explanation<'_>) -> Result<(), AllocError>
+    ensures { OnOk result (out.new.items ≡ out.old.items ++ sides_text (name_of names.now) e.now) }
+{
+    push_side(out, names, "is refused a commit that ", e.var, &e.at)?;
+    push(out, "\n  races with ")?;
+    push_side(out, names, "commits and ", e.var, &e.other)?;
+    push(out, "\n")
+}
+
+fn push_others(out: &mut Vec<u8>, others: usize) -> Result<(), AllocError>
+    ensures { OnOk result (out.new.items ≡ out.old.items ++ others_text others) }
+{
+    if others == 0 {
+        return Ok(());
+    }
+    push_number(
+        out,
+        "  earlier accesses that it races with too: ",
+        others as u64,
+    )?;
+    push(out, "\n")
+}
+
+fn push_owned(out: &mut Vec<u8>, names: &Names<'_>, side: &Side<'_>) -> Result<(), AllocError>
+    ensures { OnOk result (out.new.items ≡ out.old.items ++ owned_text (name_of names.now) side.now) }
+{
+    push_thread(out, "  there thread ", names, side.place.thread)?;
+    push(out, " owns ")?;
+    push_monitors(out, names, &side.owned)?;
+    push(out, "\n")
+}
+
+// What is said of them.
+fn push_facts(out: &mut Vec<u8>, names: &Names<'_>, e: &Explanation<'_>) -> Result<(), AllocError>
+    ensures { OnOk result (out.new.items ≡ out.old.items ++ facts_text (name_of names.now) e.now) }
+{
+    push_others(out, e.others)?;
+    push_owned(out, names, &e.at)?;
+    push_owned(out, names, &e.other)
+}
+
+fn push_explanation(
+    out: &mut Vec<u8>,
+    names: &Names<'_>,
+    e: &Explanation<'_>,
+) -> Result<(), AllocError>
+    ensures { OnOk result (out.new.items ≡ out.old.items ++ explanation_text (name_of names.now) e.now) }
+{
+    push_sides(out, names, e)?;
+    push_facts(out, names, e)
+}
+
+/// Adds the explanations.
+pub(crate) fn push_all(
+    out: &mut Vec<u8>,
+    names: &Names<'_>,
+    explained: &[Explanation<'_>],
+) -> Result<(), AllocError>
+    ensures { OnOk result (out.new.items ≡ out.old.items ++ flat_map (explanation_text (name_of names.now)) explained.now) }
+{
+    for e in explained {
+        push_explanation(out, names, e)?;
+    }
+    Ok(())
+}
+
+/// Adds the end of the text.
+pub(crate) fn push_ending(out: &mut Vec<u8>, races: usize) -> Result<(), AllocError>
+    ensures { OnOk result (out.new.items ≡ out.old.items ++ ending_text races) }
+{
+    push_number(out, "races ", races as u64)?;
+    push(out, "\nonly this observed order of steps was judged\n")
+}
