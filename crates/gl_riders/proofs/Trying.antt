@@ -239,32 +239,6 @@ module _ (P : Bytecode) (z : TableView) (c : Config) where
   end_tried own new txn after a keep e asks is becomes rides end =
       rw (is, becomes) (end_answers P c a keep e own new (rides_run own txn (TxEnd keep) asks rides tt) end)
 
-  -- ## One ask
-
-  pub outside_idle : (own : Own) (txn : Option Attempting) → is_some c.attempt ≡ false → Rides P z.id c own txn → txn ≡ None
-  outside_idle own txn out rides = none_of txn (rides.running ∙ out)
-
-  -- what is no access and no step of an attempt is an event
-  pub others : (ask : Ask) → IsAsk ask → ((x : ℕ) → ask ≡ Read x → ⊥) → ((x : ℕ) (a : ℤ) → ask ≡ Write x a → ⊥) → (ask ≡ TxBegin → ⊥)
-      → ((keep : Bool) → ask ≡ TxEnd keep → ⊥) → IsEvent ask
-  others Go is r w b e' = absurd is
-  others Begin is r w b e' = tt
-  others End is r w b e' = tt
-  others (Over e) is r w b e' = absurd is
-  others (Read x) is r w b e' = absurd (r x refl)
-  others (Write x a) is r w b e' = absurd (w x a refl)
-  others (VRead v) is r w b e' = tt
-  others (VWrite v a) is r w b e' = tt
-  others (Enter o) is r w b e' = tt
-  others (Exit o) is r w b e' = tt
-  others (Fork f a) is r w b e' = tt
-  others (Join u) is r w b e' = tt
-  others (Alloc k) is r w b e' = tt
-  others (Print a) is r w b e' = tt
-  others Input is r w b e' = tt
-  others TxBegin is r w b e' = absurd (b refl)
-  others (TxEnd keep) is r w b e' = absurd (e' keep refl)
-
 -- ## Private words after an answer
 
 -- behind an entry that ends rights, where nothing is owed, no word is kept
