@@ -1,5 +1,6 @@
 mod Answering
 mod EntryTests
+mod Handings
 mod Owning
 mod Racing
 mod Single

@@ -1,5 +1,6 @@
 pub mod Causes
 pub mod Finding
+pub mod Handing
 pub mod Judging
 pub mod Learning
 pub mod Owned

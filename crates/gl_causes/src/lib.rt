@@ -2,6 +2,7 @@
 #![tactic(auto)]
 
 mod cause;
+mod handing;
 mod laws;
 mod learn;
 mod owned;
@@ -10,6 +11,7 @@ mod refusals;
 mod stands;
 
 pub use cause::{Cause, causes};
+pub use handing::{Handing, Way, first_handing};
 pub use laws::an_entry_has_one_cause;
 pub use owned::owned_at;
 pub use races::{is_plain, writes_to};

@@ -8,9 +8,11 @@ use Rattle.gl_sites.specs.Sites.{IsMadeAt}
 use Rattle.gl_sites.specs.SourceLines.{IsLineOf, IsSourceOf}
 use Rattle.gl_causes.specs.declared.cause.Cause.{Cause}
 use Rattle.gl_causes.specs.Causes.{AreCauses}
+use Rattle.gl_causes.specs.Handing.{IsHanded}
 use Rattle.gl_causes.specs.Judging.{is_plain, writes_to}
 use Rattle.gl_causes.specs.Owned.{AreOwned}
 use Rattle.gl_pages.specs.declared.facts.Explanation.{Explanation}
+use Rattle.gl_pages.specs.declared.facts.Handed.{Handed}
 use Rattle.gl_pages.specs.declared.facts.Side.{Side}
 use Rattle.gl_pages.specs.LawfulRun.{LawfulRun, lists_in}
 
@@ -46,10 +48,16 @@ pub record IsSide (run : LawfulRun) (x : ℕ) (s : Side) : Type 0 where
   -- what its thread owned there
   pub owned : AreOwned (take s.place.index (lists_in run s.place.thread)) s.owned.items
 
--- what is said of both
+-- the first entry behind c by which its thread hands on what it did, if there is one, with the line of its instruction
+abbrev pub IsHandedOn : LawfulRun → Place → Option Handed → Type 0
+IsHandedOn run c None = IsHanded (lists_in run) c None
+IsHandedOn run c (Some h) = IsHanded (lists_in run) c (Some h.handing) × IsSource run (seen h.handing.place) h.source
+
+-- what is said of both, and of what the other thread did next
 pub record IsExplained (run : LawfulRun) (e : Explanation) : Type 0 where
   pub at : IsSide run e.var e.at
   pub other : IsSide run e.var e.other
+  pub handed : IsHandedOn run (seen e.other.place) e.handed
 
 -- why the entry was refused
 abbrev pub cause_of : Explanation → Cause

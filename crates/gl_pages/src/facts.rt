@@ -1,4 +1,5 @@
 // What is said of a race.
+use gl_causes::Handing;
 use gl_places::Place;
 use gl_sites::SourceLine;
 
@@ -17,11 +18,20 @@ pub struct Side<'a> {
     pub owned: Vec<u16>,
 }
 
-/// Why an entry was refused on a variable: the access that it races with, and how many others there are.
+/// An entry by which a thread hands on what it did, and the line of the instruction that made it.
+#[derive(Drop)]
+pub struct Handed<'a> {
+    pub handing: Handing,
+    pub source: Option<SourceLine<'a>>,
+}
+
+/// Why an entry was refused on a variable: the access that it races with, how many others there are, and where the other thread first hands on
+/// what it did.
 #[derive(Drop)]
 pub struct Explanation<'a> {
     pub at: Side<'a>,
     pub var: u16,
     pub other: Side<'a>,
     pub others: usize,
+    pub handed: Option<Handed<'a>>,
 }

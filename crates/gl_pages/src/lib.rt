@@ -8,6 +8,6 @@ mod run;
 mod text;
 mod whole;
 
-pub use facts::{Explanation, Side};
+pub use facts::{Explanation, Handed, Side};
 pub use run::Run;
 pub use whole::explain_run;

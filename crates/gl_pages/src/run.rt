@@ -4,9 +4,9 @@ ghost use Rattle.gl_asm.specs.Texts.{IsText};
 ghost use Rattle.gl_bytecode.specs.Lawful.{Lawful};
 ghost use Rattle.gl_model.specs.Lists.{lists_of};
 
-use crate::facts::{Explanation, Side};
+use crate::facts::{Explanation, Handed, Side};
 use gl_audited::Audited;
-use gl_causes::{Cause, causes, is_plain, owned_at, writes_to};
+use gl_causes::{Cause, causes, first_handing, is_plain, owned_at, writes_to};
 use gl_model::Entry;
 use gl_places::Place;
 use gl_sites::{Maker, SourceLine, line_of, maker_at, makers_of};
@@ -38,7 +38,7 @@ impl<'a> Run<'a> {
     ghost use Rattle.gl_model.specs.Records.{EntryAt};
     ghost use Rattle.gl_places.specs.Places.{seen};
     ghost use Rattle.gl_causes.specs.Causes.{IsCause};
-    ghost use Rattle.gl_pages.specs.Explained.{AreExplained, IsExplained, IsSide, IsSource, cause_of};
+    ghost use Rattle.gl_pages.specs.Explained.{AreExplained, IsExplained, IsHandedOn, IsSide, IsSource, cause_of};
     ghost use Rattle.gl_pages.specs.LawfulRun.{lists_in, run_of};
 
     /// The run of a record that is lawful for the program that the text says.
@@ -96,6 +96,19 @@ impl<'a> Run<'a> {
         })
     }
 
+    // Where the thread first hands on what it did at the place.
+    fn handed(&self, place: Place) -> Option<Handed<'a>>
+        ensures { IsHandedOn self.now (seen place) result }
+    {
+        match first_handing(&self.audited.record, place) {
+            Some(handing) => Some(Handed {
+                handing,
+                source: self.source(handing.place),
+            }),
+            None => None,
+        }
+    }
+
     // What is said of the refused entry that has this cause.
     fn explanation(&self, alloc: Global, cause: &Cause) -> Result<Explanation<'a>, AllocError>
         requires { IsCause (lists_in self.now) cause.now }
@@ -107,6 +120,7 @@ impl<'a> Run<'a> {
             var: cause.var,
             other: self.side(alloc, cause.other, cause.var)?,
             others: cause.others,
+            handed: self.handed(cause.other),
         })
     }
 

@@ -3,27 +3,32 @@ ghost use Rattle.std.specs.Prelude.{◌≡◌, ◌++◌, OnOk};
 ghost use Rattle.std.specs.List.{flat_map};
 ghost use Rattle.gl_names.specs.Names.{name_of};
 ghost use Rattle.gl_explain.specs.Texts.{ending_text};
-ghost use Rattle.gl_pages.specs.Texts.{explanation_text, facts_text, others_text, owned_text, place_text, side_text, sides_text, source_text, touch_text};
+ghost use Rattle.gl_pages.specs.Texts.{did_text, explanation_text, facts_text, found_text, handed_text, handing_text, line_text, others_text, owned_text, place_text, side_text, sides_text, source_text, touch_text, way_text};
 
-use crate::facts::{Explanation, Side};
-use crate::phrases::{push, push_access, push_monitors, push_number, push_thread};
-use gl_names::Names;
+use crate::facts::{Explanation, Handed, Side};
+use crate::phrases::{push, push_access, push_monitors, push_number, push_thing, push_thread};
+use gl_causes::Way;
+use gl_names::{Kind, Names};
 use gl_sites::SourceLine;
 use std::alloc::AllocError;
+
+fn push_line(out: &mut Vec<u8>, line: &SourceLine<'_>) -> Result<(), AllocError>
+    ensures { OnOk result (out.new.items ≡ out.old.items ++ line_text line.now) }
+{
+    push(out, "function ")?;
+    out.extend_from_slice(line.function)?;
+    push_number(out, ", line ", u64::from(line.number))?;
+    push(out, ", `")?;
+    out.extend_from_slice(line.text)?;
+    push(out, "`")
+}
 
 fn push_source(out: &mut Vec<u8>, source: &Option<SourceLine<'_>>) -> Result<(), AllocError>
     ensures { OnOk result (out.new.items ≡ out.old.items ++ source_text source.now) }
 {
     match source {
-        None => push(out, ", in no line"),
-        Some(line) => {
-            push(out, ", function ")?;
-            out.extend_from_slice(line.function)?;
-            push_number(out, ", line ", u64::from(line.number))?;
-            push(out, ", `")?;
-            out.extend_from_slice(line.text)?;
-            push(out, "`")
-        }
+        None => push(out, "no line"),
+        Some(line) => push_line(out, line),
     }
 }
 
@@ -31,6 +36,7 @@ fn push_place(out: &mut Vec<u8>, names: &Names<'_>, side: &Side<'_>) -> Result<(
     ensures { OnOk result (out.new.items ≡ out.old.items ++ place_text (name_of names.now) side.now) }
 {
     push_thread(out, "thread ", names, side.place.thread)?;
+    push(out, ", ")?;
     push_source(out, &side.source)
 }
 
@@ -97,13 +103,76 @@ fn push_owned(out: &mut Vec<u8>, names: &Names<'_>, side: &Side<'_>) -> Result<(
     push(out, "\n")
 }
 
+fn push_way(out: &mut Vec<u8>, names: &Names<'_>, way: Way) -> Result<(), AllocError>
+    ensures { OnOk result (out.new.items ≡ out.old.items ++ way_text (name_of names.now) way) }
+{
+    match way {
+        Way::Releases(m) => push_thing(out, "releases monitor ", names, Kind::Monitor, m),
+        Way::Writes(v) => push_thing(out, "writes volatile ", names, Kind::Volatile, v),
+        Way::Forks(child) => push_thread(out, "forks thread ", names, child),
+        Way::Commits => push(out, "commits"),
+        Way::Ends => push(out, "ends and is joined"),
+    }
+}
+
+fn push_handing(
+    out: &mut Vec<u8>,
+    names: &Names<'_>,
+    handed: &Handed<'_>,
+) -> Result<(), AllocError>
+    ensures { OnOk result (out.new.items ≡ out.old.items ++ handing_text (name_of names.now) handed.now) }
+{
+    push_source(out, &handed.source)?;
+    push(out, ": ")?;
+    push_way(out, names, handed.handing.way)?;
+    push(out, "\n")
+}
+
+fn push_found(
+    out: &mut Vec<u8>,
+    names: &Names<'_>,
+    handed: &Option<Handed<'_>>,
+) -> Result<(), AllocError>
+    ensures { OnOk result (out.new.items ≡ out.old.items ++ found_text (name_of names.now) handed.now) }
+{
+    match handed {
+        None => push(out, " is handed on nowhere\n"),
+        Some(found) => {
+            push(out, " is first handed on in ")?;
+            push_handing(out, names, found)
+        }
+    }
+}
+
+// What was done at the access.
+fn push_did(out: &mut Vec<u8>, names: &Names<'_>, side: &Side<'_>) -> Result<(), AllocError>
+    ensures { OnOk result (out.new.items ≡ out.old.items ++ did_text (name_of names.now) side.now) }
+{
+    push_thread(out, "  what thread ", names, side.place.thread)?;
+    push(out, " did there")
+}
+
+// Where it is handed on.
+fn push_handed(
+    out: &mut Vec<u8>,
+    names: &Names<'_>,
+    side: &Side<'_>,
+    handed: &Option<Handed<'_>>,
+) -> Result<(), AllocError>
+    ensures { OnOk result (out.new.items ≡ out.old.items ++ handed_text (name_of names.now) side.now handed.now) }
+{
+    push_did(out, names, side)?;
+    push_found(out, names, handed)
+}
+
 // What is said of them.
 fn push_facts(out: &mut Vec<u8>, names: &Names<'_>, e: &Explanation<'_>) -> Result<(), AllocError>
     ensures { OnOk result (out.new.items ≡ out.old.items ++ facts_text (name_of names.now) e.now) }
 {
     push_others(out, e.others)?;
     push_owned(out, names, &e.at)?;
-    push_owned(out, names, &e.other)
+    push_owned(out, names, &e.other)?;
+    push_handed(out, names, &e.other, &e.handed)
 }
 
 fn push_explanation(
