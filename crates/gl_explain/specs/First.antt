@@ -1,7 +1,7 @@
 -- The first race of a trace.
 use Rattle.std.specs.Prelude.{◌≡◌, ℕ, ◌<◌, false, List, take, slice_get, Option, Some, None}
 use Rattle.gl_model.specs.Trace.{AreVerdicts}
-use Rattle.gl_trace.specs.Trace.{IsTrace, IsFirstFault}
+use Rattle.gl_trace.specs.Trace.{IsTrace, IsFirstFault, AreLines}
 use Rattle.gl_trace.specs.Verdicts.{is_race}
 use Rattle.gl_explain.specs.declared.told.Told.{Told}
 use Rattle.gl_explain.specs.declared.told.First.{First}
@@ -28,6 +28,8 @@ IsFirstIn told (Some f) = IsFirstRace told f
 -- the lines of a text that is a trace, with what the race law says of each, and the first race among them
 pub record AreSought (input : List ℕ) (told : List Told) (first : Option First) : Type 0 where
   pub meaning : IsTrace input (trace_of told)
+  -- so no line has a fault behind those before it
+  pub clean : AreLines (trace_of told)
   pub right : AreVerdicts (lines_of told)
   pub first_is : IsFirstIn told first
 

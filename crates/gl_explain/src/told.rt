@@ -43,6 +43,12 @@ pub struct First {
 /// What is found in a text: its first fault, or its lines and the first race among them.
 #[derive(Drop)]
 pub enum Sought {
-    Refused { line: u32, kind: u8 },
-    Judged { kept: Vec<Kept>, first: Option<First> },
+    Refused {
+        line: u32,
+        kind: u8,
+    },
+    Judged {
+        kept: Vec<Kept>,
+        first: Option<First>,
+    },
 }

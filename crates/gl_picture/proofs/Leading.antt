@@ -141,28 +141,29 @@ module _ (rows : List Told) (i j : ℕ) where
       IsTrue ((not (p.thread == q.thread) && leads) && not between) ↔ IsArrow rows i j
   arrow_by p q leads between ip iq order pl pb =
       let tests = both (not (p.thread == q.thread) && leads) (not between) _ _
-      (both (not (p.thread == q.thread)) leads _ _ (negated (p.thread == q.thread) _ (eq_test p.thread q.thread)) pl) (negated between _ (pb p q ip iq)) in
-      (λ s. (let w = tests.0 s in record {
-        first = p;
-        second = q;
-        there = ip;
-        here = iq;
-        before = order;
-        apart = w.0.0;
-        leads = w.0.1;
-        nearest = λ k c after near at is. w.1 (k, c, after, near, at, is);
-      }),
-      λ w.
-          (let one : w.first ≡ p = (let at = w.there in cc) in
-          let two : w.second ≡ q = (let at = w.here in cc) in
-          tests.1 (
-            (
-              subst (λ z. z.thread ≢ q.thread) one (subst (λ z. w.first.thread ≢ z.thread) two w.apart),
-              subst (λ z. Leads rows z q i j) one (subst (λ z. Leads rows w.first z i j) two w.leads),
-            ),
-            λ b. w.nearest b.0 b.1 b.2 b.3 b.4
-                (subst (λ z. IsBetween rows z w.second i j b.0 b.1) (sym one) (subst (λ z. IsBetween rows p z i j b.0 b.1) (sym two) b.5)),
-          )))
+      (both (not (p.thread == q.thread)) leads _ _ (negated (p.thread == q.thread) _ (eq_test p.thread q.thread)) pl) (negated between _ (pb p q ip iq)) in (
+        λ s. (let w = tests.0 s in record {
+          first = p;
+          second = q;
+          there = ip;
+          here = iq;
+          before = order;
+          apart = w.0.0;
+          leads = w.0.1;
+          nearest = λ k c after near at is. w.1 (k, c, after, near, at, is);
+        }),
+        λ w.
+            (let one : w.first ≡ p = (let at = w.there in cc) in
+            let two : w.second ≡ q = (let at = w.here in cc) in
+            tests.1 (
+              (
+                subst (λ z. z.thread ≢ q.thread) one (subst (λ z. w.first.thread ≢ z.thread) two w.apart),
+                subst (λ z. Leads rows z q i j) one (subst (λ z. Leads rows w.first z i j) two w.leads),
+              ),
+              λ b. w.nearest b.0 b.1 b.2 b.3 b.4
+                  (subst (λ z. IsBetween rows z w.second i j b.0 b.1) (sym one) (subst (λ z. IsBetween rows p z i j b.0 b.1) (sym two) b.5)),
+            )),
+      )
 
 pub false_no : (b : Bool) (P : Type 0) → b ≡ false → IsTrue b ↔ P → P → ⊥
 false_no b P fails test p = (let yes = test.1 p in cc)

@@ -2,9 +2,16 @@
 #![tactic(auto)]
 
 mod arrows;
+mod drawn;
+mod elements;
+mod escape;
+mod labels;
 mod picture;
+mod positions;
 mod stated;
+mod text;
+mod whole;
 
-pub use arrows::{arrows_to, has_row};
 pub use picture::{Column, HALF, LEAD, Picture, Row, Spot};
 pub use stated::limits_are_stated;
+pub use whole::picture_page;
