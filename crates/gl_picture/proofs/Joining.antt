@@ -17,3 +17,9 @@ two (Err e) a b c x y first second = tt
 pub on_ok : {T E : Type 0} (P Q : Type 0) (r : Result T E) → (P → Q) → OnOk r P → OnOk r Q
 on_ok P Q (Ok x) g p = g p
 on_ok P Q (Err e) g p = tt
+
+-- and in five
+pub five : {T E : Type 0} (r : Result T E) (a b c d e f v w x y z : List ℕ) → b ≡ a ++ v → c ≡ b ++ w → d ≡ c ++ x → e ≡ d ++ y
+    → OnOk r (f ≡ e ++ z) → OnOk r (f ≡ a ++ (v ++ (w ++ (x ++ (y ++ z)))))
+five r a b c d e f v w x y z first second third fourth fifth =
+    two r a b f v (w ++ (x ++ (y ++ z))) first (two r b c f w (x ++ (y ++ z)) second (three r c d e f x y z third fourth fifth))

@@ -10,8 +10,9 @@ use Rattle.gl_picture.specs.declared.picture.TheConstants.{HALF}
 use Rattle.gl_picture.specs.declared.picture.Column.{Column}
 use Rattle.gl_picture.specs.declared.picture.Row.{Row}
 use Rattle.gl_picture.specs.declared.picture.Picture.{Picture}
+use Rattle.gl_picture.specs.declared.picture.Cell.{Cell}
 use Rattle.gl_picture.specs.declared.picture.Spot.{Spot}
-use Rattle.gl_picture.specs.Shapes.{x_of, y_of, line_text, circle_text, words_text, opening_text}
+use Rattle.gl_picture.specs.Shapes.{spot_of, x_of, y_of, bend_text, line_text, circle_text, words_text, opening_text}
 
 -- the column of thread t: how many stand before it
 abbrev pub column_of : ℕ → List Column → ℕ
@@ -19,15 +20,15 @@ column_of t [] = 0
 column_of t (c ∷ cs) = if c.thread == t then c.at else column_of t cs
 
 -- where a row's point is
-unfoldable pub point_of : List Column → Row → Spot
-point_of columns r = record { x = x_of (column_of r.told.thread columns); y = y_of r.slot }
+unfoldable pub cell_of : List Column → Row → Cell
+cell_of columns r = record { column = column_of r.told.thread columns; slot = r.slot }
 
-abbrev pub point_in : List Column → Option Row → Spot
-point_in columns None = record { x = 0; y = 0 }
-point_in columns (Some r) = point_of columns r
+abbrev pub cell_in : List Column → Option Row → Cell
+cell_in columns None = record { column = 0; slot = 0 }
+cell_in columns (Some r) = cell_of columns r
 
-unfoldable pub point_at : Picture → ℕ → Spot
-point_at p i = point_in p.columns.items (slice_get p.rows.items i)
+unfoldable pub cell_at : Picture → ℕ → Cell
+cell_at p i = cell_in p.columns.items (slice_get p.rows.items i)
 
 -- the race in two lines, as the explanation begins
 unfoldable pub titles_text : Naming → Explanation → List ℕ
@@ -40,24 +41,24 @@ column_text names bottom c = line_text (codes "class='life'") (record { x = x_of
     ++ words_text (codes "class='head'") (record { x = x_of c.at; y = if c.at % 2 == 0 then 82 else 66 })
     (codes "thread " ++ thing_text names Thread c.thread)
 
--- an arrow from row i to a point
-unfoldable pub arrow_text : Picture → Spot → ℕ → List ℕ
-arrow_text p to i = line_text (codes "class='arrow'") (point_at p i) to
+-- an arrow from row i
+unfoldable pub arrow_text : Picture → Cell → ℕ → List ℕ
+arrow_text p to i = bend_text (cell_at p i) to
 
 -- the arrows that lead to a row
 unfoldable pub arrows_text : Picture → Row → List ℕ
-arrows_text p r = flat_map (arrow_text p (point_of p.columns.items r)) r.from.items
+arrows_text p r = flat_map (arrow_text p (cell_of p.columns.items r)) r.from.items
 
 -- the two accesses that race
 unfoldable pub race_text : Picture → List ℕ
-race_text p = line_text (codes "class='race'") (point_at p p.other) (point_at p p.race)
-    ++ (circle_text (codes "class='mark' r='9'") (point_at p p.other) ++ circle_text (codes "class='mark' r='9'") (point_at p p.race))
+race_text p = line_text (codes "class='race'") (spot_of (cell_at p p.other)) (spot_of (cell_at p p.race))
+    ++ (circle_text (codes "class='mark' r='9'") (spot_of (cell_at p p.other)) ++ circle_text (codes "class='mark' r='9'") (spot_of (cell_at p p.race)))
 
 -- a row: the number of its line, its point, and what the line does
 unfoldable pub row_text : Naming → List Column → Row → List ℕ
 row_text names columns r = words_text (codes "class='line' dy='4'") (record { x = 60; y = y_of r.slot }) (decimal r.told.line)
-    ++ (circle_text (codes "r='4'") (point_of columns r)
-    ++ words_text (codes "dx='16' dy='4'") (point_of columns r) (item_text names r.told.item))
+    ++ (circle_text (codes "r='4'") (spot_of (cell_of columns r))
+    ++ words_text (codes "dx='16' dy='4'") (spot_of (cell_of columns r)) (item_text names r.told.item))
 
 -- how many lines are left out, where some are
 unfoldable pub left_text : ℕ → List ℕ

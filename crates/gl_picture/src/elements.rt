@@ -10,7 +10,7 @@ use std::alloc::AllocError;
 pub const STYLE: &str = "<style>\n\
     text { font: 12px monospace; paint-order: stroke; stroke: white; stroke-width: 3px }\n\
     .life { stroke: #bbb }\n\
-    .arrow { stroke: #26a; marker-end: url(#tip) }\n\
+    .arrow { fill: none; stroke: #26a; marker-end: url(#tip) }\n\
     .race { stroke: #c00; stroke-dasharray: 5 4 }\n\
     .mark { fill: none; stroke: #c00; stroke-width: 2px }\n\
     .head { text-anchor: middle; font-weight: bold }\n\
@@ -22,8 +22,9 @@ pub const STYLE: &str = "<style>\n\
     orient='auto' markerUnits='userSpaceOnUse'><path d='M0 0L8 4L0 8z' fill='#26a'/></marker></defs>\n\
     <rect width='100%' height='100%' fill='white'/>\n";
 
-// Adds the two coordinates of a point, each behind its word.
-fn push_pair(out: &mut Vec<u8>, x: &str, y: &str, spot: Spot) -> Result<(), AllocError>
+/// Adds the two coordinates of a point, each behind its word.
+#[tactic(auto, unfolding(crate::specs::Shapes::pair_text))]
+pub fn push_pair(out: &mut Vec<u8>, x: &str, y: &str, spot: Spot) -> Result<(), AllocError>
     ensures { OnOk result (out.new.items ≡ out.old.items ++ pair_text x.now y.now spot) }
 {
     push(out, x)?;

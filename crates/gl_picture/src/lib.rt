@@ -2,6 +2,7 @@
 #![tactic(auto)]
 
 mod arrows;
+mod bends;
 mod drawn;
 mod elements;
 mod escape;
@@ -12,6 +13,6 @@ mod stated;
 mod text;
 mod whole;
 
-pub use picture::{Column, HALF, LEAD, Picture, Row, Spot};
+pub use picture::{Cell, Column, HALF, LEAD, Picture, Row, Spot};
 pub use stated::limits_are_stated;
 pub use whole::picture_page;

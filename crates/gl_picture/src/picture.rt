@@ -35,6 +35,13 @@ pub struct Picture {
     pub race: usize,
 }
 
+/// Where a row's point is: its column, and how many rows stand above it.
+#[derive(Clone, Copy)]
+pub struct Cell {
+    pub column: u8,
+    pub slot: u16,
+}
+
 /// A point of the drawing.
 #[derive(Clone, Copy)]
 pub struct Spot {

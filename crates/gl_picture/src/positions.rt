@@ -1,9 +1,9 @@
 // Where things are drawn.
 ghost use Rattle.std.specs.Prelude.{◌≡◌};
-ghost use Rattle.gl_picture.specs.Shapes.{x_of, y_of};
-ghost use Rattle.gl_picture.specs.Texts.{column_of, point_at, point_of};
+ghost use Rattle.gl_picture.specs.Shapes.{spot_of, x_of, y_of};
+ghost use Rattle.gl_picture.specs.Texts.{cell_at, cell_of, column_of};
 
-use crate::picture::{Column, Picture, Row, Spot};
+use crate::picture::{Cell, Column, Picture, Row, Spot};
 
 /// Where a column stands.
 pub fn x_of(column: u8) -> u32
@@ -31,24 +31,35 @@ fn column_of(thread: u8, columns: &[Column]) -> u8
     0
 }
 
-/// Where a row's point is.
-#[tactic(auto, unfolding(crate::specs::Texts::point_of))]
-pub fn point_of(columns: &[Column], row: &Row) -> Spot
-    ensures { result ≡ point_of columns.now row.now }
+/// The column and the row of a row's point.
+#[tactic(auto, unfolding(crate::specs::Texts::cell_of))]
+pub fn cell_of(columns: &[Column], row: &Row) -> Cell
+    ensures { result ≡ cell_of columns.now row.now }
 {
-    Spot {
-        x: x_of(column_of(row.told.thread, columns)),
-        y: y_of(row.slot),
+    Cell {
+        column: column_of(row.told.thread, columns),
+        slot: row.slot,
     }
 }
 
-/// Where the point of row i is.
-#[tactic(auto, unfolding(crate::specs::Texts::point_at))]
-pub fn point_at(picture: &Picture, i: usize) -> Spot
-    ensures { result ≡ point_at picture.now i }
+/// Those of row i.
+#[tactic(auto, unfolding(crate::specs::Texts::cell_at))]
+pub fn cell_at(picture: &Picture, i: usize) -> Cell
+    ensures { result ≡ cell_at picture.now i }
 {
     match picture.rows.get(i) {
-        None => Spot { x: 0, y: 0 },
-        Some(row) => point_of(&picture.columns, row),
+        None => Cell { column: 0, slot: 0 },
+        Some(row) => cell_of(&picture.columns, row),
+    }
+}
+
+/// Where a row's point is.
+#[tactic(auto, unfolding(crate::specs::Shapes::spot_of))]
+pub fn spot_of(cell: Cell) -> Spot
+    ensures { result ≡ spot_of cell }
+{
+    Spot {
+        x: x_of(cell.column),
+        y: y_of(cell.slot),
     }
 }

@@ -3,13 +3,14 @@ ghost use Rattle.std.specs.Prelude.{◌≡◌, ◌++◌, ◌%◌, ◌==◌, if�
 ghost use Rattle.std.specs.List.{flat_map};
 ghost use Rattle.gl_names.specs.Names.{name_of};
 ghost use Rattle.gl_picture.specs.Shapes.{line_text, y_of};
-ghost use Rattle.gl_picture.specs.Texts.{arrow_text, arrows_text, closing_text, column_text, frame_text, left_text, picture_text, point_at, point_of, quiet_text, race_text, row_text, size_of, titles_text};
+ghost use Rattle.gl_picture.specs.Texts.{arrow_text, arrows_text, closing_text, column_text, frame_text, left_text, picture_text, quiet_text, race_text, row_text, size_of, titles_text};
 
+use crate::bends::push_bend;
 use crate::elements::{push_circle, push_line, push_opening, push_words};
 use crate::escape::push;
 use crate::labels::{item_label, left_label, racing_label, thread_label};
-use crate::picture::{Column, HALF, Picture, Row, Spot};
-use crate::positions::{point_at, point_of, x_of, y_of};
+use crate::picture::{Cell, Column, HALF, Picture, Row, Spot};
+use crate::positions::{cell_at, cell_of, spot_of, x_of, y_of};
 use gl_explain::Explanation;
 use gl_names::Names;
 use itoa::Buffer;
@@ -77,12 +78,12 @@ fn push_columns(
     Ok(())
 }
 
-// An arrow from row i to a point.
+// An arrow from row i.
 #[tactic(auto, unfolding(crate::specs::Texts::arrow_text))]
-fn push_arrow(out: &mut Vec<u8>, p: &Picture, to: Spot, i: usize) -> Result<(), AllocError>
+fn push_arrow(out: &mut Vec<u8>, p: &Picture, to: Cell, i: usize) -> Result<(), AllocError>
     ensures { OnOk result (out.new.items ≡ out.old.items ++ arrow_text p.now to i) }
 {
-    push_line(out, "class='arrow'", point_at(p, i), to)
+    push_bend(out, cell_at(p, i), to)
 }
 
 // The arrows that lead to a row.
@@ -90,7 +91,7 @@ fn push_arrow(out: &mut Vec<u8>, p: &Picture, to: Spot, i: usize) -> Result<(), 
 fn push_arrows_to(out: &mut Vec<u8>, p: &Picture, row: &Row) -> Result<(), AllocError>
     ensures { OnOk result (out.new.items ≡ out.old.items ++ arrows_text p.now row.now) }
 {
-    let to = point_of(&p.columns, row);
+    let to = cell_of(&p.columns, row);
     for i in &row.from {
         push_arrow(out, p, to, *i)?;
     }
@@ -112,8 +113,8 @@ fn push_arrows(out: &mut Vec<u8>, p: &Picture) -> Result<(), AllocError>
 fn push_race(out: &mut Vec<u8>, p: &Picture) -> Result<(), AllocError>
     ensures { OnOk result (out.new.items ≡ out.old.items ++ race_text p.now) }
 {
-    let other = point_at(p, p.other);
-    let race = point_at(p, p.race);
+    let other = spot_of(cell_at(p, p.other));
+    let race = spot_of(cell_at(p, p.race));
     push_line(out, "class='race'", other, race)?;
     push_circle(out, "class='mark' r='9'", other)?;
     push_circle(out, "class='mark' r='9'", race)
@@ -132,7 +133,7 @@ fn push_row(
 {
     let label = item_label(alloc, names, &row.told.item)?;
     let y = y_of(row.slot);
-    let point = point_of(columns, row);
+    let point = spot_of(cell_of(columns, row));
     let mut number = Buffer::new();
     let number = number.format(row.told.line);
     push_words(
