@@ -37,7 +37,7 @@ same "a monitor that is not owned: output" "refused 2 21" "$(cat "$work/out")"
 same "a folder as input: status" 2 $?
 ./explain <examples/explain/two_locks.trace >/dev/full
 same "a full device: status" 3 $?
-same "a word: output" "usage: explain < TRACE" "$(./explain check </dev/null)"
+same "a word: output" "usage: explain [--picture] < TRACE, or explain --run < PROGRAM_AND_RECORD" "$(./explain check </dev/null)"
 ./explain check </dev/null >/dev/null
 same "a word: status" 1 $?
 

@@ -11,3 +11,4 @@ pub mod Marking
 pub mod Steps
 pub mod OneMore
 pub mod Reading
+pub mod Seeking

@@ -62,19 +62,23 @@ IsLastTold P before (Some k) = (i : ℕ) × (slice_get before i ≡ Some k) × I
 -- the explanation is one of the line that it names, behind these lines
 pub record IsExplained (before : List Told) (e : Explanation) : Type 0 where
   pub raised : e.at.judged ≡ Raised e.var
-  -- where the line stands that it is said to race with: of those that it races with, the last
-  pub place : ℕ
-  pub there : slice_get before place ≡ Some e.other
-  pub culprit : IsLastOf (IsCulprit before e.at e.var) (Some place)
+  -- the line that it is said to race with, and where it stands: of those that it races with, the last
+  pub there : slice_get before e.place ≡ Some e.other
+  pub culprit : IsLastOf (IsCulprit before e.at e.var) (Some e.place)
   -- how many others there are
   pub others : Counts (IsCulprit before e.at e.var) (length before) (e.others + 1)
   -- what the two threads own, each when it makes its access
   pub owned : AreOwned before e.at.thread e.owned.items
-  pub other_owned : AreOwned (take place before) e.other.thread e.other_owned.items
+  pub other_owned : AreOwned (take e.place before) e.other.thread e.other_owned.items
   -- where the other thread first hands on what it did
-  pub handed : IsFirstBehind (is_handing e.other.thread) before place e.handed
+  pub handed : IsFirstBehind (is_handing e.other.thread) before e.place e.handed
   -- the last line of the other thread that leads here
   pub learnt : IsLastTold (IsLearnt before e.at e.other.thread) before e.learnt
+
+-- the line behind these is a race and this explains it, or it is none
+abbrev pub Explains : List Told → Told → Option Explanation → Type 0
+Explains before next None = is_race next.judged ≡ false
+Explains before next (Some e) = (e.at ≡ next) × IsExplained before e
 
 -- the lines that are races
 abbrev pub races_of : List Told → List Told

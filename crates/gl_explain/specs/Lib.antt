@@ -2,6 +2,7 @@ pub mod Told
 pub mod Races
 pub mod Owned
 pub mod Explained
+pub mod First
 pub mod Marks
 pub mod Written
 pub mod Follows

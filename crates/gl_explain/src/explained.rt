@@ -51,6 +51,7 @@ pub fn explained(
     Ok(Explanation {
         at: *at,
         var,
+        place,
         other,
         others,
         owned: owned_here,

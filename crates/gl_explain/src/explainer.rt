@@ -1,5 +1,5 @@
 // The lines of a trace, one after another, and the text of why some are races.
-ghost use Rattle.std.specs.Prelude.{◌≡◌, ◌<◌, ◌≤◌, ◌+◌, ◌-◌, ◌^◌, ◌∷◌, ◌++◌, [], ℕ, List, length, false, OnOk, Some, count_by, slice_get, string_bytes};
+ghost use Rattle.std.specs.Prelude.{◌≡◌, ◌<◌, ◌≤◌, ◌+◌, ◌-◌, ◌^◌, ◌∷◌, ◌++◌, [], ℕ, List, length, false, IfOk, OnOk, Some, count_by, slice_get, string_bytes};
 ghost use Rattle.gl_clocks.specs.Clocks.{tick};
 ghost use Rattle.gl_core.specs.Cells.{at};
 ghost use Rattle.gl_core.specs.EpochLaws.{known_next};
@@ -16,6 +16,7 @@ ghost use Rattle.gl_trace.specs.Verdicts.{is_race};
 ghost use Rattle.gl_explain.specs.Marks.{Tells, plain_behind};
 ghost use Rattle.gl_explain.specs.Races.{IsCulprit};
 ghost use Rattle.gl_names.specs.Names.{name_of};
+ghost use Rattle.gl_explain.specs.Explained.{Explains};
 ghost use Rattle.gl_explain.specs.Written.{IsWritten};
 ghost use Rattle.gl_explain.specs.declared.told.Kept.{Kept as AKept};
 ghost use Rattle.gl_explain.specs.Told.{line_of, told_of};
@@ -24,7 +25,7 @@ use crate::explained::explained;
 use crate::page::Page;
 use crate::races::tick_of;
 use crate::text::{push_ending, push_explanation};
-use crate::told::{Kept, Told};
+use crate::told::{Explanation, Kept, Told};
 use gl_core::Detector;
 use gl_model::{Item, Judged, THREADS};
 use gl_names::{Names, names_of};
@@ -69,14 +70,14 @@ fn mark_of(detector: &Detector, told: &Told, own: u32) -> u32
     }
 }
 
-// Adds the explanation of the line, where it is a race.
+// Adds the explanation of the line, where it is a race, and gives it back.
 fn explain(
     alloc: Global,
     writer: &mut Writer<'_>,
     kept: &[Kept],
     told: &Told,
     known: &[u32; ALL],
-) -> Result<(), AllocError>
+) -> Result<Option<Explanation>, AllocError>
     requires few { length kept.now ≤ 2 ^ 32 - 2 }
     requires lines { (i : ℕ) (k : AKept) → slice_get kept.now i ≡ Some k → IsLineItem k.told.item }
     requires race { (var : ℕ) → told.now.judged ≡ Raised var → (i : ℕ) × IsCulprit (told_of kept.now) told.now var i }
@@ -84,13 +85,15 @@ fn explain(
     ensures written { IsWritten (name_of writer.old.names) (told_of kept.now) (string_bytes writer.old.text)
         → OnOk result (IsWritten (name_of writer.new.names) (told_of kept.now ++ told.now ∷ []) (string_bytes writer.new.text)) }
     ensures names { writer.new.names ≡ writer.old.names }
+    ensures found { IfOk result (Explains (told_of kept.now) told.now) }
 {
     match told.judged {
         Judged::Raised { var } => {
             let explanation = explained(alloc, kept, told, var, known)?;
-            push_explanation(&mut writer.text, &writer.names, &explanation)
+            push_explanation(&mut writer.text, &writer.names, &explanation)?;
+            Ok(Some(explanation))
         }
-        Judged::NoAccess | Judged::Performed => Ok(()),
+        Judged::NoAccess | Judged::Performed => Ok(None),
     }
 }
 
@@ -124,7 +127,7 @@ impl<'a> Explainer<'a> {
     ghost use Rattle.gl_trace.specs.Trace.{AreLines};
     ghost use Rattle.gl_explain.specs.declared.told.Told.{Told as ATold};
     ghost use Rattle.gl_explain.specs.Follows.{Awaits, IsTold, IsToldOn};
-    ghost use Rattle.gl_explain.specs.Told.{trace_of};
+    ghost use Rattle.gl_explain.specs.Told.{told_of, trace_of};
     ghost use Rattle.gl_explain.specs.Answers.{ExplainsLines};
     ghost use Rattle.gl_names.specs.Names.{name_of};
 
@@ -144,7 +147,7 @@ impl<'a> Explainer<'a> {
         })
     }
 
-    // Takes the next line.
+    // Takes the next line, and gives the explanation where it is a race.
     pub fn take(
         &mut self,
         alloc: Global,
@@ -152,10 +155,10 @@ impl<'a> Explainer<'a> {
         thread: u8,
         item: &Item,
         cuts: &Cuts,
-    ) -> Result<(), AllocError>
+    ) -> Result<Option<Explanation>, AllocError>
         requires step { IsStep (thread, item.now) }
         requires awaits { Awaits (line, thread, item.now) self.old }
-        ensures told { (done : List ATold) → IsTold done self.old → AreLines (trace_of done ++ (line, thread, item.now) ∷ []) → OnOk result (IsToldOn done (line, thread, item.now) self.new) }
+        ensures told { (done : List ATold) → IsTold done self.old → AreLines (trace_of done ++ (line, thread, item.now) ∷ []) → IfOk result (IsToldOn done (line, thread, item.now) self.new) }
         ensures names { OnOk result (self.new.writer.names ≡ self.old.writer.names) }
     {
         let own = own_at(&self.detector, thread);
@@ -167,10 +170,24 @@ impl<'a> Explainer<'a> {
             item: *item,
             judged,
         };
-        explain(alloc, &mut self.writer, &self.kept, &told, &known)?;
+        let explanation = explain(alloc, &mut self.writer, &self.kept, &told, &known)?;
         let mark = mark_of(&self.detector, &told, own);
         self.kept.push(Kept { told, own, mark })?;
-        Ok(())
+        Ok(explanation)
+    }
+
+    // How many lines were taken.
+    pub fn count(&self) -> usize
+        ensures { (done : List ATold) → IsTold done self.now → result ≡ length done }
+    {
+        self.kept.len()
+    }
+
+    // The lines that were taken.
+    pub fn lines(self) -> Vec<Kept>
+        ensures { (done : List ATold) → IsTold done self.entry → told_of result.items ≡ done }
+    {
+        self.kept
     }
 
     // What the lines are answered.

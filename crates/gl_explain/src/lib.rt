@@ -3,6 +3,7 @@
 
 mod explained;
 mod explainer;
+mod first;
 mod owned;
 mod page;
 mod past;
@@ -12,6 +13,8 @@ mod text;
 mod told;
 mod whole;
 
+pub use first::first_race;
 pub use page::{Page, refused};
-pub use told::{Explanation, Kept, Told};
+pub use phrases::{push_item, push_racing, push_thing};
+pub use told::{Explanation, First, Kept, Sought, Told};
 pub use whole::explain_text;

@@ -88,7 +88,8 @@ fn push_access(out: &mut String, names: &Names<'_>, write: bool, var: u16) -> Re
     }
 }
 
-fn push_item(out: &mut String, names: &Names<'_>, item: &Item) -> Result<(), AllocError>
+/// Adds what a line does.
+pub fn push_item(out: &mut String, names: &Names<'_>, item: &Item) -> Result<(), AllocError>
     ensures { OnOk result (string_bytes out.new ≡ string_bytes out.old ++ item_text (name_of names.now) item.now) }
 {
     match item {

@@ -18,16 +18,37 @@ pub struct Kept {
     pub mark: u32,
 }
 
-/// Why a line is a race on `var`: the last line that it races with, and how many others there are; what both threads own, each at its
-/// access; where the other thread first hands on what it did; and its last line that leads to the race.
+/// Why a line is a race on `var`: the last line that it races with, at which place it stands, and how many others there are; what both
+/// threads own, each at its access; where the other thread first hands on what it did; and its last line that leads to the race.
 #[derive(Drop)]
 pub struct Explanation {
     pub at: Told,
     pub var: u16,
+    pub place: usize,
     pub other: Told,
     pub others: usize,
     pub owned: Vec<u16>,
     pub other_owned: Vec<u16>,
     pub handed: Option<Told>,
     pub learnt: Option<Told>,
+}
+
+/// The first race of a trace: at which place its line stands, and why it is one.
+#[derive(Drop)]
+pub struct First {
+    pub race: usize,
+    pub explanation: Explanation,
+}
+
+/// What is found in a text: its first fault, or its lines and the first race among them.
+#[derive(Drop)]
+pub enum Sought {
+    Refused {
+        line: u32,
+        kind: u8,
+    },
+    Judged {
+        kept: Vec<Kept>,
+        first: Option<First>,
+    },
 }

@@ -20,7 +20,9 @@ pub fn explain_text(alloc: Global, input: &[u8], cuts: &Cuts) -> Result<Page, Al
     let mut item = NO_ITEM;
     loop {
         match reader.next_line(&mut item) {
-            Ok(Some((line, thread))) => explainer.take(alloc, line, thread, &item, cuts)?,
+            Ok(Some((line, thread))) => {
+                explainer.take(alloc, line, thread, &item, cuts)?;
+            }
             Ok(None) => return explainer.page(),
             Err(fault) => return refused(alloc, fault.line, fault.kind),
         }

@@ -3,14 +3,16 @@ use std::env::FillError;
 use std::rt::Env;
 
 // Room for the one word that there is.
-const WORD_BYTES: usize = 8;
+const WORD_BYTES: usize = 10;
 
-/// What is to be explained.
+/// What is asked for.
 #[derive(Clone, Copy)]
-pub(crate) enum Request {
-    /// The races of a trace.
-    Trace,
-    /// The races of a run: a program's text and its record's text behind it.
+pub enum Form {
+    /// Why each race of a trace is one.
+    Text,
+    /// A picture round the first race of a trace.
+    Picture,
+    /// Why each race of a run is one: of a program's text and its record's text behind it.
     Run,
 }
 
@@ -23,18 +25,24 @@ fn has_word(rt: &impl Env, place: usize) -> bool {
     }
 }
 
-/// What the words behind the program's name ask for: `--run` for a run, no word for a trace, and any others for nothing.
-pub(crate) fn asked(rt: &impl Env) -> Option<Request> {
+// What a word asks for.
+fn form_of(word: &[u8]) -> Option<Form> {
+    match word {
+        b"--picture" => Some(Form::Picture),
+        b"--run" => Some(Form::Run),
+        _ => None,
+    }
+}
+
+/// What the words behind the program's name ask for: no word for the text, one for each other form, and any others for nothing.
+pub fn asked_form(rt: &impl Env) -> Option<Form> {
     let mut bytes = [0u8; WORD_BYTES];
     match rt.arg(1, &mut bytes) {
         Ok(count) => {
-            let request = match &bytes[..count] {
-                b"--run" => Some(Request::Run),
-                _ => None,
-            };
-            if has_word(rt, 2) { None } else { request }
+            let form = form_of(&bytes[..count]);
+            if has_word(rt, 2) { None } else { form }
         }
         Err(FillError::TooLong) => None,
-        Err(FillError::NotPresent) => Some(Request::Trace),
+        Err(FillError::NotPresent) => Some(Form::Text),
     }
 }

@@ -33,7 +33,6 @@ returns-clause-right c =
     let same : (i : ℕ) → P i ↔ Q i = c.requires.tells.culprits c.args.var in
     record {
       raised = c.requires.raised;
-      place = r.place;
       there = map_there told kept r.place k (slice_get-get_or kept r.place c.index-kept-place.result e.near);
       culprit = last_same P Q (Some r.place) same e.last;
       others = subst (λ n. Counts Q n (r.others + 1)) (sym (length-map kept told))

@@ -22,7 +22,16 @@ loop-line-preserved g c =
     let line : TraceLine = (c.in-Ok-Some.line, c.in-Ok-Some.thread, c.next_line.new.item) in
     let next : IsReadTo c.args.input.now (trace_of before.done ++ line ∷ []) c.next_line.new.self =
     rw c.in-Ok-Some.field-0-is at (c.in-Ok-Some.ensures.line c.args.input.now (trace_of before.done) before.read) in
-    taken_on c.args.input.now before.done line c.next_line.new.self c.take.new.self next
+    taken_on c.args.input.now before.done line c.next_line.new.self c.take.new.self c.in_ok-take-in-Ok-Some.field-0 next
+    (c.in_ok-take-in-Ok-Some.ensures.told before.done before.told next.reads.well) (c.in_ok-take-in-Ok-Some.ensures.names ∙ before.named)
+
+pub loop-line-preserved-in_ok-take-in-Ok-Some : goal.loop-line-preserved-in_ok-take-in-Ok-Some
+loop-line-preserved-in_ok-take-in-Ok-Some g c =
+    let before = c.loop-line.invariant in
+    let line : TraceLine = (c.in-Ok-Some.line, c.in-Ok-Some.thread, c.next_line.new.item) in
+    let next : IsReadTo c.args.input.now (trace_of before.done ++ line ∷ []) c.next_line.new.self =
+    rw c.in-Ok-Some.field-0-is at (c.in-Ok-Some.ensures.line c.args.input.now (trace_of before.done) before.read) in
+    taken_on c.args.input.now before.done line c.next_line.new.self c.take.new.self c.in_ok-take-in-Ok-Some.field-0 next
     (c.in_ok-take-in-Ok-Some.ensures.told before.done before.told next.reads.well) (c.in_ok-take-in-Ok-Some.ensures.names ∙ before.named)
 
 pub returns-in-Ok-None : goal.returns-in-Ok-None

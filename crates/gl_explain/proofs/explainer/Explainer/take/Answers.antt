@@ -1,9 +1,10 @@
-use Rattle.std.proofs.Common.{◌≡◌, ◌++◌, ◌∷◌, [], ℕ, sym, subst, rules, Some}
+use Rattle.std.proofs.Common.{◌≡◌, ◌++◌, ◌∷◌, [], ℕ, ◌∙◌, ap, sym, subst, rules, Some}
 use Rattle.std.specs.Prelude.{slice_get, string_bytes}
 use Rattle.gl_model.specs.declared.row.Judged.TheVariants.{Raised}
 use Rattle.gl_model.specs.TraceSteps.{IsLineItem}
 use Rattle.gl_explain.specs.declared.told.Told.{Told}
 use Rattle.gl_explain.specs.declared.told.Kept.{Kept}
+use Rattle.gl_explain.specs.Explained.{Explains}
 use Rattle.gl_explain.specs.Marks.{Tells}
 use Rattle.gl_explain.specs.Races.{IsCulprit}
 use Rattle.gl_names.specs.Names.{name_of}
@@ -53,11 +54,12 @@ returns g c = record {
       (subst (λ ds. IsWritten (name_of c.args.self.now.writer.names) ds (string_bytes c.args.self.now.writer.text)) (sym x.kept) x.written) in
       let written : IsWritten (name_of c.explain.new.writer.names) (told_of kept ++ t ∷ []) (string_bytes c.explain.new.writer.text) =
       subst (λ ks. IsWritten (name_of c.explain.new.writer.names) (told_of ks ++ t ∷ []) (string_bytes c.explain.new.writer.text)) c.deref.ensures.value
-      (c.in_ok-explain.ensures.written was) in (
+      (c.in_ok-explanation.ensures.written was) in (
         c.in_ok-judged.judged,
         told_on kept done t c.known_at-known.result c.own_at-own.result c.mark_of-mark.result c.args.self.now.detector
             (record { detector = c.step.new.self; kept = c.push.new.self; writer = c.explain.new.writer })
             x.kept x.follows x.are_kept f c.in_ok-judged.ensures.ready items c.own_at-own.ensures c.mark_of-mark.ensures written,
+        subst (λ ds. Explains ds t c.in_ok-explanation.explanation) (ap told_of c.deref.ensures.value ∙ x.kept) c.in_ok-explanation.ensures.found,
       );
-  names = c.in_ok-explain.ensures.names;
+  names = c.in_ok-explanation.ensures.names;
 }

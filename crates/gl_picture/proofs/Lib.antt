@@ -1,0 +1,4 @@
+pub mod Leading
+pub mod Drawing
+pub mod Joining
+pub mod Narrow

@@ -1,0 +1,5 @@
+pub mod Arrows
+pub mod Drawn
+pub mod Shapes
+pub mod Texts
+pub mod Answers

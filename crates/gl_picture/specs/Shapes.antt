@@ -1,0 +1,62 @@
+-- The shapes of the drawing, as SVG. Attributes stand in single quotes.
+use Rattle.std.specs.Prelude.{ℕ, ◌+◌, ◌-◌, ◌*◌, ◌==◌, nat_lt, if◌then◌else◌, List, [], ◌∷◌, ◌++◌, codes}
+use Rattle.std.specs.Fmt.{decimal}
+use Rattle.std.specs.List.{flat_map}
+use Rattle.gl_picture.specs.declared.elements.TheConstants.{STYLE}
+use Rattle.gl_picture.specs.declared.picture.Cell.{Cell}
+use Rattle.gl_picture.specs.declared.picture.Spot.{Spot}
+
+-- what stands for a byte of a text: names may have the five that have a meaning
+abbrev pub escape_byte : ℕ → List ℕ
+escape_byte b =
+    if b == 38 then codes "&amp;" else if b == 60 then codes "&lt;" else if b == 62 then codes "&gt;"
+    else if b == 34 then codes "&quot;" else if b == 39 then codes "&apos;" else b ∷ []
+
+abbrev pub escape : List ℕ → List ℕ
+escape bytes = flat_map escape_byte bytes
+
+-- where a column and a row stand
+abbrev pub x_of : ℕ → ℕ
+x_of column = 110 + 190 * column
+
+abbrev pub y_of : ℕ → ℕ
+y_of slot = 112 + 26 * slot
+
+-- where a row's point is
+unfoldable pub spot_of : Cell → Spot
+spot_of c = record { x = x_of c.column; y = y_of c.slot }
+
+-- the two coordinates of a point, each behind its word
+unfoldable pub pair_text : List ℕ → List ℕ → Spot → List ℕ
+pair_text x y spot = x ++ (decimal spot.x ++ (y ++ decimal spot.y))
+
+unfoldable pub line_text : List ℕ → Spot → Spot → List ℕ
+line_text style from to = codes "<line "
+    ++ (style ++ (pair_text (codes " x1='") (codes "' y1='") from ++ (pair_text (codes "' x2='") (codes "' y2='") to ++ codes "'/>\n")))
+
+-- a line through four points
+unfoldable pub bent_text : Spot → Spot → Spot → Spot → List ℕ
+bent_text a b c d = pair_text (codes "<polyline class='arrow' points='") (codes ",") a
+    ++ (pair_text (codes " ") (codes ",") b ++ (pair_text (codes " ") (codes ",") c ++ (pair_text (codes " ") (codes ",") d ++ codes "'/>\n")))
+
+-- an arrow: it leaves between its row and the next one, so that it meets no other row's point, and turns to its end beside that one's column
+unfoldable pub bend_text : Cell → Cell → List ℕ
+bend_text from to =
+    let start = x_of from.column in
+    let end = x_of to.column in
+    let y = y_of from.slot + 13 in
+    if nat_lt from.column to.column
+    then bent_text (spot_of from) (record { x = start + 14; y = y }) (record { x = end - 95; y = y }) (spot_of to)
+    else bent_text (spot_of from) (record { x = start - 14; y = y }) (record { x = end + 95; y = y }) (spot_of to)
+
+unfoldable pub circle_text : List ℕ → Spot → List ℕ
+circle_text style spot = codes "<circle " ++ (style ++ (pair_text (codes " cx='") (codes "' cy='") spot ++ codes "'/>\n"))
+
+unfoldable pub words_text : List ℕ → Spot → List ℕ → List ℕ
+words_text style spot words = codes "<text "
+    ++ (style ++ (pair_text (codes " x='") (codes "' y='") spot ++ (codes "'>" ++ (escape words ++ codes "</text>\n"))))
+
+-- the beginning of a drawing so wide and so high, with how the shapes look
+unfoldable pub opening_text : Spot → List ℕ
+opening_text size =
+    pair_text (codes "<svg xmlns='http://www.w3.org/2000/svg' width='") (codes "' height='") size ++ (codes "'>\n" ++ STYLE.now)
