@@ -1,6 +1,6 @@
 #!/usr/bin/env bash
-# The program explain from the shell: each example of examples/explain against what stands beside it, bad input as `check` refuses it,
-# and the statuses.
+# The program explain from the shell: each example of examples/explain against what stands beside it, bad input as `check` and `audit`
+# refuse it, and the statuses.
 cd "$(dirname "$0")/.." || exit 2
 passed=0
 failed=0
@@ -25,6 +25,33 @@ for example in examples/explain/*.trace; do
     same "$name: status" 6 $?
     same "$name: output" "$(cat "$name.out")" "$(cat "$work/out")"
 done
+
+# Each run of examples/explain, a program with its record behind it, against what stands beside it.
+for example in examples/explain/*.run; do
+    name=${example%.*}
+    ./explain --run <"$example" >"$work/out"
+    same "$name: status" 6 $?
+    same "$name: output" "$(cat "$name.out")" "$(cat "$work/out")"
+done
+
+# A run without a race, a record that is not lawful, bad input, and lost input and output.
+halts=$'func main 0 0\n  halt\n'
+halted=$'record 1 5\nthread 0\nsync 0 begin 0 0\nsync 1 end 0 0\nover halt\ndone\n'
+printf '%s' "$halts$halted" | ./explain --run >"$work/out"
+same "a run without a race: status" 0 $?
+same "a run without a race: output" "races 0" "$(head -n 1 "$work/out")"
+printf '%s' "$halts${halted/sync 1 end/sync 2 end}" | ./explain --run >"$work/out"
+same "a record that is not lawful: status" 8 $?
+same "a record that is not lawful: output" "not 0 1 2" "$(cat "$work/out")"
+printf '%s' "$halts" | ./explain --run >"$work/out"
+same "a program without a record: status" 4 $?
+same "a program without a record: output" "refused 0 32" "$(cat "$work/out")"
+./explain --run </ >/dev/null
+same "a folder as a run: status" 2 $?
+./explain --run <examples/explain/run_half_locked.run >/dev/full
+same "a run to a full device: status" 3 $?
+./explain --run --run </dev/null >/dev/null
+same "a word too many: status" 1 $?
 
 # No race, bad input, and lost input and output.
 same "no race: output" "races 0" "$(printf '0 fork 1\n0 wr 7\n' | ./explain | head -n 1)"

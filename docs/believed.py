@@ -17,6 +17,7 @@ CLAIMS = [
     ("what `run` answers", [("gl_run", "Runs", "RunsText")]),
     ("what `load` answers", [("gl_run", "Loads", "AnswersLoad")]),
     ("what `audit` answers", [("gl_run", "Audits", "AuditsText")]),
+    ("what `explain --run` answers", [("gl_pages", "Answers", "ExplainsAudit")]),
     ("what words that are no command are answered, and which are one",
      [("gl_run", "Command", "AnswersUsage"), ("gl_run", "Words", "command_of")]),
     ("all that `goldi` promises",

@@ -115,11 +115,7 @@ fn push_way(out: &mut Vec<u8>, names: &Names<'_>, way: Way) -> Result<(), AllocE
     }
 }
 
-fn push_handing(
-    out: &mut Vec<u8>,
-    names: &Names<'_>,
-    handed: &Handed<'_>,
-) -> Result<(), AllocError>
+fn push_handing(out: &mut Vec<u8>, names: &Names<'_>, handed: &Handed<'_>) -> Result<(), AllocError>
     ensures { OnOk result (out.new.items ≡ out.old.items ++ handing_text (name_of names.now) handed.now) }
 {
     push_source(out, &handed.source)?;

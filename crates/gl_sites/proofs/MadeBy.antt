@@ -97,19 +97,35 @@ module _ (P : Bytecode) (steps t : ℕ) (es : List Entry) where
   of_entry p q n (Over ending) there a way = record { entry = Over ending; there = there; note = inr tt }
   of_entry p q n (Sync at act value) there a (inl trim) = absurd (trim.0)
   of_entry p q n (Sync at act value) there a (inr answer) = answered_by p n (record {
-    entry = Sync at act value; next = q; there = there; along = a.follows.along; answered = answer.1;
+    entry = Sync at act value;
+    next = q;
+    there = there;
+    along = a.follows.along;
+    answered = answer.1;
   })
   of_entry p q n (Commit at tx) there a (inl trim) = absurd (trim.0)
   of_entry p q n (Commit at tx) there a (inr answer) = answered_by p n (record {
-    entry = Commit at tx; next = q; there = there; along = a.follows.along; answered = answer.1;
+    entry = Commit at tx;
+    next = q;
+    there = there;
+    along = a.follows.along;
+    answered = answer.1;
   })
   of_entry p q n (Plain x nth cached write value raised) there a (inl trim) = absurd (trim.0)
   of_entry p q n (Plain x nth cached write value raised) there a (inr answer) = answered_by p n (record {
-    entry = Plain x nth cached write value raised; next = q; there = there; along = a.follows.along; answered = answer.1;
+    entry = Plain x nth cached write value raised;
+    next = q;
+    there = there;
+    along = a.follows.along;
+    answered = answer.1;
   })
   of_entry p q n (Abort tx why) there a (inl trim) = absurd (trim.0)
   of_entry p q n (Abort tx why) there a (inr answer) = answered_by p n (record {
-    entry = Abort tx why; next = q; there = there; along = a.follows.along; answered = answer.1;
+    entry = Abort tx why;
+    next = q;
+    there = there;
+    along = a.follows.along;
+    answered = answer.1;
   })
 
   one_more : (makers : List Maker) (m : Maker) → AreFirstMakers P steps t es makers → IsMaker P steps t es (length makers) m
