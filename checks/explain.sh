@@ -1,6 +1,6 @@
 #!/usr/bin/env bash
-# The program explain from the shell: each example of examples/explain against what stands beside it, bad input as `check` and `audit`
-# refuse it, and the statuses.
+# The program explain from the shell: each example of examples/explain against what stands beside it, its explanation and for some a
+# picture, bad input as `check` and `audit` refuse it, and the statuses.
 cd "$(dirname "$0")/.." || exit 2
 passed=0
 failed=0
@@ -53,6 +53,13 @@ same "a run to a full device: status" 3 $?
 ./explain --run --run </dev/null >/dev/null
 same "a word too many: status" 1 $?
 
+for picture in examples/explain/*.svg; do
+    name=${picture%.*}
+    ./explain --picture <"$name.trace" >"$work/out"
+    same "$name: status of the picture" 6 $?
+    same "$name: picture" "$(cat "$picture")" "$(cat "$work/out")"
+done
+
 # No race, bad input, and lost input and output.
 same "no race: output" "races 0" "$(printf '0 fork 1\n0 wr 7\n' | ./explain | head -n 1)"
 printf '0 fork 1\n0 wr 7\n' | ./explain >/dev/null
@@ -60,13 +67,27 @@ same "no race: status" 0 $?
 printf '0 fork 1\n1 rel 0\n' | ./explain >"$work/out"
 same "a monitor that is not owned: status" 4 $?
 same "a monitor that is not owned: output" "refused 2 21" "$(cat "$work/out")"
+printf '0 fork 1\n1 rel 0\n' | ./explain --picture >"$work/out"
+same "a picture of it: status" 4 $?
+same "a picture of it: output" "refused 2 21" "$(cat "$work/out")"
+printf '0 fork 1\n0 wr 7\n' | ./explain --picture >"$work/out"
+same "a picture without a race: status" 0 $?
+same "a picture without a race: rows" "<text class='note' x='10' y='22'>races 0</text>" "$(grep races "$work/out")"
+printf '# var 7 <a>&\n0 fork 1\n0 wr 7\n1 wr 7\n' | ./explain --picture >"$work/out"
+same "a name with signs: a row" "<text dx='16' dy='4' x='300' y='164'>writes variable 7 (&lt;a&gt;&amp;)</text>" "$(tail -n 3 "$work/out" | head -n 1)"
 ./explain </ >/dev/null
 same "a folder as input: status" 2 $?
 ./explain <examples/explain/two_locks.trace >/dev/full
 same "a full device: status" 3 $?
-same "a word: output" "usage: explain [--picture] < TRACE, or explain --run < PROGRAM_AND_RECORD" "$(./explain check </dev/null)"
+same "a full device, a picture: status" 3 "$(./explain --picture <examples/explain/two_locks.trace >/dev/full; echo $?)"
+usage="usage: explain [--picture] < TRACE, or explain --run < PROGRAM_AND_RECORD"
+same "a word: output" "$usage" "$(./explain check </dev/null)"
 ./explain check </dev/null >/dev/null
 same "a word: status" 1 $?
+same "a word behind the picture: output" "$usage" "$(./explain --picture 1 </dev/null)"
+same "a longer word: output" "$usage" "$(./explain --pictures </dev/null)"
+./explain --picture 1 </dev/null >/dev/null
+same "a word behind the picture: status" 1 $?
 
 echo "$passed passed, $failed failed"
 [ "$failed" -eq 0 ]

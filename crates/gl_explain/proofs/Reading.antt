@@ -16,7 +16,8 @@ pub record AreTaken (text : List ℕ) (reader : TraceReader) (x : Explainer) : T
   pub told : IsTold done x
   pub named : x.writer.names ≡ text
 
-unfoldable pub taken_on : (text : List ℕ) (done : List Told) (line : TraceLine) (reader : TraceReader) (x : Explainer) (found : Option Explanation)
+unfoldable pub taken_on : (text : List ℕ) (done : List Told) (line : TraceLine) (reader : TraceReader) (x : Explainer)
+    (found : Option Explanation)
     → IsReadTo text (trace_of done ++ line ∷ []) reader → IsToldOn done line x found → x.writer.names ≡ text → AreTaken text reader x
 taken_on text done line reader x found read on named =
     let t = told_as line on.0 in

@@ -27,7 +27,8 @@ at_taken (suc n) [] i x near at = absurd (cc)
 at_taken (suc n) (y ∷ xs) zero x near at = at
 at_taken (suc n) (y ∷ xs) (suc i) x near at = at_taken n xs i x (omega arith) at
 
-pub at_dropped : {A : Type 0} (n : ℕ) (xs : List A) (i : ℕ) (x : A) → n ≤ i → slice_get xs i ≡ Some x → slice_get (drop n xs) (i - n) ≡ Some x
+pub at_dropped : {A : Type 0} (n : ℕ) (xs : List A) (i : ℕ) (x : A) → n ≤ i → slice_get xs i ≡ Some x → slice_get (drop n xs)
+    (i - n) ≡ Some x
 at_dropped zero xs i x near at = subst (λ k. slice_get xs k ≡ Some x) (let e : i ≡ i - zero = omega arith in e) at
 at_dropped (suc n) [] i x near at = absurd (cc)
 at_dropped (suc n) (y ∷ xs) zero x near at = absurd (omega arith)
@@ -42,7 +43,8 @@ at_front (z ∷ xs) ys (suc i) x at = at_front xs ys i x at
 pub at_back : {A : Type 0} (xs ys : List A) (i : ℕ) (x : A) → slice_get ys i ≡ Some x → slice_get (xs ++ ys) (length xs + i) ≡ Some x
 at_back [] ys i x at = subst (λ k. slice_get ys k ≡ Some x) (let e : i ≡ zero + i = omega arith in e) at
 at_back (z ∷ xs) ys i x at =
-    subst (λ k. slice_get (z ∷ (xs ++ ys)) k ≡ Some x) (let e : suc (length xs + i) ≡ suc (length xs) + i = omega arith in e) (at_back xs ys i x at)
+    subst (λ k. slice_get (z ∷ (xs ++ ys)) k ≡ Some x) (let e : suc (length xs + i) ≡ suc (length xs) + i = omega arith in e)
+    (at_back xs ys i x at)
 
 pub at_either : {A : Type 0} (xs ys : List A) (i : ℕ) (x : A) → slice_get (xs ++ ys) i ≡ Some x
     → (slice_get xs i ≡ Some x) ⊎ ((h : ℕ) × (slice_get ys h ≡ Some x))
@@ -70,11 +72,13 @@ rows_cases lines = rows_by lines (nat_le (length lines) (HALF + HALF)) refl
 pub rows_all : {A : Type 0} (lines : List A) → length lines ≤ HALF + HALF → rows_of lines ≡ lines
 rows_all lines few = elim (rows_cases lines) [ inl all ↦ all.1 | inr cut ↦ absurd (let over = cut.0 in omega arith) ]
 
-pub rows_cut : {A : Type 0} (lines : List A) → HALF + HALF < length lines → rows_of lines ≡ take HALF lines ++ drop (length lines - HALF) lines
+pub rows_cut : {A : Type 0} (lines : List A) → HALF + HALF < length lines → rows_of lines ≡ take HALF lines ++ drop
+    (length lines - HALF) lines
 rows_cut lines many = elim (rows_cases lines) [ inl all ↦ absurd (let few = all.0 in omega arith) | inr cut ↦ cut.1 ]
 
 pub span_map : {A B : Type 0} (f : A → B) (place race : ℕ) (lines : List A) → map f (span place race lines) ≡ span place race (map f lines)
-span_map f place race lines = sym (drop-map f (place - LEAD) (take (race + 1) lines)) ∙ ap (drop (place - LEAD)) (sym (take-map f (race + 1) lines))
+span_map f place race lines = sym (drop-map f (place - LEAD) (take (race + 1) lines)) ∙ ap (drop (place - LEAD)) (sym (take-map f
+    (race + 1) lines))
 
 -- what holds of each line holds of each that is drawn
 module _ (P : Told → Type 0) where
@@ -92,7 +96,8 @@ module _ (P : Told → Type 0) where
 
   pub each_spanned : (place race : ℕ) (lines : List Told) → Each lines → Each (span place race lines)
   each_spanned place race lines all i k at =
-      all ((place - LEAD) + i) k (get_taken (race + 1) lines ((place - LEAD) + i) k (get_dropped (place - LEAD) (take (race + 1) lines) i k at))
+      all ((place - LEAD) + i) k (get_taken (race + 1) lines ((place - LEAD) + i) k (get_dropped (place - LEAD) (take
+      (race + 1) lines) i k at))
 
 -- a line of the front half is drawn at its place, and the last one last
 pub drawn_front : (lines : List Told) (i : ℕ) (k : Told) → i < HALF → slice_get lines i ≡ Some k → slice_get (rows_of lines) i ≡ Some k
@@ -174,7 +179,8 @@ pub rows_map : {A B : Type 0} (f : A → B) (lines : List A) → HALF + HALF < l
 rows_map f lines many =
     let long = length-map lines f in
     let back = map f (drop (length lines - HALF) lines) in
-    ap (λ a. a ++ back) (sym (take-map f HALF lines)) ∙ ap (λ b. take HALF (map f lines) ++ b) (sym (drop-map f (length lines - HALF) lines))
+    ap (λ a. a ++ back) (sym (take-map f HALF lines)) ∙ ap (λ b. take HALF (map f lines) ++ b) (sym (drop-map f
+    (length lines - HALF) lines))
     ∙ ap (λ n. take HALF (map f lines) ++ drop (n - HALF) (map f lines)) (sym long) ∙ sym (rows_cut (map f lines) (omega arith))
 
 pub rows_are : (kept : List Kept) (f : First) (lines : List Kept) (rows : List Told) → lines ≡ span f.explanation.place f.race kept

@@ -19,7 +19,8 @@ pub meet_by : (t u : ℕ) (g k : Option Event) (e f : Event) (r : Bool) → g �
 meet_by t u g k e f r given taken test = (
   λ s. (e, f, given, taken, test.0 s),
   λ w. (let one : w.0 ≡ e = cc in let two : w.1 ≡ f = cc in
-      test.1 (subst (λ x. SynchronizesWith (stamped t x) (stamped u f)) one (subst (λ y. SynchronizesWith (stamped t w.0) (stamped u y)) two w.4))),
+      test.1 (subst (λ x. SynchronizesWith (stamped t x) (stamped u f)) one (subst (λ y. SynchronizesWith (stamped t w.0)
+      (stamped u y)) two w.4))),
 )
 
 module _ (rows : List Told) (t from : ℕ) where
@@ -49,7 +50,8 @@ module _ (rows : List Told) (a b : Told) (i j : ℕ) where
   leads_some : Ways → Leads rows a b i j
   leads_some (inl (inl (e, f, given, taken, s))) = by_events e f given taken s
   leads_some (inl (inr ((e, f, given, taken, s), never))) =
-      to_first e given never (let is : f ≡ Does (Begin 0) = cc in subst (λ x. SynchronizesWith (stamped a.thread e) (stamped b.thread x)) is s)
+      to_first e given never (let is : f ≡ Does (Begin 0) = cc in subst (λ x. SynchronizesWith (stamped a.thread e)
+      (stamped b.thread x)) is s)
   leads_some (inr ((e, f, given, taken, s), never)) =
       from_last f taken never (let is : e ≡ Does End = cc in subst (λ x. SynchronizesWith (stamped a.thread x) (stamped b.thread f)) is s)
 
@@ -70,7 +72,8 @@ module _ (rows : List Told) (a b : Told) (i j : ℕ) where
       let pf' = subst (λ g. IsTrue first ↔ Met a.thread b.thread g (Some (Does (Begin 0)))) given pf in
       let pl' = subst (λ k. IsTrue last ↔ Met a.thread b.thread (Some (Does End)) k) taken pl in
       let all = either (events || (first && not begun)) (last && not on) _ _
-      (either events (first && not begun) _ _ pe' (both first (not begun) _ _ pf' (negated begun _ pb))) (both last (not on) _ _ pl' (negated on _ po)) in
+      (either events (first && not begun) _ _ pe' (both first (not begun) _ _ pf' (negated begun _ pb))) (both last (not on) _ _ pl'
+      (negated on _ po)) in
       (λ s. leads_some (all.0 s), λ w. all.1 (some_leads w))
 
 -- some row below n stands between
@@ -105,14 +108,16 @@ module _ (rows : List Told) (i j : ℕ) where
       let rc : r ≡ c = cc in
       let T : Bool = ((r.thread == p.thread) && to) || ((r.thread == q.thread) && from) in
       let is : IsTrue T ↔ IsBetween rows p q i j k r =
-      either ((r.thread == p.thread) && to) ((r.thread == q.thread) && from) _ _ (both (r.thread == p.thread) to _ _ (eq_test r.thread p.thread) pt)
+      either ((r.thread == p.thread) && to) ((r.thread == q.thread) && from) _ _ (both (r.thread == p.thread) to _ _
+      (eq_test r.thread p.thread) pt)
       (both (r.thread == q.thread) from _ _ (eq_test r.thread q.thread) pf) in
       subst (λ z. IsTrue T ↔ IsBetween rows a b i j k z) rc
       (subst (λ z. IsTrue T ↔ IsBetween rows a z i j k r) qb (subst (λ z. IsTrue T ↔ IsBetween rows z q i j k r) pa is))
 
   pub between_new :
       (k : ℕ) (test : Bool) → test ≡ true → i < k → k < j → j < length rows →
-      ((a b c : Told) → slice_get rows i ≡ Some a → slice_get rows j ≡ Some b → slice_get rows k ≡ Some c → IsTrue test ↔ IsBetween rows a b i j k c) →
+      ((a b c : Told) → slice_get rows i ≡ Some a → slice_get rows j ≡ Some b → slice_get rows k ≡ Some c
+      → IsTrue test ↔ IsBetween rows a b i j k c) →
       (a b : Told) → slice_get rows i ≡ Some a → slice_get rows j ≡ Some b → IsTrue true ↔ HasBetween rows a b i j j
   between_new k test holds after near within tells a b ia ib =
       let s = some_at rows k (omega arith) in
@@ -120,7 +125,8 @@ module _ (rows : List Told) (i j : ℕ) where
 
   pub between_more :
       (k : ℕ) (test : Bool) → test ≡ false → k < length rows →
-      ((a b c : Told) → slice_get rows i ≡ Some a → slice_get rows j ≡ Some b → slice_get rows k ≡ Some c → IsTrue test ↔ IsBetween rows a b i j k c) →
+      ((a b c : Told) → slice_get rows i ≡ Some a → slice_get rows j ≡ Some b → slice_get rows k ≡ Some c
+      → IsTrue test ↔ IsBetween rows a b i j k c) →
       ((a b : Told) → slice_get rows i ≡ Some a → slice_get rows j ≡ Some b → HasBetween rows a b i j k → ⊥) →
       (a b : Told) → slice_get rows i ≡ Some a → slice_get rows j ≡ Some b → HasBetween rows a b i j (k + 1) → ⊥
   between_more k test fails near tells none a b ia ib =
@@ -136,12 +142,14 @@ module _ (rows : List Told) (i j : ℕ) where
   )
 
   pub arrow_by :
-      (p q : Told) (leads between : Bool) → slice_get rows i ≡ Some p → slice_get rows j ≡ Some q → i < j → IsTrue leads ↔ Leads rows p q i j →
+      (p q : Told) (leads between : Bool) → slice_get rows i ≡ Some p → slice_get rows j ≡ Some q → i < j
+      → IsTrue leads ↔ Leads rows p q i j →
       ((a b : Told) → slice_get rows i ≡ Some a → slice_get rows j ≡ Some b → IsTrue between ↔ HasBetween rows a b i j j) →
       IsTrue ((not (p.thread == q.thread) && leads) && not between) ↔ IsArrow rows i j
   arrow_by p q leads between ip iq order pl pb =
       let tests = both (not (p.thread == q.thread) && leads) (not between) _ _
-      (both (not (p.thread == q.thread)) leads _ _ (negated (p.thread == q.thread) _ (eq_test p.thread q.thread)) pl) (negated between _ (pb p q ip iq)) in (
+      (both (not (p.thread == q.thread)) leads _ _ (negated (p.thread == q.thread) _ (eq_test p.thread q.thread)) pl) (negated between _
+      (pb p q ip iq)) in (
         λ s. (let w = tests.0 s in record {
           first = p;
           second = q;
@@ -161,7 +169,8 @@ module _ (rows : List Told) (i j : ℕ) where
                 subst (λ z. Leads rows z q i j) one (subst (λ z. Leads rows w.first z i j) two w.leads),
               ),
               λ b. w.nearest b.0 b.1 b.2 b.3 b.4
-                  (subst (λ z. IsBetween rows z w.second i j b.0 b.1) (sym one) (subst (λ z. IsBetween rows p z i j b.0 b.1) (sym two) b.5)),
+                  (subst (λ z. IsBetween rows z w.second i j b.0 b.1) (sym one) (subst (λ z. IsBetween rows p z i j b.0 b.1)
+                  (sym two) b.5)),
             )),
       )
 

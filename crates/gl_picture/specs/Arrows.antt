@@ -41,7 +41,7 @@ pub data Leads (rows : List Told) (a b : Told) (i j : ℕ) : Type 0 where
   from_last : (f : Event) → event_of b.item ≡ Some f → (HasRow rows a.thread (i + 1) (length rows) → ⊥)
       → SynchronizesWith (stamped a.thread (Does End)) (stamped b.thread f) → Leads rows a b i j
 
--- the row k, which is the line c, stands between: it is behind i in its thread and leads to j, or i leads to it and j is behind it in its thread
+-- the row k, which is the line c, stands between: it is one of i's thread and leads to j, or one of j's thread and i leads to it
 abbrev pub IsBetween : List Told → Told → Told → ℕ → ℕ → ℕ → Told → Type 0
 IsBetween rows a b i j k c = ((c.thread ≡ a.thread) × Leads rows c b k j) ⊎ ((c.thread ≡ b.thread) × Leads rows a c i k)
 

@@ -40,7 +40,8 @@ pub record AreRows (rows : List Told) (left : ℕ) (drawn : List Row) : Type 0 w
 -- the columns of the threads below n that are such, by rising thread, counted from 0
 pub data AreColumns (P : ℕ → Type 0) : ℕ → List Column → Type 0 where
   no_column : AreColumns P 0 []
-  one_column : (n : ℕ) (cs : List Column) → AreColumns P n cs → P n → AreColumns P (n + 1) (cs ++ record { thread = n; at = length cs } ∷ [])
+  one_column : (n : ℕ) (cs : List Column) → AreColumns P n cs → P n → AreColumns P (n + 1) (cs
+      ++ record { thread = n; at = length cs } ∷ [])
   not_a_column : (n : ℕ) (cs : List Column) → AreColumns P n cs → (P n → ⊥) → AreColumns P (n + 1) cs
 
 -- these rows are drawn, with so many lines left out, for the race that is explained

@@ -37,9 +37,10 @@ line_text style from to = codes "<line "
 -- a line through four points
 unfoldable pub bent_text : Spot → Spot → Spot → Spot → List ℕ
 bent_text a b c d = pair_text (codes "<polyline class='arrow' points='") (codes ",") a
-    ++ (pair_text (codes " ") (codes ",") b ++ (pair_text (codes " ") (codes ",") c ++ (pair_text (codes " ") (codes ",") d ++ codes "'/>\n")))
+    ++ (pair_text (codes " ") (codes ",") b ++ (pair_text (codes " ") (codes ",") c ++ (pair_text (codes " ") (codes ",") d
+    ++ codes "'/>\n")))
 
--- an arrow: it leaves between its row and the next one, so that it meets no other row's point, and turns to its end beside that one's column
+-- an arrow: it leaves between its row and the next one, so that it meets no other row's point, and turns to its end beside its column
 unfoldable pub bend_text : Cell → Cell → List ℕ
 bend_text from to =
     let start = x_of from.column in

@@ -52,7 +52,8 @@ arrows_text p r = flat_map (arrow_text p (cell_of p.columns.items r)) r.from.ite
 -- the two accesses that race
 unfoldable pub race_text : Picture → List ℕ
 race_text p = line_text (codes "class='race'") (spot_of (cell_at p p.other)) (spot_of (cell_at p p.race))
-    ++ (circle_text (codes "class='mark' r='9'") (spot_of (cell_at p p.other)) ++ circle_text (codes "class='mark' r='9'") (spot_of (cell_at p p.race)))
+    ++ (circle_text (codes "class='mark' r='9'") (spot_of (cell_at p p.other)) ++ circle_text (codes "class='mark' r='9'") (spot_of
+    (cell_at p p.race)))
 
 -- a row: the number of its line, its point, and what the line does
 unfoldable pub row_text : Naming → List Column → Row → List ℕ

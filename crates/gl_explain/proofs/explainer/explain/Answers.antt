@@ -9,6 +9,8 @@ use Rattle.gl_explain.proofs.explainer.explain.Goals as goal
 
 pub returns-in_ok-push_explanation-in-Raised-clause-written : goal.returns-in_ok-push_explanation-in-Raised-clause-written
 returns-in_ok-push_explanation-in-Raised-clause-written c = λ w.
-    subst (IsWritten (name_of c.args.writer.now.names) (told_of c.args.kept.now ++ c.args.told.now ∷ [])) (sym c.in_ok-push_explanation-in-Raised.ensures)
-    (written_more (name_of c.args.writer.now.names) (told_of c.args.kept.now) c.args.told.now c.in_ok-explanation-in-Raised.explanation (string_bytes c.args.writer.now.text)
+    subst (IsWritten (name_of c.args.writer.now.names) (told_of c.args.kept.now ++ c.args.told.now ∷ [])) (sym
+    c.in_ok-push_explanation-in-Raised.ensures)
+    (written_more (name_of c.args.writer.now.names) (told_of c.args.kept.now) c.args.told.now c.in_ok-explanation-in-Raised.explanation
+    (string_bytes c.args.writer.now.text)
     (ap is_race c.in-Raised.is) c.in_ok-explanation-in-Raised.ensures.of c.in_ok-explanation-in-Raised.ensures.right w)

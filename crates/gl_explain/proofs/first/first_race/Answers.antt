@@ -25,6 +25,8 @@ loop-line-preserved g c =
     let next : IsReadTo c.args.input.now (trace_of before.done ++ line ∷ []) c.next_line.new.self =
     rw c.in-Ok-Some.field-0-is at (c.in-Ok-Some.ensures.line c.args.input.now (trace_of before.done) before.read) in
     let on = c.in_ok-found-in-Ok-Some.ensures.told before.done before.told next.reads.well in
-    seen_on c.args.input.now before.done line c.next_line.new.self c.take.new.self c.in_ok-found-in-Ok-Some.found c.earlier-first.result next
+    seen_on c.args.input.now before.done line c.next_line.new.self c.take.new.self c.in_ok-found-in-Ok-Some.found
+    c.earlier-first.result next
     on (c.in_ok-found-in-Ok-Some.ensures.names ∙ before.named)
-    (c.earlier-first.ensures before.done (told_as line on.0) (c.count-race.ensures before.done before.told) c.loop-line.invariant.first_is on.2)
+    (c.earlier-first.ensures before.done (told_as line on.0) (c.count-race.ensures before.done before.told)
+    c.loop-line.invariant.first_is on.2)

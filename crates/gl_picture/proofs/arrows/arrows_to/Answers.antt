@@ -18,7 +18,8 @@ loop-i-preserved c =
       | else-is_arrow w ↦
           (let is : c.if-is_arrow.from.items ≡ c.loop-i.from.items = search rules in
           subst (Selects P (c.loop-i.i + 1)) (sym is)
-          (not_one c.loop-i.i c.loop-i.from.items c.loop-i.invariant (false_no c.is_arrow.result (P c.loop-i.i) w.if-is_arrow.false c.is_arrow.ensures)))
+          (not_one c.loop-i.i c.loop-i.from.items c.loop-i.invariant (false_no c.is_arrow.result (P c.loop-i.i) w.if-is_arrow.false
+          c.is_arrow.ensures)))
     ]
 
 pub returns : goal.returns

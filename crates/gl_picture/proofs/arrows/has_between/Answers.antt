@@ -4,7 +4,8 @@ use Rattle.gl_picture.proofs.arrows.has_between.Goals as goal
 
 pub returns-then-is_between : goal.returns-then-is_between
 returns-then-is_between c =
-    between_new c.args.rows.now c.args.i c.args.j c.loop-k.k c.is_between.result c.if-is_between.true (let b = c.loop-k.auto.k in omega arith)
+    between_new c.args.rows.now c.args.i c.args.j c.loop-k.k c.is_between.result c.if-is_between.true (let b =
+    c.loop-k.auto.k in omega arith)
     c.loop-k-test.true c.requires.order.1 c.is_between.ensures
 
 pub loop-k-preserved : goal.loop-k-preserved

@@ -9,5 +9,6 @@ returns c =
     let one = c.requires.order.0 in
     let two = c.requires.order.1 in
     arrow_by rows c.args.i c.args.j c.index-rows-i.result c.index-rows-j.result c.leads-leads.result c.has_between-between.result
-    (known_at rows c.args.i c.index-rows-i.result (omega arith) c.index-rows-i.is) (known_at rows c.args.j c.index-rows-j.result two c.index-rows-j.is)
+    (known_at rows c.args.i c.index-rows-i.result (omega arith) c.index-rows-i.is) (known_at rows c.args.j c.index-rows-j.result two
+    c.index-rows-j.is)
     one c.leads-leads.ensures c.has_between-between.ensures

@@ -28,7 +28,8 @@ loop-thread-preserved c =
           (c.has_row.ensures.0 w.if-has_row.true) in
           let n = before.counted in
           let few = before.few in
-          let long : length c.if-has_row.columns.items ≡ length old + 1 = ap (λ (cs : List Column). length cs) is ∙ length-append old (made ∷ []) in
+          let long : length c.if-has_row.columns.items ≡ length old + 1 = ap (λ (cs : List Column). length cs) is ∙ length-append old
+          (made ∷ []) in
           record {
             columns = subst (AreColumns P (t + 1)) (sym is)
                 (subst (λ n. AreColumns P (t + 1) (old ++ record { thread = t; at = n } ∷ [])) (sym n) more);

@@ -23,8 +23,10 @@ returns c =
     let words : Spot → List ℕ → List ℕ = words_text (codes "dx='16' dy='4'") in
     three c.push_words-2.result out c.push_words.new.out.items c.push_circle.new.out.items c.push_words-2.new.out.items
     (line (y_of r.slot) (decimal r.told.line)) (circle_text (codes "r='4'") point) (words point label)
-    (c.in_ok-push_words.ensures ∙ ap (λ y. out ++ line y c.as_bytes.result.now) c.y_of-y.ensures ∙ ap (λ t. out ++ line (y_of r.slot) t) number)
+    (c.in_ok-push_words.ensures ∙ ap (λ y. out ++ line y c.as_bytes.result.now) c.y_of-y.ensures ∙ ap (λ t. out ++ line
+    (y_of r.slot) t) number)
     (c.in_ok-push_circle.ensures ∙ ap (λ (s : Spot). c.push_words.new.out.items ++ circle_text (codes "r='4'") s) there)
     (subst (λ (s : Spot). OnOk c.push_words-2.result (c.push_words-2.new.out.items ≡ c.push_circle.new.out.items ++ words s label)) there
-    (subst (λ t. OnOk c.push_words-2.result (c.push_words-2.new.out.items ≡ c.push_circle.new.out.items ++ words c.spot_of-point.result t)) said
+    (subst (λ t. OnOk c.push_words-2.result (c.push_words-2.new.out.items ≡ c.push_circle.new.out.items ++ words
+    c.spot_of-point.result t)) said
     c.push_words-2.ensures))

@@ -50,16 +50,20 @@ returns g c = record {
       x.are_kept c.in_ok-judged.ensures.right c.known_at-known.ensures in
       let items : c.push.new.self.items ≡ c.args.self.now.kept.items ++ k ∷ [] = search rules in
       let was : IsWritten (name_of c.args.self.now.writer.names) (told_of c.deref.result.now) (string_bytes c.args.self.now.writer.text) =
-      subst (λ ks. IsWritten (name_of c.args.self.now.writer.names) (told_of ks) (string_bytes c.args.self.now.writer.text)) (sym c.deref.ensures.value)
-      (subst (λ ds. IsWritten (name_of c.args.self.now.writer.names) ds (string_bytes c.args.self.now.writer.text)) (sym x.kept) x.written) in
+      subst (λ ks. IsWritten (name_of c.args.self.now.writer.names) (told_of ks) (string_bytes c.args.self.now.writer.text)) (sym
+      c.deref.ensures.value)
+      (subst (λ ds. IsWritten (name_of c.args.self.now.writer.names) ds (string_bytes c.args.self.now.writer.text))
+      (sym x.kept) x.written) in
       let written : IsWritten (name_of c.explain.new.writer.names) (told_of kept ++ t ∷ []) (string_bytes c.explain.new.writer.text) =
-      subst (λ ks. IsWritten (name_of c.explain.new.writer.names) (told_of ks ++ t ∷ []) (string_bytes c.explain.new.writer.text)) c.deref.ensures.value
+      subst (λ ks. IsWritten (name_of c.explain.new.writer.names) (told_of ks ++ t ∷ []) (string_bytes c.explain.new.writer.text))
+      c.deref.ensures.value
       (c.in_ok-explanation.ensures.written was) in (
         c.in_ok-judged.judged,
         told_on kept done t c.known_at-known.result c.own_at-own.result c.mark_of-mark.result c.args.self.now.detector
             (record { detector = c.step.new.self; kept = c.push.new.self; writer = c.explain.new.writer })
             x.kept x.follows x.are_kept f c.in_ok-judged.ensures.ready items c.own_at-own.ensures c.mark_of-mark.ensures written,
-        subst (λ ds. Explains ds t c.in_ok-explanation.explanation) (ap told_of c.deref.ensures.value ∙ x.kept) c.in_ok-explanation.ensures.found,
+        subst (λ ds. Explains ds t c.in_ok-explanation.explanation) (ap told_of c.deref.ensures.value ∙ x.kept)
+            c.in_ok-explanation.ensures.found,
       );
   names = c.in_ok-explanation.ensures.names;
 }
