@@ -3,6 +3,7 @@ pub mod Growing
 pub mod MadeBy
 pub mod OneLine
 pub mod OneSite
+pub mod PlainSites
 pub mod RecordMakers
 pub mod Said
 pub mod SomeSite

@@ -1,5 +1,6 @@
 pub mod Adding
 pub mod Makers
+pub mod PlainLines
 pub mod Recorded
 pub mod Sites
 pub mod SourceLines

@@ -8,6 +8,7 @@ ghost use Rattle.gl_bytecode.specs.Validity.{IsValid};
 ghost use Rattle.gl_follow.specs.Following.{EachBeginsRight};
 ghost use Rattle.gl_model.specs.Entries.{Entry};
 ghost use Rattle.gl_sites.specs.Sites.{IsAnswered, IsMadeAt, IsMadeByNone, IsNote};
+ghost use Rattle.gl_sites.specs.PlainLines.{PlainHasLine};
 ghost use Rattle.gl_sites.specs.SourceLines.{IsLineOf};
 
 /// Each instruction of a program has one line in the program's text, and no line is that of two: an instruction has a line, two lines
@@ -29,4 +30,9 @@ pub fn each_entry_has_one_maker()
     ensures at_most_one { (P : Bytecode) (steps t : ℕ) (list : List Entry) (n : ℕ) → IsValid P → EachBeginsRight P list → (f g i j : ℕ) → IsMadeAt P steps t list n f i → IsMadeAt P steps t list n g j → (f ≡ g) × (i ≡ j) }
     ensures notes { (P : Bytecode) (steps t : ℕ) (list : List Entry) (n : ℕ) (p : Progress) → IsNote list n → IsAnswered P steps t list n p → ⊥ }
     ensures apart { (P : Bytecode) (steps t : ℕ) (list : List Entry) (n : ℕ) → IsValid P → EachBeginsRight P list → (f i : ℕ) → IsMadeAt P steps t list n f i → IsMadeByNone P steps t list n → ⊥ }
+{}
+
+/// Each plain access in a list that its thread's machine makes was made by an instruction, which has a line in the program's text.
+pub fn a_plain_access_has_a_line()
+    ensures { PlainHasLine }
 {}

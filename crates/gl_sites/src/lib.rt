@@ -9,7 +9,9 @@ mod source;
 #[cfg(test)]
 mod tests;
 
-pub use laws::{each_entry_has_one_maker, each_instruction_has_one_line};
+pub use laws::{
+    a_plain_access_has_a_line, each_entry_has_one_maker, each_instruction_has_one_line,
+};
 pub use making::{Maker, makers};
 pub use recorded::{maker_at, makers_of};
 pub use source::{SourceLine, line_of};
