@@ -1,4 +1,5 @@
 pub mod Arrows
+pub mod Order
 pub mod Drawn
 pub mod Shapes
 pub mod Texts
