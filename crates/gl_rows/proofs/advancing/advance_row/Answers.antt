@@ -90,11 +90,11 @@ put_row-requires-2-clause-may c =
     let lifted = lifted_is p x row n c.tail-tail.new.pass w c.args.to c.tail-tail.result seen walk in
     let high = raised_is p x row n w c.raise_hold.new.pass c.args.to c.tail-tail.result new lifted c.raise_hold.ensures.pass in
     let last = last_is p x row n c.raise_hold.new.pass c.floor_of-hold.new.pass c.args.to c.tail-tail.result c.floor_of-hold.result new
-    w.known w.loaded high c.floor_of-hold.ensures.pass in
+    w.known w.loaded w.moves high c.floor_of-hold.ensures.pass in
     subst (λ r. MayPutBack c.args.shared.now.key.setting (shelf_of c.floor_of-hold.new.pass) (view_of c.floor_of-hold.new.pass)
     (suc c.args.var) (slot.Row r) false) c.row.ensures
     (may_put_last p x row n c.args.shared.now.key.setting c.floor_of-hold.new.pass c.args.to c.tail-tail.result c.floor_of-hold.result new
-    w.known w.loaded last)
+    w.known w.loaded w.moves last)
 
 pub returns-clause-hold : goal.returns-clause-hold
 returns-clause-hold c =
@@ -112,13 +112,13 @@ returns-clause-hold c =
     let lifted = lifted_is p x row n c.tail-tail.new.pass w c.args.to c.tail-tail.result seen walk in
     let high = raised_is p x row n w c.raise_hold.new.pass c.args.to c.tail-tail.result new lifted c.raise_hold.ensures.pass in
     let last = last_is p x row n c.raise_hold.new.pass c.floor_of-hold.new.pass c.args.to c.tail-tail.result c.floor_of-hold.result new
-    w.known w.loaded high c.floor_of-hold.ensures.pass in
-    let same = hold_is p x row n c.raise_hold.new.pass c.args.to c.tail-tail.result c.floor_of-hold.result new w.known w.loaded high
+    w.known w.loaded w.moves high c.floor_of-hold.ensures.pass in
+    let same = hold_is p x row n c.raise_hold.new.pass c.args.to c.tail-tail.result c.floor_of-hold.result new w.known w.loaded w.moves high
     c.floor_of-hold.ensures.same in
     advanced_last p x row n c.tail-tail.new.pass w c.put_row-2.new.pass c.args.to c.tail-tail.result c.floor_of-hold.result
     c.if-to-before.false same seen walk
     (end_is p x row n c.floor_of-hold.new.pass c.put_row-2.new.pass c.args.to c.tail-tail.result c.floor_of-hold.result new w.known
-    w.loaded c.requires.held last c.put_row-2.ensures)
+    w.loaded w.moves c.requires.held last c.put_row-2.ensures)
 
 pub take_row-requires-clause-free : goal.take_row-requires-clause-free
 take_row-requires-clause-free c = holds_none c.args.pass.now.own.held (suc c.args.var) c.requires.held
