@@ -27,7 +27,8 @@ use Rattle.gl_rule.specs.declared.slot.Slot.TheVariants as slot
 use Rattle.gl_rule.specs.Fitting.{IsFitting, InfosStand, MayMark}
 use Rattle.gl_rule.specs.Lives.{Running, life_of}
 use Rattle.gl_rule.specs.Values.{InRow}
-use Rattle.gl_rule.specs.View.{Held, Moves, with_loads, Taken, shelf, new_held, with_tail, without, took, saw_tail, marked, left}
+use Rattle.gl_rule.specs.View.{Held, Moves, moved, with_loads, Taken, shelf, new_held, with_tail, without, took, saw_tail, marked, left}
+use Rattle.gl_rule.proofs.Moves.{six_steps}
 use Rattle.gl_rule.proofs.Lasting.{no_end, has_block}
 use Rattle.gl_shortcut.specs.Ordering.{IsOfNext}
 use Rattle.gl_table.specs.CaughtUp.{block_of, or_zero}
@@ -39,6 +40,7 @@ use Rattle.gl_rows.specs.declared.accessing.Seen.{Seen}
 use Rattle.gl_rows.specs.declared.accessing.Seen.TheVariants.{Value, Raised}
 use Rattle.gl_rows.specs.Accessing.{MayAccess, access_of, RowAfter, IsSeen, HasNumber, Answers, is_raised, value_told, question_of, IsJudged, LoadsOnce}
 use Rattle.gl_rows.specs.Walks.{placed_from, HasWalked, HoldsRow}
+use Rattle.gl_rows.proofs.Costs.{walk_costs}
 use Rattle.gl_rows.proofs.Noting.{OwnLeast, fits_pop, own_stands, still_last, raised_follows, write_follows, read_follows}
 use Rattle.gl_rows.proofs.Windows.{stand_judged}
 
@@ -261,6 +263,7 @@ module _ (p : PassView) (x : ℕ) (row : Row) (tail : ℕ) (known : List (ℕ ×
     pub known_is : r.known ≡ known
     pub quiet : r.quiet ≡ p.quiet
     pub spare : r.spare ≡ p.spare - 1
+    pub cost : r.moves ≡ moved 2 (moved 1 walker.moves)
 
   or_false : (b : Bool) → (b || false) ≡ b
   or_false true = refl
@@ -288,6 +291,7 @@ module _ (p : PassView) (x : ℕ) (row : Row) (tail : ℕ) (known : List (ℕ ×
         known_is = ap (λ (z : PassView). z.known) all;
         quiet = ap (λ (z : PassView). z.quiet) all ∙ or_false p.quiet;
         spare = ap (λ (z : PassView). z.spare) all;
+        cost = ap (λ (z : PassView). z.moves) all;
       }
 
   -- what fits it then fitted it before
@@ -377,8 +381,8 @@ module _ (setting : Setting) (p : PassView) (x : ℕ) (row : Row) (tail : ℕ) (
 
 -- the events that it loaded
 loads_once : (p : PassView) (x : ℕ) (row : Row) (tail : ℕ) (w u r : PassView) → w ≡ with_row p x row tail → HasWalked row w u → r.seen
-    ≡ tail → r.known ≡ u.known → LoadsOnce row p r
-loads_once p x row tail w u r is walk seen known =
+    ≡ tail → r.known ≡ u.known → r.moves ≡ moved 2 (moved 1 u.moves) → LoadsOnce row p r
+loads_once p x row tail w u r is walk seen known cost =
     let at = ap (λ (z : PassView). z.seen) is in
     let ends = walk.ends in
     record {
@@ -386,30 +390,38 @@ loads_once p x row tail w u r is walk seen known =
       events = walk.events;
       known = known ∙ ap (λ (z : PassView). z.known) walk.is ∙ ap (λ (z : PassView). z.known ++ placed_from walk.from walk.events) is;
       ends = omega arith;
+      cost = cost ∙ ap (λ (z : PassView). moved 2 (moved 1 z.moves)) walk.is
+          ∙ ap (λ (z : PassView). moved 2 (moved 1 (with_loads (5 * length walk.events) z.moves))) is
+          ∙ ap (with_loads (5 * length walk.events)) (six_steps p.moves);
       named = walk.named;
     }
 
 -- none, where an early cut is sure of each Info that conflicts
 pub loads_none : (p : PassView) (x : ℕ) (row : Row) (tail : ℕ) (w u r : PassView) → w ≡ with_row p x row tail → u ≡ w → r.known ≡ u.known
-    → r.known ≡ p.known
-loads_none p x row tail w u r is same known = known ∙ ap (λ (z : PassView). z.known) (same ∙ is)
+    → r.moves ≡ moved 2 (moved 1 u.moves) → (r.known ≡ p.known) × (r.moves ≡ moved 6 p.moves)
+loads_none p x row tail w u r is same known cost = (
+  known ∙ ap (λ (z : PassView). z.known) (same ∙ is),
+  cost ∙ ap (λ (z : PassView). moved 2 (moved 1 z.moves)) (same ∙ is) ∙ six_steps p.moves,
+)
 
 -- what the call tells of the row that it took
-pub is_judged : (setting : Setting) (p : PassView) (x : ℕ) (row : Row) (tail : ℕ) (known : List (ℕ × Stamp)) (walker : PassView)
-    (nth : ℕ) (write : Option ℤ) (race : Bool) (a : PlainAccess) (s : Seen) (r : PassView) (w u : PassView) → w ≡ with_row p x row tail
+pub is_judged : (setting : Setting) (p : PassView) (x : ℕ) (row : Row) (tail : ℕ) (known : List (ℕ × Stamp)) (u : PassView)
+    (nth : ℕ) (write : Option ℤ) (race : Bool) (a : PlainAccess) (s : Seen) (r : PassView) (w : PassView) → w ≡ with_row p x row tail
     → IsWithin row w.seen → HasWalked row w u → known ≡ u.known
-    → a ≡ access_of row write race → IsSeen a nth s → IsStored p x row tail known walker nth a r
+    → a ≡ access_of row write race → IsSeen a nth s → IsStored p x row tail known u nth a r
     → ((l : List Stamp) → IsFitting setting (shelf_of p) tail known l → InfosStand setting l row
     → (race ≡ true) ↔ SomeFails l row (question_of p.own write)) → IsJudged setting x write p s r
-is_judged setting p x row tail known walker nth write race a s r w u took within walk events is seen stored judged =
+is_judged setting p x row tail known u nth write race a s r w took within walk events is seen stored judged =
     let told = entry_told row write race nth s (subst (λ (b : PlainAccess). IsSeen b nth s) is seen) in
     let same : is_raised s ≡ race = sym told.raised ∙ (access_facts row write race).1 in
+    let loads = loads_once p x row tail w u r took walk stored.seen (stored.known_is ∙ events) stored.cost in
     record {
       row = row;
       took = stored.reads;
       within = subst (IsWithin row) (ap (λ (z : PassView). z.seen) took ∙ sym stored.seen) within;
       answers = told.answers;
-      loads = loads_once p x row tail w u r took walk stored.seen (stored.known_is ∙ events);
-      raised = λ l f stand. let k = judged l (fits_stored p x row tail known walker nth setting a r stored l f) stand
+      loads = loads;
+      cost = walk_costs row loads.from r.seen 6 loads.events p r loads.ends loads.named loads.cost;
+      raised = λ l f stand. let k = judged l (fits_stored p x row tail known u nth setting a r stored l f) stand
           in (λ e. k.0 (sym same ∙ e), λ e. same ∙ k.1 e);
     }

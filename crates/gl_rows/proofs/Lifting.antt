@@ -13,6 +13,7 @@ use Rattle.gl_rule.specs.declared.slot.Slot.TheVariants as slot
 use Rattle.gl_rule.specs.Fitting.{IsFitting, MayRaise, MayLeaveAt}
 use Rattle.gl_rule.specs.Values.{InRow, with_draw}
 use Rattle.gl_rule.specs.View.{Held, Read, CellWord, Taken, Hold, new_held, with_tail, without, took, saw_tail, saw_floor, raised, left, Moves, moved, with_loads}
+use Rattle.gl_rule.proofs.Moves.{five_steps, eight_steps, loads_none}
 use Rattle.gl_table.specs.PassView.{PassView, view_of, shelf_of, after}
 use Rattle.gl_table.specs.Putting.{MayPutBack, held_at}
 use Rattle.gl_table.specs.Says.{no_held}
@@ -259,12 +260,14 @@ module _ (p : PassView) (x : ℕ) (row : Row) (before : ℕ) where
   advanced_first r to far is = record {
     row = row;
     holds = Hold (suc x) before ∷ [];
-    loaded = inl (far, refl);
+    steps = 5;
+    loaded = inl (far, refl, refl);
     reads = ap (λ (z : PassView). z.reads) is ∙ append_assoc p.reads (Taken (suc x) (slot.Row row) ∷ []) (Hold (suc x) before ∷ []);
     from = 0;
     events = [];
     known = ap (λ (z : PassView). z.known) is ∙ sym (append-nil p.known);
     ends = inl refl;
+    cost = ap (λ (z : PassView). z.moves) is ∙ five_steps p.moves ∙ loads_none (moved 5 p.moves);
   }
 
   pub advanced_last : (v w r : PassView) (to tail hold : ℕ) → before < to → hold ≡ to → v ≡ lifted tail p.known p.loaded (moved 1 floor_moves)
@@ -279,7 +282,8 @@ module _ (p : PassView) (x : ℕ) (row : Row) (before : ℕ) where
   advanced_last v w r to tail hold below same was walk is = record {
     row = row;
     holds = Hold (suc x) before ∷ Hold (suc x) hold ∷ [];
-    loaded = inr (before, below, same, refl);
+    steps = 8;
+    loaded = inr (before, below, same, refl, refl);
     reads = ap (λ (z : PassView). z.reads) is
         ∙ append_assoc (p.reads ++ Taken (suc x) (slot.Row row) ∷ []) (Hold (suc x) before ∷ []) (Hold (suc x) hold ∷ [])
         ∙ append_assoc p.reads (Taken (suc x) (slot.Row row) ∷ []) (Hold (suc x) before ∷ Hold (suc x) hold ∷ []);
@@ -288,4 +292,7 @@ module _ (p : PassView) (x : ℕ) (row : Row) (before : ℕ) where
     known = ap (λ (z : PassView). z.known) is ∙ ap (λ (z : PassView). z.known) walk.is
         ∙ ap (λ (z : PassView). z.known ++ placed_from walk.from walk.events) was;
     ends = inr walk.ends;
+    cost = ap (λ (z : PassView). z.moves) is ∙ ap (λ (z : PassView). moved 2 (moved 1 (moved 1 z.moves))) walk.is
+        ∙ ap (λ (z : PassView). moved 2 (moved 1 (moved 1 (with_loads (5 * length walk.events) z.moves)))) was
+        ∙ ap (with_loads (5 * length walk.events)) (eight_steps p.moves);
   }

@@ -1,5 +1,5 @@
 -- A look, from taking the row to putting it back.
-use Rattle.gl_rule.proofs.Moves.{moved_both}
+use Rattle.gl_rule.proofs.Moves.{five_steps}
 use Rattle.std.proofs.Common.{◌≡◌, ℕ, suc, ◌+◌, ◌<◌, ◌==◌, List, [], ◌∷◌, ◌++◌, true, false, Bool, refl, sym, ap, ◌∙◌, subst, arith, Some, inr, add-one, ne_eqb}
 use Rattle.std.specs.Prelude.{Contains, Option, ◌||◌, ℤ, ◌^◌, if◌then◌else◌}
 use Rattle.gl_model.specs.declared.row.Row.{Row}
@@ -122,4 +122,4 @@ after_look p x row n value held q r is put =
     ∙ ap (λ (l : List Held). record p { own = record p.own { held = l; drawn = drawn }; reads = reads; quiet = p.quiet || false; moves = moved 2 (moved 1 (moved 2 p.moves)) }) h1
     ∙ ap (λ b. record p { own = record p.own { drawn = drawn }; reads = reads; quiet = b; moves = moved 2 (moved 1 (moved 2 p.moves)) }) (or_no p.quiet)
     ∙ ap (λ (m : Moves). record p { own = record p.own { drawn = drawn }; reads = reads; moves = m })
-    (moved_both 1 2 3 (moved 2 p.moves) refl ∙ moved_both 2 3 5 p.moves refl)
+    (five_steps p.moves)

@@ -98,7 +98,7 @@ returns-clause-judged g c =
     (walked_is p c.args.var row c.tail-tail.result w u is walk) in
     let same = c.judged-access.ensures ∙ ap (λ r. access_of r c.args.write c.is_race-race.result) c.row-2.ensures in
     is_judged z.key.setting p c.args.var row c.tail-tail.result u.known u c.mark-nth.result c.args.write c.is_race-race.result a
-    c.answer.result c.put_row.new.pass w u is
+    c.answer.result c.put_row.new.pass w is
     (row_within p c.args.var row c.tail-tail.result _ w c.in-Ok.ensures.ok c.tail-tail.ensures.within is) walk refl same c.answer.ensures
     (is_stored p c.args.var row c.tail-tail.result u.known u c.mark-nth.result a c.mark-nth.new.pass c.put_row.new.pass
     c.requires.may.held made c.put_row.ensures)
@@ -140,7 +140,7 @@ returns-clause-loads g c =
           (subst (λ r. (i : Info) → Keeps r i → Conflicts i (record (question_of p.own c.args.write) { held = c.monitors.result })
           → (i.thread < THREADS) × SayYesSurely c.args.cuts.now i (record (question_of p.own c.args.write) { held = c.monitors.result }))
           (sym c.row.ensures) sure)))
-          stored.known_is,
+          stored.known_is stored.cost,
     )
 
 pub take_row-requires-clause-free : goal.take_row-requires-clause-free

@@ -8,7 +8,7 @@ use Rattle.gl_rule.specs.declared.slot.Slot.TheVariants as slot
 use Rattle.gl_table.specs.PassView.{PassView, shelf_of, view_of}
 use Rattle.gl_table.specs.Putting.{MayPutBack}
 use Rattle.gl_rows.specs.Walks.{HoldsRow, HasWalkedTo}
-use Rattle.gl_rows.proofs.Lifting.{took_is, holds_first, floor_is, may_put_first, tail_is, holds_lifted, within_lifted, lifted_is, may_raise_row, raised_is, hold_is, last_is, may_put_last, end_is, advanced_last}
+use Rattle.gl_rows.proofs.Lifting.{took_is, holds_first, floor_is, may_put_first, tail_is, holds_lifted, within_lifted, lifted_is, may_raise_row, raised_is, hold_is, last_is, may_put_last, end_is, first_is, advanced_first, advanced_last}
 use Rattle.gl_rows.proofs.advancing.advance_row.Goals as goal
 
 pub floor_of-before-requires-clause-held : goal.floor_of-before-requires-clause-held
@@ -122,3 +122,14 @@ returns-clause-hold c =
 
 pub take_row-requires-clause-free : goal.take_row-requires-clause-free
 take_row-requires-clause-free c = holds_none c.args.pass.now.own.held (suc c.args.var) c.requires.held
+
+pub returns-then-to-before-clause-hold : goal.returns-then-to-before-clause-hold
+returns-then-to-before-clause-hold c =
+    let p = c.args.pass.now in
+    let x = c.args.var in
+    let row = c.in-Ok.kept in
+    let n = c.floor_of-before.result in
+    let took = took_is p x row n c.take_row.new.pass c.requires.held c.in-Ok.ensures.ok in
+    let floored = floor_is p x row n c.take_row.new.pass c.floor_of-before.new.pass took c.floor_of-before.ensures.pass in
+    advanced_first p x row n c.put_row.new.pass c.args.to c.if-to-before.true
+    (first_is p x row n c.floor_of-before.new.pass c.put_row.new.pass c.requires.held floored c.put_row.ensures)
