@@ -8,8 +8,9 @@ use Rattle.gl_model.specs.declared.limits.TheConstants.{VARIABLES}
 use Rattle.gl_model.specs.Entries.{Entry, Trim}
 use Rattle.gl_rule.specs.Fitting.{MayTrim}
 use Rattle.gl_rule.specs.Objects.{Key}
-use Rattle.gl_rule.specs.View.{Read, Hold, saw, shelf}
+use Rattle.gl_rule.specs.View.{Read, Hold, Moves, moved, saw, shelf}
 use Rattle.gl_rule.proofs.Lasting.{no_end, no_over}
+use Rattle.gl_rule.proofs.Moves.{moved_both, moved_none}
 use Rattle.gl_table.specs.Lowering.{lowered_pass}
 use Rattle.gl_table.specs.PassView.{PassView, view_of, shelf_of, after}
 use Rattle.gl_table.specs.TableView.{TableView}
@@ -23,7 +24,10 @@ pub loaded_more : (k : ℕ) (p q q' : PassView) (least n least' : ℕ) → AreLo
 loaded_more k p q q' least n least' l near is a b one up = record {
   further = l.further ++ Hold (k + 1) n ∷ [];
   is = is ∙ ap (λ (z : PassView). after z (saw (view_of z) (Hold (k + 1) n))) l.is
-      ∙ ap (λ (rs : List Read). record p { reads = rs }) (append_assoc p.reads l.further (Hold (k + 1) n ∷ []));
+      ∙ ap (λ (rs : List Read). record p { reads = rs; moves = moved 1 (moved k p.moves) })
+      (append_assoc p.reads l.further (Hold (k + 1) n ∷ []))
+      ∙ ap (λ (m : Moves). record p { reads = p.reads ++ (l.further ++ Hold (k + 1) n ∷ []); moves = m })
+      (moved_both k 1 (k + 1) p.moves refl);
   each = λ x small. elim (ℕ_discrete x k) [
     | yes e ↦ (
       n,
@@ -72,7 +76,8 @@ loaded_more k p q q' least n least' l near is a b one up = record {
 pub loaded_none : (p : PassView) (least : ℕ) → AreLoaded 0 p p least
 loaded_none p least = record {
   further = [];
-  is = ap (λ (rs : List Read). record p { reads = rs }) (sym (append-nil p.reads));
+  is = ap (λ (rs : List Read). record p { reads = rs }) (sym (append-nil p.reads))
+      ∙ ap (λ (m : Moves). record p { reads = p.reads ++ []; moves = m }) (moved_none p.moves);
   each = λ x small. absurd (omega arith);
   one = λ some. absurd (omega arith);
   risen = λ x n m new old. absurd (let k = new.1 in omega arith);
@@ -127,6 +132,8 @@ settled z p q r least n low l is to = record {
   spare = subst (λ m. p.spare - 1 ≤ m) (sym (ap (λ (x : PassView). x.spare) to))
       (subst (λ (x : PassView). x.spare - 1 ≤ (if nat_lt n (least / z.key.cells) then q.spare - 1 else q.spare)) l.is
       (one_less (nat_lt n (least / z.key.cells)) q.spare));
+  cost = ap (λ (x : PassView). x.moves) to ∙ ap (λ (x : PassView). moved 1 x.moves) l.is
+      ∙ moved_both VARIABLES 1 (VARIABLES + 1) p.moves refl;
 }
 
 -- which of the two is the lesser, where the one before the first hold is the greatest word

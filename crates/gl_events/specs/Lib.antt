@@ -2,3 +2,4 @@ pub mod Calls
 pub mod Acting
 pub mod Answers
 pub mod Settling
+pub mod Costs

@@ -1,9 +1,9 @@
 -- What is asked of a pass that raises the first segment of the ring, and what it learns.
-use Rattle.std.specs.Prelude.{◌≡◌, ◌⊎◌, ℕ, suc, ◌<◌, ◌≤◌, ◌-◌, ◌/◌, List, [], ◌∷◌, ◌++◌, Contains, nat_lt, if◌then◌else◌, max}
+use Rattle.std.specs.Prelude.{◌≡◌, ◌⊎◌, ℕ, suc, ◌+◌, ◌<◌, ◌≤◌, ◌-◌, ◌/◌, List, [], ◌∷◌, ◌++◌, Contains, nat_lt, if◌then◌else◌, max}
 use Rattle.gl_model.specs.declared.limits.TheConstants.{VARIABLES}
 use Rattle.gl_model.specs.Entries.{Entry, Trim}
 use Rattle.gl_rule.specs.Lives.{Unbegun, Running, life_of}
-use Rattle.gl_rule.specs.View.{Read, Hold}
+use Rattle.gl_rule.specs.View.{Read, Hold, moved}
 use Rattle.gl_table.specs.PassView.{PassView}
 use Rattle.gl_table.specs.TableView.{TableView}
 
@@ -18,10 +18,10 @@ pub record MaySettle (z : TableView) (p : PassView) : Type 0 where
   pub spare : 0 < p.spare
   pub goes_on : IsOpen p.own.mine
 
--- the pass, which was p and is q, loaded the holds of the variables below k and did nothing else; the least of them is this
+-- the pass, which was p and is q, loaded the holds of the variables below k, each in one step, and did nothing else; the least of them is this
 pub record AreLoaded (k : ℕ) (p q : PassView) (least : ℕ) : Type 0 where
   pub further : List Read
-  pub is : q ≡ record p { reads = p.reads ++ further }
+  pub is : q ≡ record p { reads = p.reads ++ further; moves = moved k p.moves }
   pub each : (x : ℕ) → x < k → (n : ℕ) × Contains further (Hold (suc x) n) × (least ≤ n)
   pub one : 0 < k → (x : ℕ) × (x < VARIABLES) × Contains further (Hold (suc x) least)
   -- each is no less than the pass had loaded it before
@@ -44,3 +44,4 @@ pub record IsSettled (z : TableView) (p q : PassView) (low : ℕ) : Type 0 where
   pub known : q.known ≡ p.known
   pub quiet : q.quiet ≡ p.quiet
   pub spare : p.spare - 1 ≤ q.spare
+  pub cost : q.moves ≡ moved (VARIABLES + 1) p.moves

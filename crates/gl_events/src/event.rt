@@ -1,10 +1,11 @@
 // One event, whatever it is: the list is taken, its state looked at, room asked for, the act published, and the list put back.
-ghost use Rattle.std.specs.Prelude.{◌≡◌, ◌||◌, ◌<◌, ◌≤◌, [], IfOk, IfErr, OnErr};
+ghost use Rattle.std.specs.Prelude.{◌≡◌, ◌||◌, ◌<◌, ◌≤◌, [], IfOk, IfErr, OnOk, OnErr};
 ghost use Rattle.gl_model.specs.Entries.{Sync};
 ghost use Rattle.gl_rule.specs.declared.slot.Slot.TheVariants as slot;
 ghost use Rattle.gl_table.specs.Doing.{told, announced};
 ghost use Rattle.gl_table.specs.Putting.{MayPublishAct};
 ghost use Rattle.gl_events.specs.Answers.{MayCall, IsDone, IsStop, says_quiet};
+ghost use Rattle.gl_events.specs.Costs.{IsEventCost, IsStopCost};
 ghost use Rattle.gl_events.specs.Calls.{IsCallInRange, HasCode, act_of, value_of};
 
 use crate::apply::apply;
@@ -49,8 +50,10 @@ pub fn event(shared: &Shared, pass: &mut Pass, call: &Call) -> Result<Done, Stop
     ensures own { IfOk result (λ d. pass.new.own ≡ told (Sync d.at (act_of call.now d) (value_of call.now d)) pass.old.own) }
     ensures done { IfOk result (λ d. IsDone shared.now pass.old pass.new (act_of call.now d) (value_of call.now d) d) }
     ensures code { IfOk result (λ d. HasCode call.now d) }
+    ensures cost { OnOk result (IsEventCost pass.old pass.new) }
     ensures kept { OnErr result (pass.new.own ≡ pass.old.own) }
     ensures stop { IfErr result (λ s. IsStop call.now shared.now pass.old pass.new s) }
+    ensures stop_cost { IfErr result (IsStopCost pass.old pass.new) }
     ensures quiet { IfErr result (λ s. pass.new.quiet ≡ (pass.old.quiet || says_quiet s)) }
 {
     let _main = shared.main();

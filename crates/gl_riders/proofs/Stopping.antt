@@ -26,4 +26,5 @@ was_busy p q x by near other is = record {
   spare = ap (λ (v : PassView). v.spare) is;
   seen = ap (λ (v : PassView). v.seen) is;
   known = ap (λ (v : PassView). v.known) is;
+  cost = ap (λ (v : PassView). v.moves) is;
 }

@@ -1,5 +1,5 @@
 -- A pass between taking a row and putting it back, for an access.
-use Rattle.std.proofs.Common.{◌≡◌, ℕ, zero, suc, ◌+◌, ◌-◌, ◌<◌, ◌||◌, not, map, List, [], ◌∷◌, ◌++◌, set, replicate, refl, sym, ap, subst, arith, ◌∙◌, inl, inr, true, false, Bool, Some, None, eq-eqb}
+use Rattle.std.proofs.Common.{◌≡◌, ℕ, zero, suc, ◌+◌, ◌*◌, length, ◌-◌, ◌<◌, ◌||◌, not, map, List, [], ◌∷◌, ◌++◌, set, replicate, refl, sym, ap, subst, arith, ◌∙◌, inl, inr, true, false, Bool, Some, None, eq-eqb}
 use Rattle.std.specs.Prelude.{ℤ, pos, Option, ◌↔◌, ◌⊎◌, if◌then◌else◌, slice_set, slice_index_or, Contains}
 use Rattle.std.proofs.lemmas.Option.{slice_get_within}
 use Rattle.std.specs.Option.{is_some}
@@ -27,7 +27,8 @@ use Rattle.gl_rule.specs.declared.slot.Slot.TheVariants as slot
 use Rattle.gl_rule.specs.Fitting.{IsFitting, InfosStand, MayMark}
 use Rattle.gl_rule.specs.Lives.{Running, life_of}
 use Rattle.gl_rule.specs.Values.{InRow}
-use Rattle.gl_rule.specs.View.{Held, CellWord, Taken, shelf, new_held, with_tail, without, took, saw_tail, marked, left}
+use Rattle.gl_rule.specs.View.{Held, Moves, moved, with_loads, Taken, shelf, new_held, with_tail, without, took, saw_tail, marked, left}
+use Rattle.gl_rule.proofs.Moves.{six_steps}
 use Rattle.gl_rule.proofs.Lasting.{no_end, has_block}
 use Rattle.gl_shortcut.specs.Ordering.{IsOfNext}
 use Rattle.gl_table.specs.CaughtUp.{block_of, or_zero}
@@ -39,6 +40,7 @@ use Rattle.gl_rows.specs.declared.accessing.Seen.{Seen}
 use Rattle.gl_rows.specs.declared.accessing.Seen.TheVariants.{Value, Raised}
 use Rattle.gl_rows.specs.Accessing.{MayAccess, access_of, RowAfter, IsSeen, HasNumber, Answers, is_raised, value_told, question_of, IsJudged, LoadsOnce}
 use Rattle.gl_rows.specs.Walks.{placed_from, HasWalked, HoldsRow}
+use Rattle.gl_rows.proofs.Costs.{walk_costs}
 use Rattle.gl_rows.proofs.Noting.{OwnLeast, fits_pop, own_stands, still_last, raised_follows, write_follows, read_follows}
 use Rattle.gl_rows.proofs.Windows.{stand_judged}
 
@@ -47,9 +49,9 @@ abbrev pub with_row : PassView → ℕ → Row → ℕ → PassView
 with_row p x row tail = after (after p (took (view_of p) (suc x) (slot.Row row)))
     (saw_tail (view_of (after p (took (view_of p) (suc x) (slot.Row row)))) tail)
 
--- and events were loaded
-abbrev pub walked_row : PassView → ℕ → Row → ℕ → List (ℕ × Stamp) → List CellWord → PassView
-walked_row p x row tail known loaded = record (with_row p x row tail) { known = known; loaded = loaded }
+-- and events were loaded: it has the words and the moves of the pass that loaded them
+abbrev pub walked_row : PassView → ℕ → Row → ℕ → List (ℕ × Stamp) → PassView → PassView
+walked_row p x row tail known walker = record (with_row p x row tail) { known = known; loaded = walker.loaded; moves = walker.moves }
 
 abbrev pub row_held : ℕ → Row → ℕ → Held
 row_held x row tail = with_tail tail (new_held (suc x) (slot.Row row))
@@ -61,11 +63,13 @@ held_is p x row tail = ap (λ b. if b then row_held x row tail else held_at (x +
 
 -- a pass that walked over its row
 pub walked_is : (p : PassView) (x : ℕ) (row : Row) (tail : ℕ) (w u : PassView) → w ≡ with_row p x row tail → HasWalked row w u → u
-    ≡ walked_row p x row tail u.known u.loaded
+    ≡ walked_row p x row tail u.known u
 walked_is p x row tail w u is walk =
     let known = ap (λ (z : PassView). z.known) walk.is in
-    walk.is ∙ ap (λ (l : List (ℕ × Stamp)). record w { known = l; loaded = u.loaded }) (sym known)
-    ∙ ap (λ (z : PassView). record z { known = u.known; loaded = u.loaded }) is
+    walk.is ∙ ap (λ (l : List (ℕ × Stamp)). record w { known = l; loaded = u.loaded; moves = with_loads (5 * length walk.events) w.moves })
+    (sym known)
+    ∙ ap (λ (m : Moves). record w { known = u.known; loaded = u.loaded; moves = m }) (sym (ap (λ (z : PassView). z.moves) walk.is))
+    ∙ ap (λ (z : PassView). record z { known = u.known; loaded = u.loaded; moves = u.moves }) is
 
 -- the question, as far as it is looked at by a test
 asks_as : (p : PassView) (q : Question) (write : Option ℤ) → q.thread ≡ p.own.id → q.commit ≡ None → q.write ≡ is_some write
@@ -150,17 +154,17 @@ entry_told row None true n (Raised m) i = record { write_is = refl; value = refl
 entry_told row None false n (Raised m) i = absurd (let e = i.0 in cc)
 
 -- the access may be marked
-pub may_mark_row : (z : TableView) (p : PassView) (x : ℕ) (row : Row) (tail : ℕ) (known : List (ℕ × Stamp)) (loaded : List CellWord)
+pub may_mark_row : (z : TableView) (p : PassView) (x : ℕ) (row : Row) (tail : ℕ) (known : List (ℕ × Stamp)) (walker : PassView)
     (write : Option ℤ) (race : Bool) → MayAccess z p x
     → ((l : List Stamp) → IsFitting z.key.setting (shelf_of p) tail known l → InfosStand z.key.setting l row
     → (race ≡ true) ↔ SomeFails l row (question_of p.own write))
     → (a : PlainAccess) → a ≡ access_of row write race
-    → MayMarkPlain z.key.setting (walked_row p x row tail known loaded) x a.write a.value a.raised
-may_mark_row z p x row tail known loaded write race may judged a is =
+    → MayMarkPlain z.key.setting (walked_row p x row tail known walker) x a.write a.value a.raised
+may_mark_row z p x row tail known walker write race may judged a is =
     let b = has_block p.own.mine may.runs in
     let f = access_facts row write race in
     let m = access_of row write race in
-    let w = walked_row p x row tail known loaded in
+    let w = walked_row p x row tail known walker in
     subst (λ (k : PlainAccess). MayMarkPlain z.key.setting w x k.write k.value k.raised) (sym is) (record {
       taken = row;
       question = question_of p.own write;
@@ -243,11 +247,11 @@ new_or_old row new q at false raised value w (inr r) o has =
     ]
 
 -- the pass when the access is marked, and when the row is put back
-module _ (p : PassView) (x : ℕ) (row : Row) (tail : ℕ) (known : List (ℕ × Stamp)) (loaded : List CellWord) (nth : ℕ) where
+module _ (p : PassView) (x : ℕ) (row : Row) (tail : ℕ) (known : List (ℕ × Stamp)) (walker : PassView) (nth : ℕ) where
   -- the pass after the mark, by the held object
   abbrev pub at_held : PlainAccess → Held → PassView
   at_held a h =
-      let w = walked_row p x row tail known loaded in
+      let w = walked_row p x row tail known walker in
       after_storing w (marked (view_of w) (shelf w.own.id (w.own.mine ++ Plain x nth false a.write a.value a.raised ∷ [])) w.own.drawn h
       (draw p.own.id (block_of p.own.mine) (Entered (Plain x nth false a.write a.value a.raised))))
 
@@ -259,6 +263,7 @@ module _ (p : PassView) (x : ℕ) (row : Row) (tail : ℕ) (known : List (ℕ ×
     pub known_is : r.known ≡ known
     pub quiet : r.quiet ≡ p.quiet
     pub spare : r.spare ≡ p.spare - 1
+    pub cost : r.moves ≡ moved 2 (moved 1 walker.moves)
 
   or_false : (b : Bool) → (b || false) ≡ b
   or_false true = refl
@@ -268,7 +273,7 @@ module _ (p : PassView) (x : ℕ) (row : Row) (tail : ℕ) (known : List (ℕ ×
   none_left k h e = ap (λ b. if not b then h ∷ [] else []) (eq-eqb h.object k e)
 
   pub is_stored : (a : PlainAccess) (u r : PassView) → p.own.held ≡ [] → u
-      ≡ marked_plain (walked_row p x row tail known loaded) x nth a.write a.value a.raised → r ≡ after u (left (view_of u) (suc x) false)
+      ≡ marked_plain (walked_row p x row tail known walker) x nth a.write a.value a.raised → r ≡ after u (left (view_of u) (suc x) false)
       → IsStored a r
   is_stored a u r empty is end =
       let h = row_held x row tail in
@@ -286,6 +291,7 @@ module _ (p : PassView) (x : ℕ) (row : Row) (tail : ℕ) (known : List (ℕ ×
         known_is = ap (λ (z : PassView). z.known) all;
         quiet = ap (λ (z : PassView). z.quiet) all ∙ or_false p.quiet;
         spare = ap (λ (z : PassView). z.spare) all;
+        cost = ap (λ (z : PassView). z.moves) all;
       }
 
   -- what fits it then fitted it before
@@ -299,7 +305,7 @@ module _ (p : PassView) (x : ℕ) (row : Row) (tail : ℕ) (known : List (ℕ ×
       (subst (λ (k : List (ℕ × Stamp)). IsFitting setting
       (shelf p.own.id (p.own.mine ++ Plain x nth false a.write a.value a.raised ∷ [])) tail k l) s.known_is h)
 
-module _ (setting : Setting) (p : PassView) (x : ℕ) (row : Row) (tail : ℕ) (known : List (ℕ × Stamp)) (loaded : List CellWord)
+module _ (setting : Setting) (p : PassView) (x : ℕ) (row : Row) (tail : ℕ) (known : List (ℕ × Stamp)) (walker : PassView)
     (runs : life_of p.own.mine ≡ Running) (nth : ℕ) (q : Question) (near : p.own.id < THREADS) (by : q.thread ≡ p.own.id) (plain : q.commit
     ≡ None) (least : OwnLeast setting p.own.id p.own.mine q.held) where
   last : last_position p.own.mine ≡ Some (block_of p.own.mine)
@@ -351,12 +357,12 @@ module _ (setting : Setting) (p : PassView) (x : ℕ) (row : Row) (tail : ℕ) (
 
   -- the row may be put back
   pub may_put_row : (a : PlainAccess) → q.write ≡ a.write → (a.write ≡ false → a.raised ≡ false → a.value ≡ row.value)
-      → (new : Row) (u : PassView) → u ≡ marked_plain (walked_row p x row tail known loaded) x nth a.write a.value a.raised
+      → (new : Row) (u : PassView) → u ≡ marked_plain (walked_row p x row tail known walker) x nth a.write a.value a.raised
       → RowAfter row a q tail new
       → MayPutBack setting (shelf_of u) (view_of u) (suc x) (slot.Row new) false
   may_put_row a w v new u is r =
-      let back : MayPutBack setting (shelf_of (at_held p x row tail known loaded nth a (row_held x row tail)))
-      (view_of (at_held p x row tail known loaded nth a (row_held x row tail))) (suc x) (slot.Row new) false = record {
+      let back : MayPutBack setting (shelf_of (at_held p x row tail known walker nth a (row_held x row tail)))
+      (view_of (at_held p x row tail known walker nth a (row_held x row tail))) (suc x) (slot.Row new) false = record {
         held = record (row_held x row tail) { drew = Some (drawn a.write a.raised a.value) };
         has = (0, omega arith, refl);
         object = refl;
@@ -371,12 +377,12 @@ module _ (setting : Setting) (p : PassView) (x : ℕ) (row : Row) (tail : ℕ) (
         quiet = λ e. absurd (cc);
       } in
       subst (λ (z : PassView). MayPutBack setting (shelf_of z) (view_of z) (suc x) (slot.Row new) false)
-      (sym (is ∙ ap (at_held p x row tail known loaded nth a) (held_is p x row tail))) back
+      (sym (is ∙ ap (at_held p x row tail known walker nth a) (held_is p x row tail))) back
 
 -- the events that it loaded
 loads_once : (p : PassView) (x : ℕ) (row : Row) (tail : ℕ) (w u r : PassView) → w ≡ with_row p x row tail → HasWalked row w u → r.seen
-    ≡ tail → r.known ≡ u.known → LoadsOnce row p r
-loads_once p x row tail w u r is walk seen known =
+    ≡ tail → r.known ≡ u.known → r.moves ≡ moved 2 (moved 1 u.moves) → LoadsOnce row p r
+loads_once p x row tail w u r is walk seen known cost =
     let at = ap (λ (z : PassView). z.seen) is in
     let ends = walk.ends in
     record {
@@ -384,30 +390,38 @@ loads_once p x row tail w u r is walk seen known =
       events = walk.events;
       known = known ∙ ap (λ (z : PassView). z.known) walk.is ∙ ap (λ (z : PassView). z.known ++ placed_from walk.from walk.events) is;
       ends = omega arith;
+      cost = cost ∙ ap (λ (z : PassView). moved 2 (moved 1 z.moves)) walk.is
+          ∙ ap (λ (z : PassView). moved 2 (moved 1 (with_loads (5 * length walk.events) z.moves))) is
+          ∙ ap (with_loads (5 * length walk.events)) (six_steps p.moves);
       named = walk.named;
     }
 
 -- none, where an early cut is sure of each Info that conflicts
 pub loads_none : (p : PassView) (x : ℕ) (row : Row) (tail : ℕ) (w u r : PassView) → w ≡ with_row p x row tail → u ≡ w → r.known ≡ u.known
-    → r.known ≡ p.known
-loads_none p x row tail w u r is same known = known ∙ ap (λ (z : PassView). z.known) (same ∙ is)
+    → r.moves ≡ moved 2 (moved 1 u.moves) → (r.known ≡ p.known) × (r.moves ≡ moved 6 p.moves)
+loads_none p x row tail w u r is same known cost = (
+  known ∙ ap (λ (z : PassView). z.known) (same ∙ is),
+  cost ∙ ap (λ (z : PassView). moved 2 (moved 1 z.moves)) (same ∙ is) ∙ six_steps p.moves,
+)
 
 -- what the call tells of the row that it took
-pub is_judged : (setting : Setting) (p : PassView) (x : ℕ) (row : Row) (tail : ℕ) (known : List (ℕ × Stamp)) (loaded : List CellWord)
-    (nth : ℕ) (write : Option ℤ) (race : Bool) (a : PlainAccess) (s : Seen) (r : PassView) (w u : PassView) → w ≡ with_row p x row tail
+pub is_judged : (setting : Setting) (p : PassView) (x : ℕ) (row : Row) (tail : ℕ) (known : List (ℕ × Stamp)) (u : PassView)
+    (nth : ℕ) (write : Option ℤ) (race : Bool) (a : PlainAccess) (s : Seen) (r : PassView) (w : PassView) → w ≡ with_row p x row tail
     → IsWithin row w.seen → HasWalked row w u → known ≡ u.known
-    → a ≡ access_of row write race → IsSeen a nth s → IsStored p x row tail known loaded nth a r
+    → a ≡ access_of row write race → IsSeen a nth s → IsStored p x row tail known u nth a r
     → ((l : List Stamp) → IsFitting setting (shelf_of p) tail known l → InfosStand setting l row
     → (race ≡ true) ↔ SomeFails l row (question_of p.own write)) → IsJudged setting x write p s r
-is_judged setting p x row tail known loaded nth write race a s r w u took within walk events is seen stored judged =
+is_judged setting p x row tail known u nth write race a s r w took within walk events is seen stored judged =
     let told = entry_told row write race nth s (subst (λ (b : PlainAccess). IsSeen b nth s) is seen) in
     let same : is_raised s ≡ race = sym told.raised ∙ (access_facts row write race).1 in
+    let loads = loads_once p x row tail w u r took walk stored.seen (stored.known_is ∙ events) stored.cost in
     record {
       row = row;
       took = stored.reads;
       within = subst (IsWithin row) (ap (λ (z : PassView). z.seen) took ∙ sym stored.seen) within;
       answers = told.answers;
-      loads = loads_once p x row tail w u r took walk stored.seen (stored.known_is ∙ events);
-      raised = λ l f stand. let k = judged l (fits_stored p x row tail known loaded nth setting a r stored l f) stand
+      loads = loads;
+      cost = walk_costs row loads.from r.seen 6 loads.events p r loads.ends loads.named loads.cost;
+      raised = λ l f stand. let k = judged l (fits_stored p x row tail known u nth setting a r stored l f) stand
           in (λ e. k.0 (sym same ∙ e), λ e. same ∙ k.1 e);
     }

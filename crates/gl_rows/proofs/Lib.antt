@@ -4,3 +4,4 @@ pub mod Accessed
 pub mod Moved
 pub mod Lifting
 pub mod Swept
+pub mod Costs

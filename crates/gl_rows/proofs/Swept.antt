@@ -17,6 +17,7 @@ use Rattle.gl_table.specs.TableView.{TableView}
 use Rattle.gl_rows.specs.Advancing.{HasAdvanced, LoadedHolds}
 use Rattle.gl_rows.specs.Sweeping.{IsFar, IsStill, IsTried, AreTried, IsSwept}
 use Rattle.gl_rows.specs.Walks.{ReadBusy}
+use Rattle.gl_rows.proofs.Costs.{costs_same, costs_steps, costs_walked, costs_both}
 
 -- more reads say no less
 far_left : (t x to : ℕ) (a b : List Read) → IsFar t x to a → IsFar t x to (a ++ b)
@@ -57,19 +58,25 @@ tried_far x to n p q is le = record {
   further = Hold (x + 1) n ∷ [];
   reads = ap (λ (z : PassView). z.reads) is;
   far = inl (n, subst (λ h. Contains (h ∷ []) (Hold (suc x) n)) (sym (at_once x n)) (0, omega arith, refl), le);
+  cost = costs_both 1 0 9 p q q (costs_steps 1 p q (ap (λ (z : PassView). z.known) is) (ap (λ (z : PassView). z.moves) is))
+      (costs_same q) (omega arith);
 }
 
-holds_far : (t x to hold : ℕ) (row : _) (holds : List Read) → LoadedHolds x to hold holds
+holds_far : (t x to hold steps : ℕ) (row : _) (holds : List Read) → LoadedHolds x to hold holds steps
     → IsFar t x to (Taken (suc x) (slot.Row row) ∷ holds)
-holds_far t x to hold row holds (inl (le, is)) =
+holds_far t x to hold steps row holds (inl (le, is, some)) =
     inl (hold, subst (λ hs. Contains (Taken (suc x) (slot.Row row) ∷ hs) (Hold (suc x) hold)) (sym is) (1, omega arith, refl), le)
-holds_far t x to hold row holds (inr (before, below, same, is)) =
+holds_far t x to hold steps row holds (inr (before, below, same, is, some)) =
     inl (
       hold,
       subst (λ hs. Contains (Taken (suc x) (slot.Row row) ∷ hs) (Hold (suc x) hold)) (sym is) (2, omega arith, refl),
       (let e = same
           in omega arith),
     )
+
+few_steps : (x to hold steps : ℕ) (holds : List Read) → LoadedHolds x to hold holds steps → steps ≤ 8
+few_steps x to hold steps holds (inl (le, is, some)) = omega arith
+few_steps x to hold steps holds (inr (before, below, same, is, some)) = omega arith
 
 -- a row that was to be moved up, whatever came of it
 pub tried_by : (x to n : ℕ) (p q r : PassView) (answer : Result ℕ WasBusy) → q ≡ after p (saw (view_of p) (Hold (x + 1) n))
@@ -81,7 +88,9 @@ tried_by x to n p q r (Ok hold) is done busy still =
       reads = h.reads ∙ ap (λ (z : PassView). z.reads ++ Taken (suc x) (slot.Row h.row) ∷ h.holds) is
           ∙ append_assoc p.reads (Hold (x + 1) n ∷ []) (Taken (suc x) (slot.Row h.row) ∷ h.holds);
       far = far_right p.own.id x to (Hold (x + 1) n ∷ []) (Taken (suc x) (slot.Row h.row) ∷ h.holds)
-          (holds_far p.own.id x to hold h.row h.holds h.loaded);
+          (holds_far p.own.id x to hold h.steps h.row h.holds h.loaded);
+      cost = costs_both 1 8 9 p q r (costs_steps 1 p q (ap (λ (z : PassView). z.known) is) (ap (λ (z : PassView). z.moves) is))
+          (costs_walked h.from h.steps 8 h.events q r h.known h.cost (few_steps x to hold h.steps h.holds h.loaded)) (omega arith);
     }
 tried_by x to n p q r (Err b) is done busy still = record {
   still = still_trans p q r (still_saw p q (Hold (x + 1) n) is) still;
@@ -90,11 +99,19 @@ tried_by x to n p q r (Err b) is done busy still = record {
       ∙ append_assoc p.reads (Hold (x + 1) n ∷ []) (Busy (suc x) b.by ∷ []);
   far = far_right p.own.id x to (Hold (x + 1) n ∷ []) (Busy (suc x) b.by ∷ [])
       (inr (b.by, (0, omega arith, refl), subst (λ (z : PassView). b.by ≢ z.own.id) is busy.other));
+  cost = costs_both 1 1 9 p q r (costs_steps 1 p q (ap (λ (z : PassView). z.known) is) (ap (λ (z : PassView). z.moves) is))
+      (costs_steps 1 q r busy.known busy.cost) (omega arith);
 }
 
 -- no row yet
 pub tried_none : (to : ℕ) (p : PassView) → AreTried 0 to p p
-tried_none to p = record { still = still_same p; further = []; reads = sym (append-nil p.reads); far = λ x near. absurd (omega arith) }
+tried_none to p = record {
+  still = still_same p;
+  further = [];
+  reads = sym (append-nil p.reads);
+  far = λ x near. absurd (omega arith);
+  cost = costs_same p;
+}
 
 -- one row more
 pub tried_next : (k to : ℕ) (p q r : PassView) → AreTried k to p q → IsTried k to q r → AreTried (k + 1) to p r
@@ -107,6 +124,7 @@ tried_next k to p q r a t = record {
         (far_right p.own.id k to a.further t.further (far_of k to p q t.further a.still.own t.far))
     | no ne ↦ far_left p.own.id x to a.further t.further (a.far x (omega arith))
   ];
+  cost = costs_both (9 * k) 9 (9 * (k + 1)) p q r a.cost t.cost (omega arith);
 }
 
 -- the tail was loaded first
@@ -189,4 +207,9 @@ swept z p q r s tail to low some is later own to_is tried settles =
           up,
         )
       ];
+      cost =
+          let first = costs_steps 1 p q (ap (λ (x : PassView). x.known) is) (ap (λ (x : PassView). x.moves) is) in
+          let rows = costs_both 1 (9 * VARIABLES) (9 * VARIABLES + 1) p q r first tried.cost (omega arith) in
+          costs_both (9 * VARIABLES + 1) (VARIABLES + 1) (10 * VARIABLES + 2) p r s rows
+          (costs_steps (VARIABLES + 1) r s settles.known settles.cost) (omega arith);
     }

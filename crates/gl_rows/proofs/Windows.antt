@@ -1,5 +1,5 @@
 -- A row's Infos in the window that was loaded for it, and what a pass knows by it.
-use Rattle.std.proofs.Common.{◌≡◌, ℕ, zero, suc, ◌+◌, ◌≤◌, ◌<◌, List, [], ◌∷◌, ◌++◌, length, refl, sym, ap, subst, ◌∙◌, inl, inr, arith, append_assoc, append-nil, add-zero, Some}
+use Rattle.std.proofs.Common.{◌≡◌, ℕ, zero, suc, ◌+◌, ◌*◌, ◌≤◌, ◌<◌, List, [], ◌∷◌, ◌++◌, length, length-append, refl, sym, ap, subst, ◌∙◌, inl, inr, arith, append_assoc, append-nil, add-zero, Some}
 use Rattle.std.specs.Prelude.{◌⊎◌, Contains, slice_get}
 use Rattle.std.proofs.lemmas.List.Elements.{All-contains, All-contains_itself, All-weaker, Contains-append_left, Contains-append_right}
 use Rattle.gl_model.specs.declared.event.Stamp.{Stamp}
@@ -12,8 +12,9 @@ use Rattle.gl_judge.specs.Standing as judging
 use Rattle.gl_rule.specs.Agreeing.{IsWindow}
 use Rattle.gl_rule.specs.Fitting.{IsFitting, InfosStand}
 use Rattle.gl_rule.specs.Values.{InRow}
-use Rattle.gl_rule.specs.View.{Shelf}
+use Rattle.gl_rule.specs.View.{Shelf, Moves, with_loads}
 use Rattle.gl_rule.proofs.HeldLists.{in_cons}
+use Rattle.gl_rule.proofs.Moves.{loads_both, loads_none}
 use Rattle.gl_table.specs.PassView.{PassView}
 use Rattle.gl_rows.specs.Walks.{placed_from, KnowsFrom, HasWalkedTo, HasWalked}
 
@@ -46,16 +47,20 @@ placed_at n (y ∷ xs) (suc k) x e =
 -- a pass that loaded nothing
 pub knows_none : (n : ℕ) (p : PassView) → KnowsFrom n [] p p
 knows_none n p = ap (λ (known : List (ℕ × Stamp)). record p { known = known }) (sym (append-nil p.known))
+    ∙ ap (λ (m : Moves). record p { known = p.known ++ []; moves = m }) (loads_none p.moves)
 
 -- a pass that loaded one event more
 pub knows_next : (n m : ℕ) (xs : List Stamp) (x : Stamp) (p q r : PassView) → n + length xs ≡ m → KnowsFrom n xs p q → r
-    ≡ record q { known = r.known; loaded = r.loaded } → r.known ≡ q.known ++ (m, x) ∷ [] → KnowsFrom n (xs ++ x ∷ []) p r
+    ≡ record q { known = r.known; loaded = r.loaded; moves = with_loads 5 q.moves } → r.known ≡ q.known ++ (m, x) ∷ [] → KnowsFrom n (xs ++ x ∷ []) p r
 knows_next n m xs x p q r at is more known =
     let k : r.known ≡ p.known ++ placed_from n (xs ++ x ∷ []) =
     known ∙ ap (λ (z : PassView). z.known ++ (m, x) ∷ []) is ∙ append_assoc p.known (placed_from n xs) ((m, x) ∷ [])
     ∙ ap (λ (l : List (ℕ × Stamp)). p.known ++ l) (ap (λ j. placed_from n xs ++ (j, x) ∷ []) (sym at) ∙ sym (placed_push n xs x)) in
-    more ∙ ap (λ (z : PassView). record z { known = r.known; loaded = r.loaded }) is
-    ∙ ap (λ (l : List (ℕ × Stamp)). record p { known = l; loaded = r.loaded }) k
+    let count : 5 * length xs + 5 ≡ 5 * length (xs ++ x ∷ []) = let l = length-append xs (x ∷ []) in omega arith in
+    more ∙ ap (λ (z : PassView). record z { known = r.known; loaded = r.loaded; moves = with_loads 5 z.moves }) is
+    ∙ ap (λ (l : List (ℕ × Stamp)). record p { known = l; loaded = r.loaded; moves = with_loads 5 (with_loads (5 * length xs) p.moves) }) k
+    ∙ ap (λ (m : Moves). record p { known = p.known ++ placed_from n (xs ++ x ∷ []); loaded = r.loaded; moves = m })
+    (loads_both (5 * length xs) 5 (5 * length (xs ++ x ∷ [])) p.moves count)
 
 -- the pass knows each of the events that it loaded
 pub known_from : (n : ℕ) (xs : List Stamp) (p q : PassView) → KnowsFrom n xs p q → (k : ℕ) (x : Stamp) → slice_get xs k ≡ Some x

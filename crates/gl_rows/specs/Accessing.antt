@@ -1,5 +1,5 @@
 -- What a checked access asks of its pass, and does.
-use Rattle.std.specs.Prelude.{◌≡◌, ◌↔◌, ◌⊎◌, ℕ, ℤ, suc, ◌<◌, ◌^◌, true, false, pos, Bool, if◌then◌else◌, List, [], ◌∷◌, ◌++◌, ◌+◌, length, Option, Some, None, Contains}
+use Rattle.std.specs.Prelude.{◌≡◌, ◌↔◌, ◌⊎◌, ℕ, ℤ, suc, ◌<◌, ◌^◌, true, false, pos, Bool, if◌then◌else◌, List, [], ◌∷◌, ◌++◌, ◌+◌, ◌*◌, length, Option, Some, None, Contains}
 use Rattle.std.specs.Option.{is_some}
 use Rattle.gl_model.specs.declared.event.Stamp.{Stamp}
 use Rattle.gl_model.specs.declared.limits.TheConstants.{THREADS}
@@ -20,11 +20,12 @@ use Rattle.gl_rule.specs.Fitting.{IsFitting, InfosStand}
 use Rattle.gl_rule.specs.Lives.{Running, life_of}
 use Rattle.gl_rule.specs.Levels.{levels_of, AreLeastEntered}
 use Rattle.gl_rule.specs.Values.{InRow}
-use Rattle.gl_rule.specs.View.{Taken}
+use Rattle.gl_rule.specs.View.{Taken, moved, with_loads}
 use Rattle.gl_shortcut.specs.declared.cuts.Cuts.{Cuts}
 use Rattle.gl_shortcut.specs.Surely.{SayYesSurely}
 use Rattle.gl_table.specs.PassView.{PassView, Own, shelf_of}
 use Rattle.gl_table.specs.TableView.{TableView}
+use Rattle.gl_rows.specs.Costs.{WalkCosts}
 use Rattle.gl_rows.specs.Walks.{placed_from}
 
 -- the pass is of this table, holds nothing, waits for no entry, does not owe the variable, has room for an entry, and its thread runs
@@ -88,6 +89,8 @@ pub record LoadsOnce (row : Row) (p q : PassView) : Type 0 where
   pub events : List Stamp
   pub known : q.known ≡ p.known ++ placed_from from events
   pub ends : from + length events ≡ q.seen
+  -- five words were loaded of each, and six other steps made: two to take the row, one for the tail, one for the number, and two to put it back
+  pub cost : q.moves ≡ with_loads (5 * length events) (moved 6 p.moves)
   pub named : (events ≡ []) ⊎ ((i : Info) × InRow row i × (i.pos ≡ from))
 
 -- no event is loaded where, of each Info that conflicts with the access, some early cut says for sure that it is ordered before it: asked of
@@ -96,7 +99,7 @@ abbrev pub LoadsNone : {X : _} {Y : _} {f : _} {g : _} → Cuts X Y f g → ℕ 
 LoadsNone cuts x write p q =
     (row : Row) × (q.reads ≡ p.reads ++ Taken (suc x) (slot.Row row) ∷ []) × (held : List ℕ) × AreLeastEntered (levels_of p.own.mine) held
     × (((i : Info) → Keeps row i → Conflicts i (record (question_of p.own write) { held = held }) → (i.thread < THREADS)
-    × SayYesSurely cuts i (record (question_of p.own write) { held = held })) → q.known ≡ p.known)
+    × SayYesSurely cuts i (record (question_of p.own write) { held = held })) → (q.known ≡ p.known) × (q.moves ≡ moved 6 p.moves))
 
 -- the row that the call took, by which it answered: raised exactly where some Info that conflicts with the access fails its test, over each
 -- list of events that the pass cannot tell from the table's and in which the row's Infos stand for accesses
@@ -107,5 +110,6 @@ pub record IsJudged (setting : Setting) (x : ℕ) (write : Option ℤ) (p : Pass
   pub within : IsWithin row q.seen
   pub answers : Answers row write s
   pub loads : LoadsOnce row p q
+  pub cost : WalkCosts row q.seen 6 p q
   pub raised : (l : List Stamp) → IsFitting setting (shelf_of q) q.seen q.known l → InfosStand setting l row
       → (is_raised s ≡ true) ↔ SomeFails l row (question_of p.own write)

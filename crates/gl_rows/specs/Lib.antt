@@ -4,3 +4,4 @@ pub mod Accessing
 pub mod Moving
 pub mod Advancing
 pub mod Sweeping
+pub mod Costs

@@ -1,10 +1,11 @@
 -- A pass that makes room in the ring.
-use Rattle.std.specs.Prelude.{◌≡◌, ◌≢◌, ◌⊎◌, ℕ, suc, ◌/◌, ◌*◌, max, ◌<◌, ◌≤◌, List, [], ◌∷◌, ◌++◌, Contains}
+use Rattle.std.specs.Prelude.{◌≡◌, ◌≢◌, ◌⊎◌, ℕ, suc, ◌+◌, ◌/◌, ◌*◌, max, ◌<◌, ◌≤◌, List, [], ◌∷◌, ◌++◌, Contains}
 use Rattle.gl_model.specs.declared.limits.TheConstants.{VARIABLES}
 use Rattle.gl_rule.specs.View.{Read, Hold, Busy}
 use Rattle.gl_table.specs.PassView.{PassView}
 use Rattle.gl_table.specs.TableView.{TableView}
 use Rattle.gl_events.specs.Settling.{trims}
+use Rattle.gl_rows.specs.Costs.{CostsAtMost}
 
 -- by these reads of pass t the hold of x's row is at least the position, or its turn was read as held by another pass
 abbrev pub IsFar : ℕ → ℕ → ℕ → List Read → Type 0
@@ -24,6 +25,7 @@ pub record IsTried (x to : ℕ) (p q : PassView) : Type 0 where
   pub further : List Read
   pub reads : q.reads ≡ p.reads ++ further
   pub far : IsFar p.own.id x to further
+  pub cost : CostsAtMost 9 p q
 
 -- the rows of the variables below k were tried
 pub record AreTried (k to : ℕ) (p q : PassView) : Type 0 where
@@ -31,6 +33,7 @@ pub record AreTried (k to : ℕ) (p q : PassView) : Type 0 where
   pub further : List Read
   pub reads : q.reads ≡ p.reads ++ further
   pub far : (x : ℕ) → x < k → IsFar p.own.id x to further
+  pub cost : CostsAtMost (9 * k) p q
 
 -- the segment is at least that of the tail, or, of a row whose turn pass t read as held by another as it tried the rows, at least that of its
 -- hold, as it was loaded after the tries
@@ -58,3 +61,5 @@ pub record IsSwept (z : TableView) (p q : PassView) (low : ℕ) : Type 0 where
   pub is_one : (x : ℕ) × (x < VARIABLES) × Contains holds (Hold (suc x) least)
   pub low_is : low ≡ max before (least / z.key.cells)
   pub reaches : Reaches p.own.id z.key.cells tail low tries holds
+  -- ten steps a row, and two
+  pub cost : CostsAtMost (10 * VARIABLES + 2) p q

@@ -1,11 +1,11 @@
 -- A pass that loads events.
-use Rattle.std.specs.Prelude.{◌≡◌, ◌≢◌, ◌⊎◌, ℕ, suc, ◌+◌, ◌<◌, List, [], ◌∷◌, ◌++◌, length, Contains}
+use Rattle.std.specs.Prelude.{◌≡◌, ◌≢◌, ◌⊎◌, ℕ, suc, ◌+◌, ◌*◌, ◌<◌, List, [], ◌∷◌, ◌++◌, length, Contains}
 use Rattle.gl_model.specs.declared.event.Stamp.{Stamp}
 use Rattle.gl_model.specs.declared.row.Info.{Info}
 use Rattle.gl_model.specs.declared.row.Row.{Row}
 use Rattle.gl_rule.specs.declared.slot.Slot.TheVariants as slot
 use Rattle.gl_rule.specs.Values.{InRow}
-use Rattle.gl_rule.specs.View.{Held, Busy}
+use Rattle.gl_rule.specs.View.{Held, Busy, moved, with_loads}
 use Rattle.gl_table.specs.PassView.{PassView}
 
 -- the pass holds a row, which is this as it was taken
@@ -17,9 +17,9 @@ abbrev pub placed_from : ℕ → List Stamp → List (ℕ × Stamp)
 placed_from n [] = []
 placed_from n (x ∷ xs) = (n, x) ∷ placed_from (suc n) xs
 
--- the pass knows these events from a position on, and words of their cells; nothing else of it changed
+-- the pass loaded these events from a position on, five words of each; it knows them, and nothing else of it changed
 abbrev pub KnowsFrom : ℕ → List Stamp → PassView → PassView → Type 0
-KnowsFrom n xs p q = q ≡ record p { known = p.known ++ placed_from n xs; loaded = q.loaded }
+KnowsFrom n xs p q = q ≡ record p { known = p.known ++ placed_from n xs; loaded = q.loaded; moves = with_loads (5 * length xs) p.moves }
 
 -- the pass loaded the events from a position up to another, each of them once, and did nothing else. The first position is that of an Info of the
 -- row, or nothing was loaded
@@ -43,3 +43,4 @@ pub record ReadBusy (x by : ℕ) (p q : PassView) : Type 0 where
   pub spare : q.spare ≡ p.spare
   pub seen : q.seen ≡ p.seen
   pub known : q.known ≡ p.known
+  pub cost : q.moves ≡ moved 1 p.moves

@@ -13,6 +13,7 @@ ghost use Rattle.gl_rule.specs.Objects.{capacity};
 ghost use Rattle.gl_shortcut.specs.Ordering.{IsOfNext};
 ghost use Rattle.gl_shortcut.specs.Surely.{SayYesSurely};
 ghost use Rattle.gl_table.specs.PassView.{shelf_of};
+ghost use Rattle.gl_rows.specs.Costs.{WalkCosts};
 ghost use Rattle.gl_rows.specs.Walks.{HoldsRow, HasWalked};
 
 use crate::walking::{least, load};
@@ -66,6 +67,7 @@ pub fn check(
     requires window { capacity shared.now.key ≤ window.old }
     ensures pass { HasWalked row.now pass.old pass.new }
     ensures race { (setting : Setting) (l : List AStamp) → IsFitting setting (shelf_of pass.new) pass.new.seen pass.new.known l → IsOfNext setting l q.now → InfosStand setting l row.now → (result ≡ Race) ↔ SomeFails l row.now q.now }
+    ensures cost { WalkCosts row.now pass.old.seen 0 pass.old pass.new }
     ensures sure { ((i : AnInfo) → Keeps row.now i → Conflicts i q.now → (i.thread < THREADS) × SayYesSurely cuts.now i q.now) → pass.new ≡ pass.old }
     ensures window { window.new ≡ window.old }
 {

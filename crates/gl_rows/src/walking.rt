@@ -7,6 +7,7 @@ ghost use Rattle.gl_draws.specs.RowFacts.{read_of};
 ghost use Rattle.gl_rule.specs.Fitting.{MayWalk};
 ghost use Rattle.gl_rule.specs.Objects.{capacity};
 ghost use Rattle.gl_rule.specs.Values.{InRow};
+ghost use Rattle.gl_rule.specs.View.{with_loads};
 ghost use Rattle.gl_table.specs.PassView.{view_of};
 ghost use Rattle.gl_rows.specs.Walks.{KnowsFrom};
 
@@ -58,7 +59,7 @@ fn keep(shared: &Shared, pass: &mut Pass, pos: u64, window: &mut Vec<Stamp>)
     requires table { pass.old.own.table ≡ shared.now.id }
     requires may { (pos < pass.old.seen) × MayWalk (view_of pass.old) pos }
     requires room { pass.old.seen ≤ pos + capacity shared.now.key → vec_len window.old < vec_capacity window.old }
-    ensures pass { pass.new ≡ record pass.old { known = pass.new.known; loaded = pass.new.loaded } }
+    ensures pass { pass.new ≡ record pass.old { known = pass.new.known; loaded = pass.new.loaded; moves = with_loads 5 pass.old.moves } }
     ensures known { (event : AStamp) × (pass.new.known ≡ pass.old.known ++ (pos, event) ∷ []) × (window.new.items ≡ window.old.items ++ event ∷ []) × IsStampInRange event }
     ensures ring { pass.old.seen ≤ pos + capacity shared.now.key }
     ensures room { vec_capacity window.new ≡ vec_capacity window.old }

@@ -33,3 +33,4 @@ pub mod Words
 pub mod Safety
 pub mod Agreeing
 pub mod Levels
+pub mod Moves

@@ -4,13 +4,13 @@ use Rattle.gl_model.specs.declared.row.Question.{Question}
 use Rattle.gl_model.specs.declared.tx.Tx.{Tx}
 use Rattle.gl_model.specs.Machine.{Setting}
 use Rattle.gl_rule.specs.Commits.{MayCommit, HeldRow}
-use Rattle.gl_rule.specs.View.{View, Shelf}
+use Rattle.gl_rule.specs.View.{View, Shelf, filled}
 
-row_stored : (s : Shelf) (v : View) (p y : ℕ) (ws : List ℕ) → HeldRow s v p y → HeldRow s (record v { stored = ws }) p y
+row_stored : (s : Shelf) (v : View) (p y : ℕ) (ws : List ℕ) → HeldRow s v p y → HeldRow s (filled v ws) p y
 row_stored s v p y ws r = record { one = r.one; row = r.row; held = r.held; object = r.object; taken = r.taken; drew = r.drew }
 
 pub commit_stored : (setting : Setting) (s : Shelf) (v : View) (tx : Tx) (p m : ℕ) (question : ℕ → Question) (ws : List ℕ)
-    → MayCommit setting s v tx p m question → MayCommit setting s (record v { stored = ws }) tx p m question
+    → MayCommit setting s v tx p m question → MayCommit setting s (filled v ws) tx p m question
 unfolding row_stored
 commit_stored setting s v tx p m question ws may = record {
   block = may.block;

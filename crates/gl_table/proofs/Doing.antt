@@ -3,6 +3,7 @@ use Rattle.std.proofs.Common.{◌≡◌, ℕ, suc, ◌+◌, ◌*◌, ◌<◌, Li
 use Rattle.std.specs.Prelude.{ℤ, Contains, Option, if◌then◌else◌}
 use Rattle.gl_model.specs.declared.event.Act.{Act}
 use Rattle.gl_model.specs.declared.event.Event.TheVariants.{Act as Does}
+use Rattle.gl_model.specs.declared.event.Stamp.{Stamp}
 use Rattle.gl_model.specs.Elements.{IsActInRange}
 use Rattle.gl_model.specs.Entries.{Entry, Sync}
 use Rattle.gl_model.specs.Form.{EntryForm, IsBegin}
@@ -14,15 +15,16 @@ use Rattle.gl_state.specs.Entering.{monitor_of, IsShallow}
 use Rattle.gl_rule.specs.Fitting.{MayLeaveAt}
 use Rattle.gl_state.specs.ListView.{ListView}
 use Rattle.gl_model.specs.declared.row.Row.{Row}
+use Rattle.gl_rule.specs.Cells.{packed}
 use Rattle.gl_rule.specs.Lives.{Running, life_of}
 use Rattle.gl_rule.specs.Objects.{Key, capacity}
 use Rattle.gl_table.specs.PassView.{PassView, view_of, shelf_of, after, after_storing}
 use Rattle.gl_draws.specs.Forming.{MayStore}
-use Rattle.gl_table.specs.Putting.{DoesNotHold, MayPublishAct, MayPutBack}
+use Rattle.gl_table.specs.Putting.{DoesNotHold, MayPublishAct, MayPutBack, published_act}
 use Rattle.gl_state.specs.States.{IsStateOf, monitor_state}
 use Rattle.gl_table.specs.TableView.{TableView}
 use Rattle.gl_rule.specs.Taken.{StateTold}
-use Rattle.gl_rule.specs.View.{View, Held, Shelf, shelf, new_held, with_tail, took, saw, saw_tail, Hold, Taken, published, after_publish}
+use Rattle.gl_rule.specs.View.{View, Held, Shelf, shelf, new_held, with_tail, took, saw, saw_tail, Hold, Taken, filled, published, after_publish}
 use Rattle.gl_draws.specs.Draws.{Draw}
 use Rattle.gl_rule.proofs.HeldLists.{in_mapped}
 use Rattle.gl_table.proofs.Passes.{published_object}
@@ -152,12 +154,12 @@ taken_after n y drew h e = ap (λ b. (if b then record h { taken = y; tails = su
 -- and once the act is published it may go back as it is then
 pub may_put_told : (key : Key) (setting : Setting) (p : PassView) (act : Act) (value : ℤ) (l : ListView) (n : ℕ) (q : PassView)
     → MayPublishAct key p act value l
-    → q ≡ after_storing p (published (view_of p) p.own.id p.own.mine (Sync n act value) n (record { thread = p.own.id; event = Does act })
-    (slot.List l) (λ g. g.drew)) → MayPutBack setting (shelf_of q) (view_of q) 0 (slot.List l) false
+    → q ≡ published_act p act value n l → MayPutBack setting (shelf_of q) (view_of q) 0 (slot.List l) false
 may_put_told key setting p act value l n q m is =
     let drew : Held → Option Draw = λ g. g.drew in
     let y = slot.List l in
-    let u = published (view_of p) p.own.id p.own.mine (Sync n act value) n (record { thread = p.own.id; event = Does act }) y drew in
+    let x : Stamp = record { thread = p.own.id; event = Does act } in
+    let u = published (filled (view_of p) (packed x)) p.own.id p.own.mine (Sync n act value) n x y drew in
     let h = after_publish n y drew m.held in
     let zero_object = published_object n y drew m.held ∙ m.may.list in
     subst (λ (r : PassView). MayPutBack setting (shelf_of r) (view_of r) 0 y false) (sym is) (record {

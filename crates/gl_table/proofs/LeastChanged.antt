@@ -1,6 +1,6 @@
 -- The least monitors that are entered, after a monitor is entered or left.
-use Rattle.std.proofs.Common.{◌≡◌, ℕ, zero, suc, ◌+◌, ◌<◌, ◌≤◌, List, [], ◌∷◌, length, take, get_or, sym, ap, subst, arith, ◌∙◌, inl, inr, true, false, refl}
-use Rattle.std.specs.Prelude.{◌⊎◌, ◌==◌, slice_index, slice_set, Contains, if◌then◌else◌}
+use Rattle.std.proofs.Common.{◌≡◌, ℕ, zero, suc, ◌+◌, ◌<◌, ◌≤◌, List, [], ◌∷◌, length, take, get_or, sym, ap, subst, arith, inl, inr, refl}
+use Rattle.std.specs.Prelude.{◌⊎◌, slice_index, Contains}
 use Rattle.std.specs.List.Sorted.{IsStrictlyIncreasing}
 use Rattle.std.proofs.lemmas.Bool.{cases_lt}
 use Rattle.std.proofs.lemmas.List.{take_all, get_or_past, get_or_default}

@@ -1,6 +1,6 @@
 -- The least monitors that are entered, found from the front.
 use Rattle.std.proofs.Common.{◌≡◌, ℕ, ◌+◌, ◌<◌, ◌≤◌, List, [], ◌∷◌, ◌++◌, length, take, get_or, sym, ap, subst, arith, ◌∙◌, inl, inr, length-append}
-use Rattle.std.specs.Prelude.{◌⊎◌, ◌==◌, slice_index, slice_set, Contains, if◌then◌else◌}
+use Rattle.std.specs.Prelude.{◌⊎◌, slice_index, slice_set, Contains}
 use Rattle.std.specs.List.Sorted.{IsStrictlyIncreasing}
 use Rattle.std.proofs.lemmas.Bool.{cases_lt}
 use Rattle.std.proofs.lemmas.List.{take_all, take-append-le, get_or_past, get_or_push, get_or_append_left, get_or-set_same, get_or-set_other}

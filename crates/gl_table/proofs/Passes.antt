@@ -1,5 +1,5 @@
 -- A pass's fields after each step.
-use Rattle.std.proofs.Common.{◌≡◌, ◌≢◌, ℕ, suc, ◌+◌, ◌-◌, ◌<◌, ◌≤◌, List, [], ◌∷◌, ◌++◌, take, length, drop, sym, refl, ap, subst, arith, ◌∙◌, ⊎_elim, append-nil, IsPermutation, Bool, true, false, ◌==◌, ◌||◌, inl, inr}
+use Rattle.std.proofs.Common.{◌≡◌, ◌≢◌, ℕ, suc, ◌+◌, ◌-◌, ◌<◌, ◌≤◌, List, [], ◌∷◌, ◌++◌, take, length, drop, sym, refl, ap, subst, arith, ◌∙◌, ⊎_elim, append-nil, length-append, IsPermutation, Bool, true, false, ◌==◌, ◌||◌, inl, inr}
 use Rattle.std.specs.Prelude.{Contains, Some, None, ℤ, if◌then◌else◌, Option, nat_lt}
 use Rattle.gl_model.specs.declared.event.Act.{Act}
 use Rattle.gl_model.specs.declared.event.Event.TheVariants.{Act as Does}
@@ -21,7 +21,7 @@ use Rattle.gl_table.specs.CaughtUp.{caught_up, adds_all, adds_one, first_marked}
 use Rattle.gl_rule.specs.Knowledge.{AreBelow}
 use Rattle.gl_rule.specs.Objects.{objects}
 use Rattle.gl_table.specs.PassInside.{IsReady, IsPass, AreOut, empties}
-use Rattle.gl_rule.specs.View.{View, Held, HasObject, shelf, took, refused, left, saw_tail, with_tail, saw, Read, without, published, after_publish, marked, lowered}
+use Rattle.gl_rule.specs.View.{View, Held, HasObject, shelf, took, refused, left, saw_tail, with_tail, saw, Read, without, put_word, filled, published, after_publish, marked, lowered}
 use Rattle.gl_rule.specs.Taken.{TakenTold}
 use Rattle.gl_rule.specs.Told.{Took, SawTail, Saw, PutWord, PublishedAct, Marked, Opened, Lowered, what_of}
 use Rattle.gl_rule.specs.Adding.{MayAdd}
@@ -152,12 +152,12 @@ module _ (me : table.Me Slot View) (t : ℕ) (mine : List Entry) (seen : ℕ) (o
 
   -- an event is published, whose words are in the cell: its entry is e and its stamp x
   pub pass_tells : (ws : List ℕ) (e : Entry) (x : Stamp) (drew : Held → Option Draw) (y : Slot) (v : View) (c : List (ℕ × Slot)) (n : ℕ)
-      (w : table.Me Slot View) (mine' : List Entry) → v ≡ record now { stored = ws } → c ≡ me.1 → mine' ≡ mine ++ e ∷ [] → v.seen ≤ n → w
+      (w : table.Me Slot View) (mine' : List Entry) → v ≡ filled now ws → c ≡ me.1 → mine' ≡ mine ++ e ∷ [] → v.seen ≤ n → w
       ≡ (published v t mine e n x y drew, c)
       → position_of e ≡ Some n → IsEntryKept e → IsPass w t mine' (n + 1) order quiet
-      × (caught_up w.0 t mine' ≡ published now t mine e n x y drew) × (now.seen ≤ n)
+      × (caught_up w.0 t mine' ≡ published (filled now ws) t mine e n x y drew) × (now.seen ≤ n)
   pass_tells ws e x drew y v c n w mine' is gone more seen_at told place range =
-      let u = published now t mine e n x y drew in
+      let u = published (filled now ws) t mine e n x y drew in
       let a : w ≡ (u, me.1) = told ∙ ap (λ (z : View). let r : table.Me Slot View = (published z t mine e n x y drew, c) in r) is
       ∙ ap (λ z. let r : table.Me Slot View = (u, z) in r) gone in
       let next : n + 1 ≡ suc n = omega arith in
@@ -181,10 +181,11 @@ module _ (me : table.Me Slot View) (t : ℕ) (mine : List Entry) (seen : ℕ) (o
 
   -- an act
   pub pass_publishes : (ws : List ℕ) (act : Act) (value : ℤ) (y : Slot) (v : View) (c : List (ℕ × Slot)) (n : ℕ) (w : table.Me Slot View)
-      (mine' : List Entry) → v ≡ record now { stored = ws } → c ≡ me.1 → mine' ≡ mine ++ Sync n act value ∷ []
+      (mine' : List Entry) → v ≡ filled now ws → c ≡ me.1 → mine' ≡ mine ++ Sync n act value ∷ []
       → PublishedAct (shelf t mine) act value y v c n w
       → IsEntryKept (Sync n act value) → IsPass w t mine' (n + 1) order quiet
-      × (caught_up w.0 t mine' ≡ published now t mine (Sync n act value) n (record { thread = t; event = Does act }) y (λ g. g.drew))
+      × (caught_up w.0 t mine' ≡ published (filled now ws) t mine (Sync n act value) n (record { thread = t; event = Does act }) y
+      (λ g. g.drew))
       × (now.seen ≤ n)
   pass_publishes ws act value y v c n w mine' is gone more told range =
       pass_tells ws (Sync n act value) (record { thread = t; event = Does act }) (λ g. g.drew) y v c n w mine' is gone more told.1 told.2
@@ -295,12 +296,17 @@ module _ (me : table.Me Slot View) (t : ℕ) (mine : List Entry) (seen : ℕ) (o
 
 -- one word more stands in the cell
 pub words_next : (v u : View) (c : List (ℕ × Slot)) (t : ℕ) (mine : List Entry) (i word : ℕ) (words : List ℕ) (w : table.Me Slot View)
-    → t < THREADS → u.shelves ≡ shelf t mine ∷ [] → caught_up v t mine ≡ record u { stored = take i words }
+    → t < THREADS → u.shelves ≡ shelf t mine ∷ [] → caught_up v t mine ≡ filled u (take i words)
     → PutWord word (caught_up v t mine) c w → take i words ++ word ∷ [] ≡ take (i + 1) words
-    → (w.1 ≡ c) × IsReady w.0 t mine × (caught_up w.0 t mine ≡ record u { stored = take (i + 1) words })
+    → (w.1 ≡ c) × IsReady w.0 t mine × (caught_up w.0 t mine ≡ filled u (take (i + 1) words))
 words_next v u c t mine i word words w near one is told more =
-    let a : w.0 ≡ record u { stored = take (i + 1) words } = ap (λ (m : table.Me Slot View). m.0) told
-    ∙ ap (λ (x : View). record x { stored = x.stored ++ word ∷ [] }) is ∙ ap (λ l. record u { stored = l }) more in
+    let ws = take i words in
+    let count : (u.moves.stores + length ws) + 1 ≡ u.moves.stores + length (ws ++ word ∷ []) =
+    let l = length-append ws (word ∷ []) in omega arith in
+    let a : w.0 ≡ filled u (take (i + 1) words) = ap (λ (m : table.Me Slot View). m.0) told
+    ∙ ap (λ (x : View). put_word x word) is
+    ∙ ap (λ n. record u { stored = ws ++ word ∷ []; moves = record u.moves { stores = n } }) count
+    ∙ ap (filled u) more in
     let s : w.0.shelves ≡ shelf t mine ∷ [] = ap (λ (x : View). x.shelves) a ∙ one in
     (ap (λ (m : table.Me Slot View). m.1) told, is_ready w.0 t mine s near, settled w.0 t mine s ∙ a)
 

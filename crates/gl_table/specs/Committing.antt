@@ -12,7 +12,7 @@ use Rattle.gl_rule.specs.Cells.{packed}
 use Rattle.gl_rule.specs.Commits.{MayCommit, drew_commit}
 use Rattle.gl_rule.specs.Fitting.{MayPublish}
 use Rattle.gl_rule.specs.Objects.{Key}
-use Rattle.gl_rule.specs.View.{Held, published}
+use Rattle.gl_rule.specs.View.{Held, filled, published}
 use Rattle.gl_state.specs.ListView.{ListView}
 use Rattle.gl_table.specs.PassView.{PassView, view_of, shelf_of, after_storing}
 
@@ -25,7 +25,7 @@ commit_stamp t tx = record { thread = t; event = Commits (variables_of tx) }
 pub record MayPublishTx (key : Key) (p : PassView) (tx : Tx) (state : ListView) : Type 0 where
   pub held : Held
   pub old : ListView
-  pub may : MayPublish key (shelf_of p) (record (view_of p) { stored = packed (commit_stamp p.own.id tx) }) held old state
+  pub may : MayPublish key (shelf_of p) (filled (view_of p) (packed (commit_stamp p.own.id tx))) held old state
       (λ n. Commit n tx) (commit_stamp p.own.id tx) (pos 0)
   pub tail : may.tail ≡ p.seen
   pub block : ℕ
@@ -36,5 +36,6 @@ pub record MayPublishTx (key : Key) (p : PassView) (tx : Tx) (state : ListView) 
 -- the pass after the commit was published at n
 abbrev pub published_tx : PassView → Tx → ℕ → ListView → PassView
 published_tx p tx n state =
-    after_storing p (published (view_of p) p.own.id p.own.mine (Commit n tx) n (commit_stamp p.own.id tx) (slot.List state)
+    let x = commit_stamp p.own.id tx in
+    after_storing p (published (filled (view_of p) (packed x)) p.own.id p.own.mine (Commit n tx) n x (slot.List state)
     (drew_commit (variables_of tx) (draw p.own.id n (Entered (Commit n tx)))))

@@ -7,11 +7,12 @@ use Rattle.gl_model.specs.Entries.{Entry, Sync}
 use Rattle.gl_model.specs.Machine.{Setting, State, Allows, Step}
 use Rattle.gl_draws.specs.Events.{AreEvents}
 use Rattle.gl_draws.specs.Ties.{counted}
+use Rattle.gl_rule.specs.Cells.{packed}
 use Rattle.gl_rule.specs.Lives.{Running, life_of}
 use Rattle.gl_table.specs.PassView.{PassView, Own, view_of, after_storing, after}
 use Rattle.gl_table.specs.TableView.{TableView}
 use Rattle.gl_rule.specs.declared.slot.Slot.{Slot}
-use Rattle.gl_rule.specs.View.{published, left}
+use Rattle.gl_rule.specs.View.{filled, published, left}
 
 -- the pass is of this table, holds and owes nothing, has room for an entry, and its thread runs
 pub record MayAct (z : TableView) (p : PassView) : Type 0 where
@@ -39,6 +40,6 @@ pub record IsStepOf (setting : Setting) (p : PassView) (act : Act) (value : ℤ)
 -- the act was published at n, and the list was put back as y
 abbrev pub announced : PassView → Act → ℤ → ℕ → Slot → PassView
 announced p act value n y =
-    let q = after_storing p (published (view_of p) p.own.id p.own.mine (Sync n act value) n
-    (record { thread = p.own.id; event = Does act }) y (λ g. g.drew)) in
+    let x : Stamp = record { thread = p.own.id; event = Does act } in
+    let q = after_storing p (published (filled (view_of p) (packed x)) p.own.id p.own.mine (Sync n act value) n x y (λ g. g.drew)) in
     after q (left (view_of q) 0 false)

@@ -1,9 +1,9 @@
 -- A pass's fields, and what is true of them.
-use Rattle.std.specs.Prelude.{◌≡◌, ℕ, Bool, ◌==◌, ◌<◌, ◌≤◌, ◌-◌, vec_capacity, List, [], ◌∷◌, ◌++◌, map, Contains}
+use Rattle.std.specs.Prelude.{◌≡◌, ℕ, Bool, ◌==◌, ◌<◌, ◌≤◌, vec_capacity, List, [], ◌∷◌, ◌++◌, map, Contains}
 use Rattle.std.specs.List.{All, IsDistinct}
 use Rattle.atomic_table.specs.Table as table
 use Rattle.gl_model.specs.declared.limits.TheConstants.{THREADS}
-use Rattle.gl_model.specs.Entries.{Entry, seen}
+use Rattle.gl_model.specs.Entries.{Entry}
 use Rattle.gl_model.specs.Kept.{IsEntryKept}
 use Rattle.gl_table.specs.declared.pass.Pass.TheInside.{Inside}
 use Rattle.gl_rule.specs.declared.slot.Slot.{Slot}

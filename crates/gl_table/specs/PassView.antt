@@ -5,7 +5,7 @@ use Rattle.gl_model.specs.declared.event.Stamp.{Stamp}
 use Rattle.gl_model.specs.Entries.{Entry}
 use Rattle.gl_draws.specs.Ties.{Drawn}
 use Rattle.gl_table.specs.CaughtUp.{first_marked, adds_one}
-use Rattle.gl_rule.specs.View.{View, Shelf, shelf, Held, Read, CellWord}
+use Rattle.gl_rule.specs.View.{View, Shelf, shelf, Held, Read, CellWord, Moves}
 
 -- what a pass has of its own: only its own calls change it
 pub record Own : Type 0 where
@@ -26,6 +26,8 @@ pub record PassView : Type 0 where
   pub quiet : Bool
   pub stored : List ℕ
   pub loaded : List CellWord
+  -- the atomic steps that it made
+  pub moves : Moves
   -- how many entries it can take without memory
   pub spare : ℕ
 
@@ -38,6 +40,7 @@ pass_of table id mine v spare = record {
   quiet = v.quiet;
   stored = v.stored;
   loaded = v.loaded;
+  moves = v.moves;
   spare = spare;
 }
 
@@ -55,6 +58,7 @@ view_of p = record {
   owed = p.own.owed;
   stored = p.stored;
   loaded = p.loaded;
+  moves = p.moves;
 }
 
 abbrev pub shelf_of : PassView → Shelf

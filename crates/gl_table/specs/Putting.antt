@@ -5,13 +5,14 @@ use Rattle.gl_rule.specs.declared.slot.Slot.{Slot}
 use Rattle.gl_rule.specs.declared.slot.Slot.TheVariants as slot
 use Rattle.gl_model.specs.declared.event.Act.{Act}
 use Rattle.gl_model.specs.declared.event.Event.TheVariants.{Act as Does}
+use Rattle.gl_model.specs.declared.event.Stamp.{Stamp}
 use Rattle.gl_model.specs.Entries.{Entry, Sync, Plain}
 use Rattle.gl_rule.specs.Cells.{packed}
 use Rattle.gl_state.specs.ListView.{ListView}
 use Rattle.gl_rule.specs.Objects.{Key, capacity}
 use Rattle.gl_table.specs.PassView.{PassView, view_of, shelf_of, after, after_storing}
 use Rattle.gl_rule.specs.Fitting.{MayLeave, MayPublish, MayMark, MayOpen, MayStoreWord, SaysQuiet}
-use Rattle.gl_rule.specs.View.{View, Held, Shelf, shelf, left, marked, published}
+use Rattle.gl_rule.specs.View.{View, Held, Shelf, shelf, left, marked, filled, published}
 use Rattle.gl_table.specs.CaughtUp.{block_of}
 use Rattle.gl_table.specs.Says.{no_held}
 use Rattle.gl_draws.specs.Draws.{draw, Entered}
@@ -43,7 +44,7 @@ pub record MayPutWords (key : Key) (v : View) (cell : ℕ) : Type 0 where
 pub record MayPublishAct (key : Key) (p : PassView) (act : Act) (value : ℤ) (state : ListView) : Type 0 where
   pub held : Held
   pub old : ListView
-  pub may : MayPublish key (shelf_of p) (record (view_of p) { stored = packed (record { thread = p.own.id; event = Does act }) }) held old
+  pub may : MayPublish key (shelf_of p) (filled (view_of p) (packed (record { thread = p.own.id; event = Does act }))) held old
       state (λ n. Sync n act value) (record { thread = p.own.id; event = Does act }) value
   pub tail : may.tail ≡ p.seen
 
@@ -72,8 +73,8 @@ marked_plain p x n write value raised =
 -- the pass after an act was published at n, by which the list's state became this
 abbrev pub published_act : PassView → Act → ℤ → ℕ → ListView → PassView
 published_act p act value n state =
-    after_storing p (published (view_of p) p.own.id p.own.mine (Sync n act value) n (record { thread = p.own.id; event = Does act })
-    (slot.List state) (λ g. g.drew))
+    let x : Stamp = record { thread = p.own.id; event = Does act } in
+    after_storing p (published (filled (view_of p) (packed x)) p.own.id p.own.mine (Sync n act value) n x (slot.List state) (λ g. g.drew))
 
 -- what is asked of a number that is drawn on x for a look with this word, or for the end of an attempt
 pub record MayOpenOn (p : PassView) (x : ℕ) (look : Option ℤ) : Type 0 where

@@ -1,5 +1,5 @@
 -- What some steps tell of a view.
-use Rattle.std.specs.Prelude.{◌≡◌, ℕ, suc, false, List, [], ◌∷◌}
+use Rattle.std.specs.Prelude.{ℕ, suc, false, List, [], ◌∷◌}
 use Rattle.gl_rule.specs.declared.slot.Slot.{Slot}
 use Rattle.gl_rule.specs.declared.slot.Slot.TheVariants as slot
 use Rattle.gl_model.specs.declared.event.Event.TheVariants.{Commit as Commits}

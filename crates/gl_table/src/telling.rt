@@ -12,7 +12,7 @@ ghost use Rattle.gl_table.specs.PassInside.{IsReady};
 ghost use Rattle.gl_table.specs.PassView.{view_of, after_storing};
 ghost use Rattle.gl_table.specs.Putting.{MayPutWords, MayPublishAct, MayMarkPlain, MayOpenOn, MayPayOn, marked_plain, opened, paid_back, published_act};
 ghost use Rattle.gl_rule.specs.Told.{IsAboveDrawn};
-ghost use Rattle.gl_rule.specs.View.{published};
+ghost use Rattle.gl_rule.specs.View.{filled, published};
 ghost use Rattle.gl_rule.specs.declared.slot.Slot.TheVariants as slot;
 
 use crate::hold::bring;
@@ -36,7 +36,7 @@ fn put_words(board: &Board, seat: &mut Seat, id: u8, mine: &OwnList, cell: usize
     requires five { length words.now ≡ 5 }
     ensures seat { (seat.new.table_id ≡ seat.old.table_id) × (seat.new.id ≡ seat.old.id) × (seat.new.me.1 ≡ seat.old.me.1) }
     ensures ready { IsReady seat.new.me.0 id mine.now.entries }
-    ensures stored { caught_up seat.new.me.0 id mine.now.entries ≡ record (caught_up seat.old.me.0 id mine.now.entries) { stored = words.now } }
+    ensures stored { caught_up seat.new.me.0 id mine.now.entries ≡ filled (caught_up seat.old.me.0 id mine.now.entries) words.now }
 {
     for (i, word) in words.iter().enumerate() {
         put_word::<Brand>(board, seat, id, mine, cell, i, *word);

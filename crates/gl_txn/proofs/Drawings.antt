@@ -1,5 +1,6 @@
 -- A number more, for the end of an attempt.
-use Rattle.std.proofs.Common.{◌≡◌, ◌≢◌, ℕ, zero, suc, ◌+◌, ◌==◌, List, [], ◌∷◌, ◌++◌, map, true, false, refl, sym, ap, ◌∙◌, subst, arith, Some, None, inl, inr, ne_eqb, add-one, append_assoc}
+use Rattle.gl_rule.proofs.Moves.{moved_both}
+use Rattle.std.proofs.Common.{◌≡◌, ◌≢◌, ℕ, zero, suc, ◌+◌, ◌==◌, List, [], ◌∷◌, ◌++◌, map, true, false, refl, sym, ap, ◌∙◌, subst, arith, Some, None, inl, inr, ne_eqb, add-one, append_assoc, length, length-append}
 use Rattle.std.specs.Prelude.{Contains, Option, ℤ, if◌then◌else◌}
 use Rattle.std.proofs.lemmas.Bool.{cases_Bool}
 use Rattle.std.proofs.lemmas.List.Elements.{Contains-push_cases}
@@ -12,7 +13,7 @@ use Rattle.gl_draws.proofs.EntryKinds.{is_in-contains, contains-is_in}
 use Rattle.gl_rule.specs.Fitting.{MayOpen}
 use Rattle.gl_rule.specs.Numbers.{count_on}
 use Rattle.gl_rule.specs.Told.{IsAboveDrawn}
-use Rattle.gl_rule.specs.View.{Held, without}
+use Rattle.gl_rule.specs.View.{Held, without, Moves, moved}
 use Rattle.gl_rule.proofs.Lasting.{no_end}
 use Rattle.gl_table.specs.CaughtUp.{block_of}
 use Rattle.gl_table.specs.PassView.{PassView, view_of, shelf_of}
@@ -73,8 +74,11 @@ count_ends x (o ∷ os) numbers out = ap (λ n. if o.var == x then suc n else n)
 module _ (p q : PassView) (list : Option Held) (rows : List TakenRow) (tails : List ℕ) (numbers : List Number) (m : MayNumber p rows)
     (drawn : HasDrawn p q list rows tails numbers) (x : ℕ) (r : TakenRow) (there : row_at rows x ≡ Some r)
     (out : Contains (numbered numbers) x → ⊥) where
-  p' : PassView
-  p' = record p { own = record p.own { held = q.own.held; drawn = p.own.drawn ++ map end_of numbers } }
+  abbrev p' : PassView
+  p' = record p {
+    own = record p.own { held = q.own.held; drawn = p.own.drawn ++ map end_of numbers };
+    moves = moved (length numbers) p.moves;
+  }
 
   not_drawn : is_in x (numbered numbers) ≡ false
   not_drawn = elim (cases_Bool (is_in x (numbered numbers))) [ inl b ↦ absurd (out (is_in-contains x (numbered numbers) b)) | inr b ↦ b ]
@@ -95,7 +99,7 @@ module _ (p q : PassView) (list : Option Held) (rows : List TakenRow) (tails : L
   may_number = subst (λ (q : PassView). MayOpenOn q x None) (sym drawn.is) (record {
     taken = r.row;
     may = subst (λ (h : Held). MayOpen (shelf_of p)
-        (view_of (record p { own = record p.own { held = q.own.held; drawn = p.own.drawn ++ map end_of numbers } })) h x r.row
+        (view_of p') h x r.row
         (block_of p.own.mine) None) (sym at_is) (record {
           draws = record {
             held = (found_held (suc x) q.own.held (row_held tails (drew_on p (numbered numbers)) r) held_is).0;
@@ -120,6 +124,7 @@ module _ (p q : PassView) (list : Option Held) (rows : List TakenRow) (tails : L
           drawn = (p.own.drawn ++ map end_of numbers)
               ++ record { var = x; nth = n; look = None } ∷ [];
         };
+        moves = moved 1 (moved (length numbers) p.moves);
       }
   after_is r' n is =
       let h = r'.own.held in
@@ -131,9 +136,11 @@ module _ (p q : PassView) (list : Option Held) (rows : List TakenRow) (tails : L
           drawn = q.own.drawn
               ++ record { var = x; nth = n; look = None } ∷ [];
         };
+        moves = moved 1 q.moves;
       } = is in
       start ∙ ap (λ (l : List Held). record q {
         own = record q.own { held = l; drawn = q.own.drawn ++ record { var = x; nth = n; look = None } ∷ [] };
+        moves = moved 1 q.moves;
       }) (sym held)
       ∙ ap (λ (z : PassView). record z {
         own = record z.own {
@@ -141,6 +148,7 @@ module _ (p q : PassView) (list : Option Held) (rows : List TakenRow) (tails : L
           drawn = z.own.drawn
               ++ record { var = x; nth = n; look = None } ∷ [];
         };
+        moves = moved 1 z.moves;
       }) drawn.is
 
   ends_pushed : (ns : List Number) (n : Number) → map end_of (ns ++ n ∷ []) ≡ map end_of ns ++ end_of n ∷ []
@@ -165,9 +173,20 @@ module _ (p q : PassView) (list : Option Held) (rows : List TakenRow) (tails : L
   pub number_more : (r' : PassView) (n : ℕ) → r' ≡ opened q x n None → IsAboveDrawn x n q.own.drawn
       → HasDrawn p r' list rows tails (numbers ++ record { var = x; nth = n } ∷ [])
   number_more r' n is above = record {
-    is = after_is r' n is ∙ ap (λ (l : List Drawn). record p { own = record p.own { held = r'.own.held; drawn = l } })
+    is = after_is r' n is ∙ ap (λ (l : List Drawn). record p {
+          own = record p.own { held = r'.own.held; drawn = l };
+          moves = moved 1 (moved (length numbers) p.moves);
+        })
         (append_assoc p.own.drawn (map end_of numbers) (record { var = x; nth = n; look = None } ∷ [])
-        ∙ ap (λ (l : List Drawn). p.own.drawn ++ l) (sym (ends_pushed numbers (record { var = x; nth = n }))));
+        ∙ ap (λ (l : List Drawn). p.own.drawn ++ l) (sym (ends_pushed numbers (record { var = x; nth = n }))))
+        ∙ ap (λ (m : Moves). record p {
+          own = record p.own {
+            held = r'.own.held;
+            drawn = p.own.drawn ++ map end_of (numbers ++ record { var = x; nth = n } ∷ []);
+          };
+          moves = m;
+        }) (moved_both (length numbers) 1 (length (numbers ++ record { var = x; nth = n } ∷ [])) p.moves
+        (sym (length-append numbers (record { var = x; nth = n } ∷ []))));
     held = subst (λ (l : List Held). AreHeld l list rows tails drew') (sym held_then) marked;
     above = λ y k m look c d. elim (Contains-push_cases numbers (record { var = x; nth = n }) (record { var = y; nth = m }) d) [
       | inl old ↦ drawn.above y k m look c old

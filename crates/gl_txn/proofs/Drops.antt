@@ -5,7 +5,7 @@ use Rattle.gl_txn.proofs.Finding.{found_held}
 use Rattle.gl_txn.proofs.Holdings.{row_among}
 use Rattle.gl_txn.proofs.Refusals.{row_of, lower_before}
 use Rattle.gl_txn.proofs.Changes.{look_found, place_at}
-use Rattle.std.proofs.Common.{◌≡◌, ℕ, zero, suc, ◌<◌, ◌==◌, List, [], ◌∷◌, ◌++◌, map, true, false, refl, sym, ap, ◌∙◌, subst, arith, Some, None, ne_eqb}
+use Rattle.std.proofs.Common.{◌≡◌, ℕ, zero, suc, ◌<◌, ◌==◌, List, [], ◌∷◌, ◌++◌, map, true, false, refl, sym, ap, ◌∙◌, subst, arith, Some, None, ne_eqb, length}
 use Rattle.std.specs.Prelude.{Contains, ℤ}
 use native.Mathlib.Decide.{ℕ_discrete}
 use Rattle.gl_model.specs.declared.tx.Look.{Look}
@@ -19,7 +19,7 @@ use Rattle.gl_draws.specs.Draws.{draw, Looked, Entered}
 use Rattle.gl_draws.proofs.EntryKinds.{contains-is_in}
 use Rattle.gl_rule.specs.Commits.{with_drew, IsUnchanged}
 use Rattle.gl_rule.specs.Told.{IsAboveDrawn}
-use Rattle.gl_rule.specs.View.{Held}
+use Rattle.gl_rule.specs.View.{Held, moved}
 use Rattle.gl_table.specs.CaughtUp.{block_of}
 use Rattle.gl_table.specs.PassView.{PassView, view_of, after_adding}
 use Rattle.gl_table.specs.Putting.{MayAbort, opened}
@@ -87,6 +87,7 @@ module _ (a : Attempting) (writes : List Pair) (p : PassView) (rows : List Taken
           drawn = p.own.drawn
               ++ map end_of (record { var = c.var; nth = n } ∷ []);
         };
+        moves = moved (length (number_of n ∷ [])) p.moves;
       })) l
   unchanged of looks q n d l has less =
       let b : is_in l.var (vars_of rows) ≡ true =
@@ -155,18 +156,20 @@ module _ (p q : PassView) (rows : List TakenRow) (tails : List ℕ) (numbers : L
       (λ y. refl) (λ y. refl))
 
   pub change_stored : (var : ℕ) (read found : ℤ) (r s : PassView) → r ≡ after_adding q (Abort tx (Changed var read found)) → s
-      ≡ record r { own = record r.own { held = [] } } → s ≡ with_entry p (Abort tx (Changed var read found))
+      ≡ record r { own = record r.own { held = [] }; moves = s.moves }
+      → s ≡ record (with_entry p (Abort tx (Changed var read found))) { moves = s.moves }
   change_stored var read found r s added put =
-      put ∙ ap (λ (z : PassView). record z { own = record z.own { held = [] } }) added
+      put ∙ ap (λ (z : PassView). record z { own = record z.own { held = [] }; moves = s.moves }) added
       ∙ ap (λ (z : PassView). record (after_adding z (Abort tx (Changed var read found)))
-      { own = record (after_adding z (Abort tx (Changed var read found))).own { held = [] } }) d.is
+      { own = record (after_adding z (Abort tx (Changed var read found))).own { held = [] }; moves = s.moves }) d.is
 
   pub raise_stored : (var : ℕ) (r s : PassView) → r ≡ after_adding q (Abort tx (Raised var)) → s
-      ≡ record r { own = record r.own { held = [] } } → s ≡ with_entry p (Abort tx (Raised var))
+      ≡ record r { own = record r.own { held = [] }; moves = s.moves }
+      → s ≡ record (with_entry p (Abort tx (Raised var))) { moves = s.moves }
   raise_stored var r s added put =
-      put ∙ ap (λ (z : PassView). record z { own = record z.own { held = [] } }) added
+      put ∙ ap (λ (z : PassView). record z { own = record z.own { held = [] }; moves = s.moves }) added
       ∙ ap (λ (z : PassView). record (after_adding z (Abort tx (Raised var)))
-      { own = record (after_adding z (Abort tx (Raised var))).own { held = [] } }) d.is
+      { own = record (after_adding z (Abort tx (Raised var))).own { held = [] }; moves = s.moves }) d.is
 
 -- the transaction with its one number
 pub tx_is : (t d : Tx) (ns : List Number) (n : Number) → d ≡ t → t.numbers ≡ [] → ns ≡ d.numbers ++ n ∷ []

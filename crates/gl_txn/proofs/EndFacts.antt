@@ -1,5 +1,5 @@
 -- What is true of an attempt whose end has its numbers.
-use Rattle.std.proofs.Common.{◌≡◌, ℕ, zero, suc, ◌<◌, List, [], ◌∷◌, ◌++◌, map, true, false, refl, sym, ap, ◌∙◌, subst, arith, Some, None, inl, inr}
+use Rattle.std.proofs.Common.{◌≡◌, ℕ, zero, suc, ◌<◌, List, [], ◌∷◌, ◌++◌, map, true, false, refl, sym, ap, ◌∙◌, subst, arith, Some, None, inl, inr, length}
 use Rattle.std.specs.Prelude.{Contains, Option, ◌⊎◌, ◌↔◌, ℤ, if◌then◌else◌}
 use Rattle.std.specs.List.{AllByRecursion}
 use Rattle.std.proofs.lemmas.Bool.{cases_Bool}
@@ -16,7 +16,7 @@ use Rattle.gl_draws.specs.Draws.{Draw, draw, Open, is_write, is_read}
 use Rattle.gl_draws.specs.Ties.{Drawn}
 use Rattle.gl_rule.specs.Commits.{HeldRow, MayDrop, with_drew}
 use Rattle.gl_rule.specs.Lives.{Running, life_of}
-use Rattle.gl_rule.specs.View.{Held, shelf}
+use Rattle.gl_rule.specs.View.{Held, shelf, moved}
 use Rattle.gl_rule.proofs.Lasting.{no_end}
 use Rattle.gl_table.specs.CaughtUp.{block_of}
 use Rattle.gl_table.specs.PassView.{PassView, view_of}
@@ -79,7 +79,10 @@ module _ (a : Attempting) (writes : List Pair) (p : PassView) (H : List Held) (l
     → Contains p.own.drawn (record { var = y; nth = k; look = look }) → Contains numbers (record { var = y; nth = m }) → k < m)
     (in_rows : (y : ℕ) → is_in y zs ≡ true → (r : TakenRow) × (row_at rows y ≡ Some r)) (runs : life_of p.own.mine ≡ Running) where
   abbrev pub after_numbers : PassView
-  after_numbers = record p { own = record p.own { held = H; drawn = p.own.drawn ++ map end_of numbers } }
+  after_numbers = record p {
+    own = record p.own { held = H; drawn = p.own.drawn ++ map end_of numbers };
+    moves = moved (length numbers) p.moves;
+  }
 
   abbrev pub end_tx : Tx
   end_tx = record { looks = a.looks; writes = writes; numbers = numbers }

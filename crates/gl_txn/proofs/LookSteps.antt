@@ -1,4 +1,5 @@
 -- A look, from taking the row to putting it back.
+use Rattle.gl_rule.proofs.Moves.{five_steps}
 use Rattle.std.proofs.Common.{◌≡◌, ℕ, suc, ◌+◌, ◌<◌, ◌==◌, List, [], ◌∷◌, ◌++◌, true, false, Bool, refl, sym, ap, ◌∙◌, subst, arith, Some, inr, add-one, ne_eqb}
 use Rattle.std.specs.Prelude.{Contains, Option, ◌||◌, ℤ, ◌^◌, if◌then◌else◌}
 use Rattle.gl_model.specs.declared.row.Row.{Row}
@@ -10,7 +11,7 @@ use Rattle.gl_rule.specs.declared.slot.Slot.TheVariants as slot
 use Rattle.gl_rule.specs.Fitting.{MayOpen}
 use Rattle.gl_rule.specs.Lives.{Running, life_of}
 use Rattle.gl_rule.specs.Numbers.{count_on}
-use Rattle.gl_rule.specs.View.{Held, new_held, without, left, Taken}
+use Rattle.gl_rule.specs.View.{Held, new_held, without, left, Taken, Moves, moved}
 use Rattle.gl_rule.proofs.Lasting.{no_end, has_block}
 use Rattle.gl_table.specs.CaughtUp.{block_of, or_zero}
 use Rattle.gl_table.specs.PassView.{PassView, view_of, shelf_of, after}
@@ -95,6 +96,7 @@ pub after_look : (p : PassView) (x : ℕ) (row : Row) (n : ℕ) (value : ℤ) �
       own = record p.own { drawn = p.own.drawn ++ record { var = x; nth = n; look = Some value } ∷ [] };
       reads = p.reads
           ++ Taken (suc x) (slot.Row row) ∷ [];
+      moves = moved 5 p.moves;
     }
 after_look p x row n value held q r is put =
     let drawn : List Drawn = p.own.drawn ++ record { var = x; nth = n; look = Some value } ∷ [] in
@@ -107,6 +109,7 @@ after_look p x row n value held q r is put =
       reads = reads;
       quiet = p.quiet || false;
       stored = if suc x == 0 then [] else p.stored;
+      moves = moved 2 (moved 1 (moved 2 p.moves));
     } = put
     ∙ ap (λ (q : PassView). after q (left (view_of q) (suc x) false)) is in
     start ∙ ap (λ b. record p {
@@ -114,6 +117,9 @@ after_look p x row n value held q r is put =
       reads = reads;
       quiet = p.quiet || false;
       stored = if b then [] else p.stored;
+      moves = moved 2 (moved 1 (moved 2 p.moves));
     }) s0
-    ∙ ap (λ (l : List Held). record p { own = record p.own { held = l; drawn = drawn }; reads = reads; quiet = p.quiet || false }) h1
-    ∙ ap (λ b. record p { own = record p.own { drawn = drawn }; reads = reads; quiet = b }) (or_no p.quiet)
+    ∙ ap (λ (l : List Held). record p { own = record p.own { held = l; drawn = drawn }; reads = reads; quiet = p.quiet || false; moves = moved 2 (moved 1 (moved 2 p.moves)) }) h1
+    ∙ ap (λ b. record p { own = record p.own { drawn = drawn }; reads = reads; quiet = b; moves = moved 2 (moved 1 (moved 2 p.moves)) }) (or_no p.quiet)
+    ∙ ap (λ (m : Moves). record p { own = record p.own { drawn = drawn }; reads = reads; moves = m })
+    (five_steps p.moves)

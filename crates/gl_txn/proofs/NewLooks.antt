@@ -129,6 +129,7 @@ has_looked x l a p q no_write no_look at =
         own = o;
         reads = p.reads
             ++ Rattle.gl_rule.specs.View.Taken (suc x) (Rattle.gl_rule.specs.declared.slot.Slot.TheVariants.Row at.0) ∷ [];
+        moves = Rattle.gl_rule.specs.View.moved 5 p.moves;
       })
           (sym (ap (λ (r : PassView). r.own) at.3)),
     ))

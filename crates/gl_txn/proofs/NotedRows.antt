@@ -223,7 +223,7 @@ module _ (setting : Setting) (p : PassView) (rows : List TakenRow) (base : Quest
     owned = c.owned;
   })
 
-pub noted_all : (p q : PassView) (base : Question) (at : ℕ) → q ≡ record p { own = record p.own { held = q.own.held } }
-    → AreCommitted q [] base at → q ≡ record p { own = record p.own { held = [] } }
-noted_all p q base at is c = is ∙ ap (λ (h : List Held). record p { own = record p.own { held = h } })
+pub noted_all : (p q : PassView) (base : Question) (at : ℕ) → q ≡ record p { own = record p.own { held = q.own.held }; moves = q.moves }
+    → AreCommitted q [] base at → q ≡ record p { own = record p.own { held = [] }; moves = q.moves }
+noted_all p q base at is c = is ∙ ap (λ (h : List Held). record p { own = record p.own { held = h }; moves = q.moves })
     (held_none q.own.held c.tails (drew_commit_at q c.tx c.position) c.held)

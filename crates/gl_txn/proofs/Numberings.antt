@@ -1,4 +1,5 @@
 -- Numbers put one behind the other, and the rows that they are drawn on.
+use Rattle.gl_rule.proofs.Moves.{moved_none}
 use Rattle.std.proofs.Common.{◌≡◌, ℕ, zero, suc, ◌+◌, ◌<◌, List, [], ◌∷◌, ◌++◌, length, take, get_or, refl, sym, ap, ◌∙◌, subst, arith, Some, append-nil}
 use Rattle.std.specs.Prelude.{Contains, Option, slice_get}
 use Rattle.std.specs.List.{AllByRecursion}
@@ -8,7 +9,7 @@ use Rattle.gl_model.specs.declared.tx.Number.{Number}
 use Rattle.gl_model.specs.Kept.{AreVariables}
 use Rattle.gl_model.specs.Rising.{Rises, with_part}
 use Rattle.gl_draws.specs.Ties.{Drawn}
-use Rattle.gl_rule.specs.View.{Held}
+use Rattle.gl_rule.specs.View.{Held, Moves}
 use Rattle.gl_table.specs.PassView.{PassView}
 use Rattle.gl_txn.specs.Drawing.{numbered, HasDrawn}
 use Rattle.gl_txn.specs.Holding.{vars_of, row_at, AreHeld, undrawn}
@@ -82,7 +83,8 @@ module _ (rows : List TakenRow) (i : ℕ) (r : TakenRow) (there : slice_get rows
 pub drawn_none : (p : PassView) (list : Option Held) (rows : List TakenRow) (tails : List ℕ) → AreHeld p.own.held list rows tails undrawn
     → HasDrawn p p list rows tails []
 drawn_none p list rows tails a = record {
-  is = ap (λ (l : List Drawn). record p { own = record p.own { drawn = l } }) (sym (append-nil p.own.drawn));
+  is = ap (λ (l : List Drawn). record p { own = record p.own { drawn = l } }) (sym (append-nil p.own.drawn))
+      ∙ ap (λ (m : Moves). record p { own = record p.own { drawn = p.own.drawn ++ [] }; moves = m }) (moved_none p.moves);
   held = a;
   above = λ y k m look c d. absurd (let l = d.1 in omega arith);
 }

@@ -25,7 +25,7 @@ use Rattle.gl_rule.specs.declared.slot.Slot.TheVariants as slot
 use Rattle.gl_rule.specs.Commits.{MayCommit, drew_commit}
 use Rattle.gl_rule.specs.Fitting.{InfosStand, MayLeaveAt}
 use Rattle.gl_rule.specs.Taken.{StateTold}
-use Rattle.gl_rule.specs.View.{View, Held, Read, Taken, Hold, new_held, with_tail, after_publish, left}
+use Rattle.gl_rule.specs.View.{View, Held, Read, Taken, Hold, new_held, with_tail, after_publish, left, moved}
 use Rattle.gl_rule.proofs.HeldLists.{in_mapped}
 use Rattle.gl_rule.proofs.Lasting.{no_end}
 use Rattle.gl_state.specs.ListView.{ListView}
@@ -137,7 +137,10 @@ module _ (z : TableView) (o : PassView) (rows : List TakenRow) (tx : Tx) (l : Li
 
     commits : MayCommit z.key.setting (shelf_of o)
         (view_of (record (with_room o l low tail)
-        { own = record (with_room o l low tail).own { held = H; drawn = o.own.drawn ++ map end_of numbers } }))
+        {
+          own = record (with_room o l low tail).own { held = H; drawn = o.own.drawn ++ map end_of numbers };
+          moves = moved (length numbers) (with_room o l low tail).moves;
+        }))
         (record { looks = tx.looks; writes = tx.writes; numbers = numbers }) (block_of o.own.mine) o.seen (asked_of o.own.id tx)
     commits = record {
       block = block_is o.own.mine R.runs;
@@ -176,7 +179,10 @@ module _ (z : TableView) (o : PassView) (rows : List TakenRow) (tx : Tx) (l : Li
     steps now is = (now, record { may = state_runs z.key.setting o l told R.runs now is; effect = refl }, is)
 
     pub may_publish : MayPublishTx z.key (record (with_room o l low tail)
-        { own = record (with_room o l low tail).own { held = H; drawn = o.own.drawn ++ map end_of numbers } })
+        {
+          own = record (with_room o l low tail).own { held = H; drawn = o.own.drawn ++ map end_of numbers };
+          moves = moved (length numbers) (with_room o l low tail).moves;
+        })
         (record { looks = tx.looks; writes = tx.writes; numbers = numbers }) l
     may_publish = record {
       held = with_tail tail (new_held 0 (slot.List l));
@@ -264,17 +270,28 @@ module _ (setting : Setting) (q r : PassView) (l : ListView) (t : Held) (object 
     }
 
     pub published_is : (p u : PassView) (numbers : List Number) → q
-        ≡ record p { own = record p.own { held = q.own.held; drawn = p.own.drawn ++ map end_of numbers } } → u
-        ≡ record s { own = record s.own { held = [] } }
-        → u ≡ record (with_entry p (Commit n tx)) { seen = suc n; known = p.known ++ (n, commit_stamp p.own.id tx) ∷ []; stored = [] }
+        ≡ record p {
+          own = record p.own { held = q.own.held; drawn = p.own.drawn ++ map end_of numbers };
+          moves = moved (length numbers) p.moves;
+        } → u ≡ record s { own = record s.own { held = [] }; moves = u.moves }
+        → u ≡ record (with_entry p (Commit n tx)) {
+          seen = suc n;
+          known = p.known ++ (n, commit_stamp p.own.id tx) ∷ [];
+          stored = [];
+          moves = u.moves;
+        }
     published_is p u numbers drawn back =
-        back ∙ ap (λ (s : PassView). record s { own = record s.own { held = [] } }) whole
+        back ∙ ap (λ (s : PassView). record s { own = record s.own { held = [] }; moves = u.moves }) whole
         ∙ ap (λ (q : PassView). record (after (published_tx q tx n l) (left (view_of (published_tx q tx n l)) 0 false))
-        { own = record (after (published_tx q tx n l) (left (view_of (published_tx q tx n l)) 0 false)).own { held = [] } }) drawn
+        {
+          own = record (after (published_tx q tx n l) (left (view_of (published_tx q tx n l)) 0 false)).own { held = [] };
+          moves = u.moves;
+        }) drawn
         ∙ ap (λ b. record (with_entry p (Commit n tx)) {
           seen = suc n;
           known = p.known ++ (n, commit_stamp p.own.id tx)
               ∷ [];
           stored = [];
+          moves = u.moves;
           quiet = b;
         }) (or_no p.quiet)

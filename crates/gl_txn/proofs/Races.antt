@@ -1,5 +1,7 @@
 -- One row after another is judged.
-use Rattle.std.proofs.Common.{◌≡◌, ℕ, zero, suc, ◌+◌, ◌≤◌, ◌==◌, List, [], ◌∷◌, ◌++◌, length, map, true, false, refl, sym, ap, ◌∙◌, subst, arith, Some, inl, inr, append_assoc, eq-eqb, ne_eqb}
+use Rattle.gl_rule.proofs.Moves.{loads_both}
+use Rattle.gl_rule.specs.View.{Moves, with_loads}
+use Rattle.std.proofs.Common.{◌≡◌, ℕ, zero, suc, ◌+◌, ◌≤◌, ◌==◌, List, [], ◌∷◌, ◌++◌, length, map, true, false, refl, sym, ap, ◌∙◌, subst, arith, Some, inl, inr, append_assoc, eq-eqb, ne_eqb, length-append, ◌*◌}
 use Rattle.std.specs.Prelude.{Contains, ◌↔◌, is_some, slice_get}
 use Rattle.std.specs.List.{find}
 use Rattle.std.proofs.lemmas.Bool.{cases_lt}
@@ -37,13 +39,26 @@ is_written x (w ∷ ws) = elim (ℕ_discrete x w.var) [
       in rw (a, b) (is_written x ws))
 ]
 
+placed_long : (n : ℕ) (xs : List Stamp) → length (Rattle.gl_rows.specs.Walks.placed_from n xs) ≡ length xs
+placed_long n [] = refl
+placed_long n (x ∷ xs) = ap suc (placed_long (suc n) xs)
+
 pub knows_more : (row : _) (p q r : PassView) → KnowsOn p q → HasWalked row q r → KnowsOn p r
 knows_more row p q r k w =
     let new = Rattle.gl_rows.specs.Walks.placed_from w.from w.events in
     record {
       more = k.more ++ new;
-      is = w.is ∙ ap (λ (z : PassView). record z { known = z.known ++ new; loaded = r.loaded }) k.is
-          ∙ ap (λ (l : List (ℕ × Stamp)). record p { known = l; loaded = r.loaded }) (append_assoc p.known k.more new);
+      is = w.is
+          ∙ ap (λ (z : PassView). record z { known = z.known ++ new; loaded = r.loaded; moves = with_loads (5 * length w.events) z.moves })
+          k.is
+          ∙ ap (λ (l : List (ℕ × Stamp)). record p {
+            known = l;
+            loaded = r.loaded;
+            moves = with_loads (5 * length w.events) (with_loads (5 * length k.more) p.moves);
+          }) (append_assoc p.known k.more new)
+          ∙ ap (λ (m : Moves). record p { known = p.known ++ (k.more ++ new); loaded = r.loaded; moves = m })
+          (loads_both (5 * length k.more) (5 * length w.events) (5 * length (k.more ++ new)) p.moves
+          (let a = length-append k.more new in let b = placed_long w.from w.events in omega arith));
     }
 
 -- what is said over each list that fits a pass is said over each that fits it when it knows more

@@ -72,8 +72,9 @@ module _ (p q r : PassView) (rows : List TakenRow) (tx : Tx) (h : HoldsRows p ro
   abbrev T : PassView
   T = after p (saw_tail (view_of p) n)
 
-  is : r ≡ record (after p (saw_tail (view_of p) n)) { known = p.known ++ k.more; loaded = r.loaded }
-  is = k.is ∙ ap (λ (u : PassView). record u { known = u.known ++ k.more; loaded = r.loaded }) saw
+  is : r ≡ record (after p (saw_tail (view_of p) n)) { known = p.known ++ k.more; loaded = r.loaded; moves = r.moves }
+  is = ap (λ (u : PassView). record u { moves = r.moves }) k.is
+      ∙ ap (λ (u : PassView). record u { known = u.known ++ k.more; loaded = r.loaded; moves = r.moves }) saw
 
   pub may_number_seen : MayNumber r rows
   may_number_seen = subst (λ (u : PassView). MayNumber u rows) (sym is)
@@ -263,10 +264,11 @@ module _ (p q r : PassView) (rows : List TakenRow) (tx : Tx) (h : HoldsRows p ro
     (later : p.seen ≤ n) (looks : AreVariables (map (λ l. l.var) tx.looks)) (unchanged : AreUnchangedIn tx.looks rows)
     (reaches : (h : Held) (row : Row) → Contains p.own.held h → h.taken ≡ slot.Row row → IsWithin row n) where
   abbrev J : PassView
-  J = record (after p (saw_tail (view_of p) n)) { known = p.known ++ k.more; loaded = r.loaded }
+  J = record (after p (saw_tail (view_of p) n)) { known = p.known ++ k.more; loaded = r.loaded; moves = r.moves }
 
-  at_j : r ≡ record (after p (saw_tail (view_of p) n)) { known = p.known ++ k.more; loaded = r.loaded }
-  at_j = k.is ∙ ap (λ (u : PassView). record u { known = u.known ++ k.more; loaded = r.loaded }) saw
+  at_j : r ≡ record (after p (saw_tail (view_of p) n)) { known = p.known ++ k.more; loaded = r.loaded; moves = r.moves }
+  at_j = ap (λ (u : PassView). record u { moves = r.moves }) k.is
+      ∙ ap (λ (u : PassView). record u { known = u.known ++ k.more; loaded = r.loaded; moves = r.moves }) saw
 
   seen_j : r.seen ≡ n
   seen_j = ap (λ (u : PassView). u.seen) at_j

@@ -20,7 +20,7 @@ pub put_held : (p q : PassView) (x : ℕ) → q ≡ after p (left (view_of p) (s
 put_held p q x is = ap (λ (r : PassView). r.own.held) is
 
 pub put_is : (p q : PassView) (x : ℕ) → q ≡ after p (left (view_of p) (suc x) false) → q
-    ≡ record p { own = record p.own { held = q.own.held } }
+    ≡ record p { own = record p.own { held = q.own.held }; moves = q.moves }
 put_is p q x is =
     let s0 : (suc x == 0) ≡ false = ne_eqb (suc x) 0 (λ e. absurd (omega arith)) in
     let l = without (suc x) p.own.held in
@@ -29,14 +29,15 @@ put_is p q x is =
       quiet = p.quiet || false;
       stored = if suc x == 0
           then [] else p.stored;
-    } = is in
-    start ∙ ap (λ b. record p { own = record p.own { held = l }; quiet = p.quiet || false; stored = if b then [] else p.stored }) s0
-    ∙ ap (λ b. record p { own = record p.own { held = l }; quiet = b }) (or_no p.quiet)
-    ∙ ap (λ (h : List Held). record p { own = record p.own { held = h } }) (sym (put_held p q x is))
+      moves = q.moves;
+    } = ap (λ (z : PassView). record z { moves = q.moves }) is in
+    start ∙ ap (λ b. record p { own = record p.own { held = l }; quiet = p.quiet || false; stored = if b then [] else p.stored; moves = q.moves }) s0
+    ∙ ap (λ b. record p { own = record p.own { held = l }; quiet = b; moves = q.moves }) (or_no p.quiet)
+    ∙ ap (λ (h : List Held). record p { own = record p.own { held = h }; moves = q.moves }) (sym (put_held p q x is))
 
-pub puts_all : (p q : PassView) → q ≡ record p { own = record p.own { held = q.own.held } } → AreUnused q.own.held [] → q
-    ≡ record p { own = record p.own { held = [] } }
-puts_all p q a u = a ∙ ap (λ (h : List Held). record p { own = record p.own { held = h } }) (unused_none q.own.held u)
+pub puts_all : (p q : PassView) → q ≡ record p { own = record p.own { held = q.own.held }; moves = q.moves } → AreUnused q.own.held [] → q
+    ≡ record p { own = record p.own { held = [] }; moves = q.moves }
+puts_all p q a u = a ∙ ap (λ (h : List Held). record p { own = record p.own { held = h }; moves = q.moves }) (unused_none q.own.held u)
 
 takes_pushed : (rows : List TakenRow) (r : TakenRow) → takes (rows ++ r ∷ []) ≡ takes rows ++ Taken (suc r.var) (slot.Row r.row) ∷ []
 takes_pushed [] r = refl
@@ -67,21 +68,24 @@ taken_more p q r ys rows y w row t are is = record {
       own = record p.own { held = r.own.held };
       reads = p.reads
           ++ takes (rows ++ record { var = y; write = w; row = row } ∷ []);
+      moves = r.moves;
     }
     whole =
-        is ∙ ap (λ (z : PassView). record z {
+        ap (λ (z : PassView). record z { moves = r.moves }) is
+        ∙ ap (λ (z : PassView). record z {
           own = record z.own { held = new_held (suc y) (slot.Row row) ∷ q.own.held };
           reads = q.reads
               ++ Taken (suc y) (slot.Row row) ∷ [];
+          moves = r.moves;
         }) t.is
-        ∙ ap (λ (l : List Held). record p { own = record p.own { held = l }; reads = q.reads ++ Taken (suc y) (slot.Row row) ∷ [] })
+        ∙ ap (λ (l : List Held). record p { own = record p.own { held = l }; reads = q.reads ++ Taken (suc y) (slot.Row row) ∷ []; moves = r.moves })
         (sym held_is)
-        ∙ ap (λ (l : List Read). record p { own = record p.own { held = r.own.held }; reads = l }) reads_are
+        ∙ ap (λ (l : List Read). record p { own = record p.own { held = r.own.held }; reads = l; moves = r.moves }) reads_are
 
 -- the next one's turn was held, and those that were taken were put back
 pub were_busy : (p q r s : PassView) (ids : List ℕ) (i by : ℕ) (rows : List TakenRow) → p.own.held ≡ [] → i < length ids
     → HaveTaken p q (take i ids) rows → by < THREADS → by ≢ q.own.id → r ≡ after q (refused (view_of q) (suc (get_or ids i 0)) by)
-    → s ≡ record r { own = record r.own { held = [] } } → WereBusy ids by p s
+    → s ≡ record r { own = record r.own { held = [] }; moves = s.moves } → WereBusy ids by p s
 were_busy p q r s ids i by rows none near t few other is put = record {
   near = few;
   other = subst (λ (z : PassView). by ≢ z.own.id) t.is other;
@@ -89,12 +93,13 @@ were_busy p q r s ids i by rows none near t few other is put = record {
   var = get_or ids i 0;
   rest = drop (suc i) ids;
   of = sym (take-append-drop i ids) ∙ ap (λ l. l ++ drop i ids) (sym t.of) ∙ ap (λ l. vars_of rows ++ l) (drop-cons ids i 0 near);
-  is = put ∙ ap (λ (z : PassView). record z { own = record z.own { held = [] } }) is
-      ∙ ap (λ (z : PassView). record z { own = record z.own { held = [] }; reads = z.reads ++ Busy (suc (get_or ids i 0)) by ∷ [] }) t.is
+  is = put ∙ ap (λ (z : PassView). record z { own = record z.own { held = [] }; moves = s.moves }) is
+      ∙ ap (λ (z : PassView). record z { own = record z.own { held = [] }; reads = z.reads ++ Busy (suc (get_or ids i 0)) by ∷ []; moves = s.moves }) t.is
       ∙ ap (λ (h : List Held). record p {
         own = record p.own { held = h };
         reads = (p.reads ++ takes rows)
             ++ Busy (suc (get_or ids i 0)) by ∷ [];
+        moves = s.moves;
       }) (sym none);
 }
 

@@ -1,5 +1,5 @@
 -- Numbers that are drawn for the end of an attempt.
-use Rattle.std.specs.Prelude.{◌≡◌, ℕ, ℤ, ◌-◌, ◌<◌, ◌≤◌, ◌^◌, if◌then◌else◌, List, [], ◌∷◌, ◌++◌, map, Contains, Option, Some, None}
+use Rattle.std.specs.Prelude.{◌≡◌, ℕ, ℤ, ◌-◌, ◌<◌, ◌≤◌, ◌^◌, if◌then◌else◌, List, [], ◌∷◌, ◌++◌, map, length, Contains, Option, Some, None}
 use Rattle.gl_model.specs.declared.tx.Number.{Number}
 use Rattle.gl_model.specs.declared.tx.Tx.{Tx}
 use Rattle.gl_model.specs.declared.tx.Why.{Why}
@@ -9,7 +9,7 @@ use Rattle.gl_draws.specs.Draws.{Draw, draw, Open}
 use Rattle.gl_draws.specs.Ties.{Drawn, counted}
 use Rattle.gl_rule.specs.Lives.{Running, life_of}
 use Rattle.gl_rule.specs.Numbers.{count_on}
-use Rattle.gl_rule.specs.View.{Held}
+use Rattle.gl_rule.specs.View.{Held, moved}
 use Rattle.gl_table.specs.CaughtUp.{block_of}
 use Rattle.gl_table.specs.PassView.{PassView}
 use Rattle.gl_txn.specs.Attempts.{Attempting}
@@ -37,9 +37,12 @@ pub record MayNumber (p : PassView) (rows : List TakenRow) : Type 0 where
   pub runs : life_of p.own.mine ≡ Running
   pub each : (y : ℕ) → count_on y p.own.drawn ≤ 1
 
--- the pass, which was p and is q, drew these numbers and did nothing else; each is above those of its variable that waited before
+-- the pass, which was p and is q, drew these numbers, each in one step, and did nothing else; each is above those of its variable that waited before
 pub record HasDrawn (p q : PassView) (list : Option Held) (rows : List TakenRow) (tails : List ℕ) (numbers : List Number) : Type 0 where
-  pub is : q ≡ record p { own = record p.own { held = q.own.held; drawn = p.own.drawn ++ map end_of numbers } }
+  pub is : q ≡ record p {
+    own = record p.own { held = q.own.held; drawn = p.own.drawn ++ map end_of numbers };
+    moves = moved (length numbers) p.moves;
+  }
   pub held : AreHeld q.own.held list rows tails (drew_on p (numbered numbers))
   pub above : (y k m : ℕ) (look : Option ℤ) → Contains p.own.drawn (record { var = y; nth = k; look = look })
       → Contains numbers (record { var = y; nth = m }) → k < m
@@ -57,4 +60,4 @@ pub record HasDropped (tx : Tx) (why : Why) (p q : PassView) : Type 0 where
   pub ended : Tx
   pub looks : ended.looks ≡ tx.looks
   pub writes : ended.writes ≡ tx.writes
-  pub is : q ≡ with_entry p (Abort ended why)
+  pub is : q ≡ record (with_entry p (Abort ended why)) { moves = q.moves }

@@ -68,7 +68,7 @@ pub record AreUnused (held : List Held) (rows : List TakenRow) : Type 0 where
 -- the pass, which was p and is q, took the rows of these variables and did nothing else
 pub record HaveTaken (p q : PassView) (ys : List ℕ) (rows : List TakenRow) : Type 0 where
   pub of : vars_of rows ≡ ys
-  pub is : q ≡ record p { own = record p.own { held = q.own.held }; reads = p.reads ++ takes rows }
+  pub is : q ≡ record p { own = record p.own { held = q.own.held }; reads = p.reads ++ takes rows; moves = q.moves }
   pub held : AreHeld q.own.held None rows [] undrawn
 
 -- it took some of them, the first ones, found the next one's turn held by another pass, and put them back
@@ -79,7 +79,7 @@ pub record WereBusy (ys : List ℕ) (by : ℕ) (p q : PassView) : Type 0 where
   pub var : ℕ
   pub rest : List ℕ
   pub of : ys ≡ vars_of rows ++ var ∷ rest
-  pub is : q ≡ record p { reads = (p.reads ++ takes rows) ++ Busy (suc var) by ∷ [] }
+  pub is : q ≡ record p { reads = (p.reads ++ takes rows) ++ Busy (suc var) by ∷ []; moves = q.moves }
 
 -- the word that these write to x
 abbrev pub word_by : Option Pair → Option ℤ

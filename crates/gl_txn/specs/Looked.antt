@@ -4,7 +4,7 @@ use Rattle.gl_model.specs.declared.row.Row.{Row}
 use Rattle.gl_model.specs.declared.tx.Look.{Look}
 use Rattle.gl_draws.specs.Ties.{Drawn}
 use Rattle.gl_rule.specs.declared.slot.Slot.TheVariants as slot
-use Rattle.gl_rule.specs.View.{Taken}
+use Rattle.gl_rule.specs.View.{Taken, moved}
 use Rattle.gl_table.specs.PassView.{PassView}
 
 -- the number of a look that waits
@@ -19,4 +19,5 @@ IsLookAt x l p q =
       own = record p.own { drawn = p.own.drawn ++ drawn_of l ∷ [] };
       reads = p.reads ++ Taken (suc x) (slot.Row row)
           ∷ [];
+      moves = moved 5 p.moves;
     })

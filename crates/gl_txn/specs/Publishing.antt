@@ -19,7 +19,7 @@ use Rattle.gl_txn.specs.Racing.{Over, asked_of}
 use Rattle.gl_txn.specs.Trying.{Draws}
 use Rattle.gl_txn.specs.declared.taken.TakenRow.{TakenRow}
 use Rattle.gl_rule.specs.declared.slot.Slot.TheVariants as slot
-use Rattle.gl_rule.specs.View.{Busy, Hold, saw, saw_tail, took, left}
+use Rattle.gl_rule.specs.View.{Busy, Hold, moved, saw, saw_tail, took, left}
 use Rattle.gl_state.specs.ListView.{ListView}
 use Rattle.gl_table.specs.PassView.{PassView, view_of, after}
 use Rattle.gl_table.specs.TableView.{TableView}
@@ -47,7 +47,7 @@ pub record HasReached (z : TableView) (p : PassView) (l : ListView) (q : PassVie
 
 -- the list's turn was held by another pass, or there was no room, and the list was put back
 abbrev pub IsReachStop : TableView → TxWait → PassView → PassView → Type 0
-IsReachStop z (wait.Busy by) p q = (by < THREADS) × (by ≢ p.own.id) × (q ≡ record p { reads = p.reads ++ Busy 0 by ∷ [] })
+IsReachStop z (wait.Busy by) p q = (by < THREADS) × (by ≢ p.own.id) × (q ≡ record p { reads = p.reads ++ Busy 0 by ∷ []; moves = moved 1 p.moves })
 IsReachStop z (wait.RingFull low tail) p q = (l : ListView) × (p.seen ≤ tail) × (HasRoomAt z low tail → ⊥)
     × (q ≡ after (with_room p l low tail) (left (view_of (with_room p l low tail)) 0 false))
 
@@ -82,4 +82,5 @@ pub record HasPublished (tx : Tx) (at : ℕ) (p q : PassView) : Type 0 where
     known = p.known ++ (at, commit_stamp p.own.id ended)
         ∷ [];
     stored = [];
+    moves = q.moves;
   }

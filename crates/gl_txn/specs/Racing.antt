@@ -1,5 +1,5 @@
 -- What the rows that a commit takes say of it.
-use Rattle.std.specs.Prelude.{◌≡◌, ℕ, ◌<◌, List, [], ◌∷◌, ◌++◌, map, slice_get, Contains, Option, Some, None}
+use Rattle.std.specs.Prelude.{◌≡◌, ℕ, ◌*◌, ◌<◌, length, List, [], ◌∷◌, ◌++◌, map, slice_get, Contains, Option, Some, None}
 use Rattle.gl_model.specs.declared.event.Stamp.{Stamp}
 use Rattle.gl_model.specs.declared.limits.TheConstants.{THREADS}
 use Rattle.gl_model.specs.declared.row.Question.{Question}
@@ -15,7 +15,7 @@ use Rattle.gl_draws.specs.Events.{AreEvents}
 use Rattle.gl_draws.specs.RowFacts.{IsWithin, SomeFails}
 use Rattle.gl_rule.specs.Fitting.{IsFitting, InfosStand}
 use Rattle.gl_rule.specs.Lives.{Running, life_of}
-use Rattle.gl_rule.specs.View.{Held}
+use Rattle.gl_rule.specs.View.{Held, with_loads}
 use Rattle.gl_table.specs.PassView.{PassView, shelf_of}
 use Rattle.gl_rule.specs.Knowledge.{AreBelow}
 use Rattle.gl_txn.specs.Holding.{AreHeld, undrawn, vars_of}
@@ -39,10 +39,10 @@ pub record MayJudge (p : PassView) (rows : List TakenRow) (base : Question) : Ty
   pub owned : (setting : Setting) (l : List Stamp) (now : State) → AreEvents l p.own.id p.own.mine → Allows setting l now
       → AreLeastOwned now p.own.id base.held
 
--- nothing but what it knows of the list's events changed, and what it knew it still knows
+-- nothing but what it knows of the list's events changed, and what it knew it still knows; five words were loaded for each event more
 pub record KnowsOn (p q : PassView) : Type 0 where
   pub more : List (ℕ × Stamp)
-  pub is : q ≡ record p { known = p.known ++ more; loaded = q.loaded }
+  pub is : q ≡ record p { known = p.known ++ more; loaded = q.loaded; moves = with_loads (5 * length more) p.moves }
 
 -- over each list of events that the pass cannot tell from the table's, in which the rows' Infos stand for accesses
 abbrev pub Over : PassView → List TakenRow → (List Stamp → Type 0) → Type 0

@@ -5,7 +5,7 @@ use Rattle.gl_model.specs.declared.row.Row.{Row}
 use Rattle.gl_model.specs.declared.tx.Look.{Look}
 use Rattle.gl_model.specs.declared.tx.Pair.{Pair}
 use Rattle.gl_rule.specs.declared.slot.Slot.TheVariants as slot
-use Rattle.gl_rule.specs.View.{Taken, refused}
+use Rattle.gl_rule.specs.View.{Taken, moved, refused}
 use Rattle.gl_table.specs.PassView.{Own, PassView, view_of, after}
 use Rattle.gl_txn.specs.Attempts.{Attempting, written, looked, is_in, size, IsTooLarge, with_look}
 use Rattle.gl_txn.specs.Trying.{Draws}
@@ -23,12 +23,12 @@ ReadBy None None x value a o b u = (nth : ℕ) × (b ≡ with_look x value nth a
 abbrev pub IsRead : ℕ → ℤ → Attempting → Own → Attempting → Own → Type 0
 IsRead x value a o b u = ReadBy (written a x) (looked a x) x value a o b u
 
--- a new look took the row as it was then, which had this word, and did nothing else
+-- a new look took the row as it was then, which had this word, and did nothing else: five steps, one of them for its number
 abbrev pub LooksBy : Option Pair → Option Look → ℕ → ℤ → PassView → PassView → Type 0
 LooksBy (Some w) look x value p q = q ≡ p
 LooksBy None (Some l) x value p q = q ≡ p
 LooksBy None None x value p q = (row : Row) × (row.value ≡ value)
-    × (q ≡ record p { own = q.own; reads = p.reads ++ Taken (suc x) (slot.Row row) ∷ [] })
+    × (q ≡ record p { own = q.own; reads = p.reads ++ Taken (suc x) (slot.Row row) ∷ []; moves = moved 5 p.moves })
 
 abbrev pub HasLooked : Attempting → ℕ → ℤ → PassView → PassView → Type 0
 HasLooked a x value p q = LooksBy (written a x) (looked a x) x value p q

@@ -30,7 +30,7 @@ fn put_noted(shared: &Shared, pass: &mut Pass, rows: &mut Vec<TakenRow>, base: &
     requires table { pass.old.own.table ≡ shared.now.id }
     requires held { AreCommitted pass.old rows.old.items base.now at }
     requires some { 0 < vec_len rows.old }
-    ensures pass { pass.new ≡ record pass.old { own = record pass.old.own { held = pass.new.own.held } } }
+    ensures pass { pass.new ≡ record pass.old { own = record pass.old.own { held = pass.new.own.held }; moves = pass.new.moves } }
     ensures held { AreCommitted pass.new rows.new.items base.now at }
     ensures len { vec_len rows.new + 1 ≡ vec_len rows.old }
 {
@@ -56,7 +56,7 @@ pub(crate) fn put_all_noted(
 )
     requires table { pass.old.own.table ≡ shared.now.id }
     requires held { AreCommitted pass.old rows.old.items base.now at }
-    ensures { pass.new ≡ record pass.old { own = record pass.old.own { held = [] } } }
+    ensures { pass.new ≡ record pass.old { own = record pass.old.own { held = [] }; moves = pass.new.moves } }
 {
     for _ in 0..rows.len() {
         put_noted(shared, pass, rows, base, at);

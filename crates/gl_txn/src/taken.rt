@@ -38,7 +38,7 @@ fn put_last(shared: &Shared, pass: &mut Pass, rows: &mut Vec<TakenRow>)
     requires table { pass.old.own.table ≡ shared.now.id }
     requires held { AreUnused pass.old.own.held rows.old.items }
     requires some { 0 < vec_len rows.old }
-    ensures pass { pass.new ≡ record pass.old { own = record pass.old.own { held = pass.new.own.held } } }
+    ensures pass { pass.new ≡ record pass.old { own = record pass.old.own { held = pass.new.own.held }; moves = pass.new.moves } }
     ensures held { AreUnused pass.new.own.held rows.new.items }
     ensures len { vec_len rows.new + 1 ≡ vec_len rows.old }
     ensures room { vec_capacity rows.new ≡ vec_capacity rows.old }
@@ -54,7 +54,7 @@ fn put_last(shared: &Shared, pass: &mut Pass, rows: &mut Vec<TakenRow>)
 pub(crate) fn put_rows(shared: &Shared, pass: &mut Pass, rows: &mut Vec<TakenRow>)
     requires table { pass.old.own.table ≡ shared.now.id }
     requires held { AreUnused pass.old.own.held rows.old.items }
-    ensures pass { pass.new ≡ record pass.old { own = record pass.old.own { held = [] } } }
+    ensures pass { pass.new ≡ record pass.old { own = record pass.old.own { held = [] }; moves = pass.new.moves } }
     ensures rows { rows.new.items ≡ [] }
     ensures room { vec_capacity rows.new ≡ vec_capacity rows.old }
 {

@@ -54,7 +54,7 @@ mark-nth-requires-clause-may g c =
     simp to_z-of_z
     (subst (λ (q : PassView). MayMarkPlain z.key.setting q c.args.var a.write a.value a.raised)
     (sym (walked_is p c.args.var row c.tail-tail.result w u is walk))
-    (may_mark_row z p c.args.var row c.tail-tail.result u.known u.loaded c.args.write c.is_race-race.result c.requires.may judged a same))
+    (may_mark_row z p c.args.var row c.tail-tail.result u.known u c.args.write c.is_race-race.result c.requires.may judged a same))
 
 pub put_row-requires-clause-may : goal.put_row-requires-clause-may
 put_row-requires-clause-may g c =
@@ -74,7 +74,7 @@ put_row-requires-clause-may g c =
     let own = c.id.ensures.is ∙ ap (λ (q : PassView). q.own.id) is in
     let same = c.judged-access.ensures ∙ ap (λ r. access_of r c.args.write c.is_race-race.result) c.row-2.ensures in
     let f = access_facts row c.args.write c.is_race-race.result in
-    may_put_row z.key.setting p c.args.var row c.tail-tail.result u.known u.loaded c.requires.may.runs c.mark-nth.result q
+    may_put_row z.key.setting p c.args.var row c.tail-tail.result u.known u c.requires.may.runs c.mark-nth.result q
     (subst (λ t. t < THREADS) own c.id.ensures.near) own refl
     (least_before z.key.setting p c.args.var row c.tail-tail.result w c.monitors.result is (c.monitors.ensures.owned z.key.setting))
     a (c.is_some.ensures ∙ sym (ap (λ a. a.write) same ∙ f.0)) (λ n r. ap (λ a. a.value) same
@@ -97,10 +97,10 @@ returns-clause-judged g c =
     let made = drew ∙ ap (λ (q : PassView). marked_plain q c.args.var c.mark-nth.result a.write a.value a.raised)
     (walked_is p c.args.var row c.tail-tail.result w u is walk) in
     let same = c.judged-access.ensures ∙ ap (λ r. access_of r c.args.write c.is_race-race.result) c.row-2.ensures in
-    is_judged z.key.setting p c.args.var row c.tail-tail.result u.known u.loaded c.mark-nth.result c.args.write c.is_race-race.result a
-    c.answer.result c.put_row.new.pass w u is
+    is_judged z.key.setting p c.args.var row c.tail-tail.result u.known u c.mark-nth.result c.args.write c.is_race-race.result a
+    c.answer.result c.put_row.new.pass w is
     (row_within p c.args.var row c.tail-tail.result _ w c.in-Ok.ensures.ok c.tail-tail.ensures.within is) walk refl same c.answer.ensures
-    (is_stored p c.args.var row c.tail-tail.result u.known u.loaded c.mark-nth.result a c.mark-nth.new.pass c.put_row.new.pass
+    (is_stored p c.args.var row c.tail-tail.result u.known u c.mark-nth.result a c.mark-nth.new.pass c.put_row.new.pass
     c.requires.may.held made c.put_row.ensures)
     (judged_row z.key.setting p c.args.var row c.tail-tail.result w u q c.args.write c.check.result c.is_race-race.result
     c.requires.may.runs is walk
@@ -122,7 +122,7 @@ returns-clause-loads g c =
     let drew = simp to_z-of_z at c.mark-nth.ensures in
     let made = drew ∙ ap (λ (q : PassView). marked_plain q c.args.var c.mark-nth.result a.write a.value a.raised)
     (walked_is p c.args.var row c.tail-tail.result w u is walk) in
-    let stored = is_stored p c.args.var row c.tail-tail.result u.known u.loaded c.mark-nth.result a c.mark-nth.new.pass c.put_row.new.pass
+    let stored = is_stored p c.args.var row c.tail-tail.result u.known u c.mark-nth.result a c.mark-nth.new.pass c.put_row.new.pass
     c.requires.may.held made c.put_row.ensures in
     let q : Question = record { thread = c.id.result; write = c.is_some.result; commit = None; held = c.monitors.result } in
     let by = c.id.ensures.is ∙ ap (λ (q : PassView). q.own.id) is in
@@ -140,7 +140,7 @@ returns-clause-loads g c =
           (subst (λ r. (i : Info) → Keeps r i → Conflicts i (record (question_of p.own c.args.write) { held = c.monitors.result })
           → (i.thread < THREADS) × SayYesSurely c.args.cuts.now i (record (question_of p.own c.args.write) { held = c.monitors.result }))
           (sym c.row.ensures) sure)))
-          stored.known_is,
+          stored.known_is stored.cost,
     )
 
 pub take_row-requires-clause-free : goal.take_row-requires-clause-free

@@ -1,5 +1,4 @@
-use Rattle.std.proofs.Common.{◌<◌, length, subst, sym, ap, arith}
-use Rattle.gl_model.specs.declared.limits.TheConstants.{HELD}
+use Rattle.std.proofs.Common.{length, subst, sym, ap, arith}
 use Rattle.gl_rule.specs.Levels.{AreLeastEntered}
 use Rattle.gl_table.proofs.LeastChanged.{least_entered}
 use Rattle.gl_table.proofs.levels.least_with.Goals as goal

@@ -11,7 +11,7 @@ use Rattle.gl_rule.specs.Cells.{packed}
 use Rattle.gl_rule.specs.Commits.{MayCommit, drew_commit}
 use Rattle.gl_rule.specs.Fitting.{MayPublish}
 use Rattle.gl_rule.specs.Told.{IsTailOf}
-use Rattle.gl_rule.specs.View.{View, shelf, published}
+use Rattle.gl_rule.specs.View.{View, shelf, filled, published}
 use Rattle.gl_table.specs.CaughtUp.{caught_up}
 use Rattle.gl_table.specs.Committing.{MayPublishTx, commit_stamp, published_tx}
 use Rattle.gl_table.specs.KeyOf.{key_of}
@@ -30,7 +30,7 @@ publish_tx-at-requires-clause-may c =
     let now = caught_up c.pass.inside.seat.me.0 id mine in
     let key = key_of c.args.board.now.key in
     let words = c.pack_commit-words.ensures ∙ ap (λ (xs : List ℕ). packed (record { thread = id; event = Commits xs })) c.requires.vars in
-    let is = c.put_words.ensures.stored ∙ ap (λ l. record now { stored = l }) words in (
+    let is = c.put_words.ensures.stored ∙ ap (filled now) words in (
       m.held,
       m.old,
       subst (λ (tx : Tx). MayPublish key (shelf id mine) (caught_up c.put_words.new.seat.me.0 id mine) m.held m.old c.args.state.now
@@ -100,13 +100,16 @@ returns c =
     c.requires.may in
     let at_tail = subst (λ (v : View). IsTailOf v.held n) c.put_words.ensures.stored told.3 in
     let old = c.pass.inside.mine.spare - 1 in
+    let words = c.pack_commit-words.ensures ∙ ap (λ (xs : List ℕ). packed (record { thread = id; event = Commits xs })) c.requires.vars in
     let left = c.push.ensures.spare in
     let mine' = c.push.new.self.entries in
     record {
       published = ap (λ y. pass_of y id mine' (caught_up c.publish_tx-at.new.seat.me.0 id mine') c.push.new.self.spare) same
           ∙ ap (λ s. pass_of z id mine' (caught_up c.publish_tx-at.new.seat.me.0 id mine') s) left
           ∙ ap (λ v. pass_of z id mine' v old) is
-          ∙ ap (λ l. pass_of z id l (published (caught_up c.pass.inside.seat.me.0 id mine) id mine (Commit n tx) n (commit_stamp id tx)
+          ∙ ap (λ ws. pass_of z id mine' (published (filled (caught_up c.pass.inside.seat.me.0 id mine) ws) id mine (Commit n tx) n
+          (commit_stamp id tx) (slot.List c.args.state.now) (drew_commit (variables_of tx) (draw id n (Entered (Commit n tx))))) old) words
+          ∙ ap (λ l. pass_of z id l (published (filled (caught_up c.pass.inside.seat.me.0 id mine) (packed (commit_stamp id tx))) id mine (Commit n tx) n (commit_stamp id tx)
           (slot.List c.args.state.now) (drew_commit (variables_of tx) (draw id n (Entered (Commit n tx))))) old) more
           ∙ ap (λ (p : PassView). published_tx p tx n c.args.state.now) c.pass.view_is;
       here = subst (λ (p : PassView). n ≡ p.seen) c.pass.view_is (sym (at_tail m.held m.may.tail m.may.held m.may.list m.may.saw) ∙ m.tail);

@@ -2,15 +2,17 @@ use Rattle.std.proofs.Common.{◌≡◌, ◌-◌, sym, ap, subst, rules, ◌∙�
 use Rattle.std.proofs.lemmas.Int.{to_z-of_z}
 use Rattle.std.proofs.Common.{FitsSigned, w64}
 use Rattle.gl_model.specs.declared.event.Event.TheVariants.{Act as Does}
+use Rattle.gl_model.specs.declared.event.Stamp.{Stamp}
 use Rattle.gl_model.specs.Entries.{Sync}
+use Rattle.gl_rule.specs.Cells.{packed}
 use Rattle.gl_rule.specs.declared.slot.Slot.TheVariants as slot
 use Rattle.gl_table.specs.CaughtUp.{caught_up}
 use Rattle.gl_table.specs.KeyOf.{key_of}
 use Rattle.gl_rule.specs.Fitting.{MayPublish}
-use Rattle.gl_table.specs.PassView.{PassView, pass_of, view_of, after_storing}
-use Rattle.gl_table.specs.Putting.{MayPublishAct}
+use Rattle.gl_table.specs.PassView.{PassView, pass_of}
+use Rattle.gl_table.specs.Putting.{MayPublishAct, published_act}
 use Rattle.gl_rule.specs.Told.{IsTailOf}
-use Rattle.gl_rule.specs.View.{View, shelf, published}
+use Rattle.gl_rule.specs.View.{View, shelf, filled, published}
 use Rattle.gl_table.proofs.Passes.{pass_publishes}
 use Rattle.gl_table.proofs.telling.publish.Goals as goal
 
@@ -20,8 +22,7 @@ publish_act-at-requires-clause-may c =
     (sym c.pass.view_is) c.requires.may in
     let mine = c.pass.inside.mine.entries in
     let id = c.pass.inside.id in
-    let is = c.put_words.ensures.stored ∙ ap (λ l. record (caught_up c.pass.inside.seat.me.0 id mine) { stored = l }) c.pack-words.ensures
-    in
+    let is = c.put_words.ensures.stored ∙ ap (filled (caught_up c.pass.inside.seat.me.0 id mine)) c.pack-words.ensures in
     let fits : FitsSigned w64 c.args.value = search rules in (
       m.held,
       m.old,
@@ -52,6 +53,7 @@ returns c =
     let id = c.pass.inside.id in
     let n = c.publish_act-at.result in
     let z = c.pass.inside.seat.table_id in
+    let x : Stamp = record { thread = id; event = Does c.args.act.now } in
     let more = simp to_z-of_z at c.push.ensures.entries in
     let is = (pass_publishes _ _ _ _ _ _ c.pass.invariant.pass _ c.args.act.now c.args.value (slot.List c.args.state.now) _ _ _ _ _
     c.put_words.ensures.stored c.put_words.ensures.seat.2 more told c.requires.may.may.kept).1 in
@@ -65,10 +67,12 @@ returns c =
           c.push.new.self.spare) same
           ∙ ap (λ s. pass_of z id c.push.new.self.entries (caught_up c.publish_act-at.new.seat.me.0 id c.push.new.self.entries) s) left
           ∙ ap (λ v. pass_of z id c.push.new.self.entries v (c.pass.inside.mine.spare - 1)) is
-          ∙ ap (λ l. pass_of z id l (published (caught_up c.pass.inside.seat.me.0 id mine) id mine (Sync n c.args.act.now c.args.value) n
-          (record { thread = id; event = Does c.args.act.now }) (slot.List c.args.state.now) (λ g. g.drew))
+          ∙ ap (λ ws. pass_of z id c.push.new.self.entries (published (filled (caught_up c.pass.inside.seat.me.0 id mine) ws) id mine
+          (Sync n c.args.act.now c.args.value) n x (slot.List c.args.state.now) (λ g. g.drew)) (c.pass.inside.mine.spare - 1))
+          c.pack-words.ensures
+          ∙ ap (λ l. pass_of z id l (published (filled (caught_up c.pass.inside.seat.me.0 id mine) (packed x)) id mine
+          (Sync n c.args.act.now c.args.value) n x (slot.List c.args.state.now) (λ g. g.drew))
           (c.pass.inside.mine.spare - 1)) more
-          ∙ ap (λ (p : PassView). after_storing p (published (view_of p) p.own.id p.own.mine (Sync n c.args.act.now c.args.value) n
-          (record { thread = p.own.id; event = Does c.args.act.now }) (slot.List c.args.state.now) (λ g. g.drew))) c.pass.view_is;
+          ∙ ap (λ (p : PassView). published_act p c.args.act.now c.args.value n c.args.state.now) c.pass.view_is;
       here = subst (λ (p : PassView). n ≡ p.seen) c.pass.view_is (sym (at_tail m.held m.may.tail m.may.held m.may.list m.may.saw) ∙ m.tail);
     }

@@ -4,12 +4,12 @@ use Rattle.gl_rule.specs.Fitting.{MayStoreWord}
 use Rattle.gl_table.specs.CaughtUp.{caught_up}
 use Rattle.gl_table.specs.KeyOf.{key_of}
 use Rattle.gl_rule.specs.Objects.{Key}
-use Rattle.gl_rule.specs.View.{View, Held}
+use Rattle.gl_rule.specs.View.{View, Held, filled}
 use Rattle.gl_table.proofs.Passes.{words_next}
 use Rattle.gl_table.proofs.telling.put_words.Goals as goal
 
 store_at : (key : Key) (u : View) (h : Held) (tail : ℕ) (k : List ℕ) → MayStoreWord key u h tail → length k < 5
-    → MayStoreWord key (record u { stored = k }) h tail
+    → MayStoreWord key (filled u k) h tail
 store_at key u h tail k may few = record {
   held = may.held;
   list = may.list;

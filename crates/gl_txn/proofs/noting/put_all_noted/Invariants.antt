@@ -4,5 +4,5 @@ use Rattle.gl_txn.specs.Noting.{AreCommitted}
 use Rattle.gl_txn.proofs.noting.put_all_noted.Given as goal
 
 abbrev pub invariant-loop : goal.invariant-loop
-invariant-loop l = (l.pass ≡ record l.fn.pass { own = record l.fn.pass.own { held = l.pass.own.held } })
+invariant-loop l = (l.pass ≡ record l.fn.pass { own = record l.fn.pass.own { held = l.pass.own.held }; moves = l.pass.moves })
     × AreCommitted l.pass l.rows.items l.base l.at × (vec_len l.rows + l.counter ≡ vec_len l.fn.rows)

@@ -40,3 +40,9 @@ loop-taken-preserved g c =
 pub returns-clause-judged : goal.returns-clause-judged
 returns-clause-judged g c = clear_all c.loop-taken.pass c.args.base.now c.args.writes.now c.args.rows.now c.loop-taken.taken-index
     c.loop-taken-test.false c.loop-taken.invariant.1
+
+pub returns-then-is_race-clause-pass : goal.returns-then-is_race-clause-pass
+returns-then-is_race-clause-pass g c =
+    let r = c.taken-item.result in
+    let w = subst (λ (row : Row). HasWalked row c.loop-taken.pass c.check.new.pass) c.row.ensures c.check.ensures.pass in
+    knows_more r.row c.args.pass.now c.loop-taken.pass c.check.new.pass c.loop-taken.invariant.0 w
