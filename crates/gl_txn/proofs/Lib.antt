@@ -18,3 +18,4 @@ pub mod Stages
 pub mod Ready
 pub mod NewLooks
 pub mod Apart
+pub mod Costs
