@@ -1,5 +1,5 @@
 -- What the parts of an attempt's end cost, one after another.
-use Rattle.std.proofs.Common.{◌≡◌, ℕ, suc, ◌+◌, ◌*◌, ◌≤◌, List, [], ◌∷◌, ◌++◌, length, length-append, refl, sym, ap, arith, ◌∙◌}
+use Rattle.std.proofs.Common.{◌≡◌, ℕ, suc, ◌+◌, ◌≤◌, List, [], ◌∷◌, length, length-append, refl, ap, arith, ◌∙◌}
 use Rattle.gl_rule.specs.View.{Moves, moved}
 use Rattle.gl_table.specs.PassView.{PassView}
 use Rattle.gl_txn.specs.Costs.{EndCosts}
