@@ -1,6 +1,6 @@
 -- The code of an exit, by the thread's own list.
 use Rattle.std.proofs.Common.{◌≡◌, ℕ, zero, suc, ◌+◌, ◌<◌, ◌==◌, [], ◌∷◌, refl, sym, ap, subst, arith, ◌∙◌, inl, inr, Bool, Some, None, eq-eqb, ne_eqb, Ok, Err, Result}
-use Rattle.std.specs.Prelude.{◌⊎◌, ◌↔◌, pos, Option, IfOk, if◌then◌else◌, slice_index_or}
+use Rattle.std.specs.Prelude.{◌↔◌, pos, Option, IfOk, if◌then◌else◌, slice_index_or}
 use Rattle.gl_model.specs.declared.event.Act.TheVariants.{Rel, Fail}
 use Rattle.gl_model.specs.declared.limits.TheConstants.{MONITORS}
 use Rattle.gl_model.specs.Machine.{Setting, Free, Owned}

@@ -174,9 +174,9 @@ module _ (p q : PassView) (list : Option Held) (rows : List TakenRow) (tails : L
       → HasDrawn p r' list rows tails (numbers ++ record { var = x; nth = n } ∷ [])
   number_more r' n is above = record {
     is = after_is r' n is ∙ ap (λ (l : List Drawn). record p {
-          own = record p.own { held = r'.own.held; drawn = l };
-          moves = moved 1 (moved (length numbers) p.moves);
-        })
+      own = record p.own { held = r'.own.held; drawn = l };
+      moves = moved 1 (moved (length numbers) p.moves);
+    })
         (append_assoc p.own.drawn (map end_of numbers) (record { var = x; nth = n; look = None } ∷ [])
         ∙ ap (λ (l : List Drawn). p.own.drawn ++ l) (sym (ends_pushed numbers (record { var = x; nth = n }))))
         ∙ ap (λ (m : Moves). record p {

@@ -19,3 +19,4 @@ pub mod Ready
 pub mod NewLooks
 pub mod Apart
 pub mod GoingOn
+pub mod Costs

@@ -136,8 +136,7 @@ module _ (z : TableView) (o : PassView) (rows : List TakenRow) (tx : Tx) (l : Li
         ∷ o.seen ∷ []) numbers (variables_of tx) draws are rises held above in_rows R.runs
 
     commits : MayCommit z.key.setting (shelf_of o)
-        (view_of (record (with_room o l low tail)
-        {
+        (view_of (record (with_room o l low tail) {
           own = record (with_room o l low tail).own { held = H; drawn = o.own.drawn ++ map end_of numbers };
           moves = moved (length numbers) (with_room o l low tail).moves;
         }))
@@ -178,11 +177,10 @@ module _ (z : TableView) (o : PassView) (rows : List TakenRow) (tx : Tx) (l : Li
         × IsStateOf l new
     steps now is = (now, record { may = state_runs z.key.setting o l told R.runs now is; effect = refl }, is)
 
-    pub may_publish : MayPublishTx z.key (record (with_room o l low tail)
-        {
-          own = record (with_room o l low tail).own { held = H; drawn = o.own.drawn ++ map end_of numbers };
-          moves = moved (length numbers) (with_room o l low tail).moves;
-        })
+    pub may_publish : MayPublishTx z.key (record (with_room o l low tail) {
+      own = record (with_room o l low tail).own { held = H; drawn = o.own.drawn ++ map end_of numbers };
+      moves = moved (length numbers) (with_room o l low tail).moves;
+    })
         (record { looks = tx.looks; writes = tx.writes; numbers = numbers }) l
     may_publish = record {
       held = with_tail tail (new_held 0 (slot.List l));
@@ -282,8 +280,7 @@ module _ (setting : Setting) (q r : PassView) (l : ListView) (t : Held) (object 
         }
     published_is p u numbers drawn back =
         back ∙ ap (λ (s : PassView). record s { own = record s.own { held = [] }; moves = u.moves }) whole
-        ∙ ap (λ (q : PassView). record (after (published_tx q tx n l) (left (view_of (published_tx q tx n l)) 0 false))
-        {
+        ∙ ap (λ (q : PassView). record (after (published_tx q tx n l) (left (view_of (published_tx q tx n l)) 0 false)) {
           own = record (after (published_tx q tx n l) (left (view_of (published_tx q tx n l)) 0 false)).own { held = [] };
           moves = u.moves;
         }) drawn

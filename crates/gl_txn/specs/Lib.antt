@@ -12,3 +12,4 @@ pub mod Publishing
 pub mod Stages
 pub mod Holding
 pub mod Laws
+pub mod Costs

@@ -1,5 +1,5 @@
 // Dropping an attempt: its numbers are drawn, its entry is stored, and its rows go back.
-ghost use Rattle.std.specs.Prelude.{◌≡◌, ℕ, ◌<◌, ◌≤◌, ◌++◌, ◌∷◌, [], List, Option, None, length, map};
+ghost use Rattle.std.specs.Prelude.{◌≡◌, ℕ, ◌+◌, ◌*◌, ◌<◌, ◌≤◌, ◌++◌, ◌∷◌, [], List, Option, None, length, map};
 ghost use Rattle.gl_model.specs.declared.tx.Why.TheVariants.{Changed, Raised};
 ghost use Rattle.gl_model.specs.declared.limits.TheConstants.{VARIABLES, TX_VARIABLES};
 ghost use Rattle.gl_model.specs.Rising.{Rises};
@@ -7,6 +7,7 @@ ghost use Rattle.gl_model.specs.Kept.{AreVariables};
 ghost use Rattle.gl_model.specs.Records.{variables_of};
 ghost use Rattle.gl_rule.specs.View.{Held as AHeld};
 ghost use Rattle.gl_txn.specs.Changing.{IsFirstChange};
+ghost use Rattle.gl_txn.specs.Costs.{EndCosts};
 ghost use Rattle.gl_txn.specs.Drawing.{MayNumber, HasDrawn, HasDropped, attempt_in, numbered};
 ghost use Rattle.gl_txn.specs.Holding.{AreHeld, undrawn, vars_of};
 ghost use Rattle.gl_txn.specs.Racing.{RacesOn};
@@ -43,6 +44,7 @@ pub(crate) fn draw_numbers(
     requires none { numbers.old ≡ [] }
     ensures drawn { (list : Option AHeld) (tails : List ℕ) → AreHeld pass.old.own.held list rows.now tails undrawn → HasDrawn pass.old pass.new list rows.now tails numbers.new }
     ensures all { numbered numbers.new ≡ vars_of rows.now }
+    ensures cost { EndCosts 0 (length rows.now) pass.old pass.new }
 {
     for taken in rows {
         let nth = shared.mark_open(pass, taken.var, None);
@@ -68,6 +70,7 @@ pub(crate) fn drop_changed(
     requires of { vars_of rows.old.items ≡ variables_of tx.value }
     requires looks { AreVariables (map (λ l. l.var) tx.value.looks) }
     ensures dropped { HasDropped tx.value (Changed change.now.var change.now.read change.now.found) pass.old pass.new }
+    ensures cost { EndCosts 0 (2 * length rows.old.items + 1) pass.old pass.new }
     ensures end { result ≡ WasChanged change.now.var change.now.read change.now.found }
 {
     let mut tx = tx;
@@ -103,6 +106,7 @@ pub(crate) fn drop_raised(
     requires none { tx.value.numbers ≡ [] }
     requires raised { RacesOn pass.old rows.old.items tx.value var }
     ensures dropped { HasDropped tx.value (Raised var) pass.old pass.new }
+    ensures cost { EndCosts 0 (3 * length rows.old.items) pass.old pass.new }
     ensures end { result ≡ WasRaised var }
 {
     let mut tx = tx;

@@ -1,8 +1,9 @@
 // The end of an attempt.
-ghost use Rattle.std.specs.Prelude.{◌≡◌, ◌<◌, ◌≤◌, ◌+◌, IfOk, IfErr, OnOk, OnErr, [], vec_capacity};
+ghost use Rattle.std.specs.Prelude.{◌≡◌, ◌<◌, ◌≤◌, ◌+◌, ◌*◌, length, IfOk, IfErr, OnOk, OnErr, [], vec_capacity};
 ghost use Rattle.gl_model.specs.declared.limits.TheConstants.{TX_VARIABLES};
 ghost use Rattle.gl_model.specs.Records.{variables_of};
 ghost use Rattle.gl_rule.specs.Objects.{capacity};
+ghost use Rattle.gl_txn.specs.Costs.{EndCosts, IsEndCost, stored_by};
 ghost use Rattle.gl_txn.specs.Changing.{AreUnchangedIn};
 ghost use Rattle.gl_txn.specs.Drawing.{attempt_in};
 ghost use Rattle.gl_txn.specs.Publishing.{IsReady};
@@ -41,6 +42,8 @@ fn end_clear(
     ensures cause { IfOk result (λ e. ReachedEnd shared.now e pass.old pass.new) }
     ensures wait { IfErr result (λ w. ReachedWait shared.now w.1 pass.old pass.new) }
     ensures stop { IfErr result (λ w. w.0.value ≡ tx.value) }
+    ensures cost { IfOk result (λ e. EndCosts (stored_by e) (3 * length rows.old.items + 7) pass.old pass.new) }
+    ensures wait_cost { OnErr result (EndCosts 0 (2 * length rows.old.items + 6) pass.old pass.new) }
     ensures back { OnErr result (IsPutBack pass.old pass.new) }
     ensures rows { OnErr result (rows.new.items ≡ []) }
     ensures room { OnErr result (vec_capacity rows.new ≡ vec_capacity rows.old) }
@@ -77,6 +80,8 @@ fn end_unchanged(
     ensures cause { IfOk result (λ e. IsCauseBy shared.now (attempt_in tx.value) e (shelf_of pass.old) pass.old.seen pass.old.reads rows.old.items pass.new) }
     ensures wait { IfErr result (λ w. IsWaitBy shared.now (attempt_in tx.value) w.1 (shelf_of pass.old) pass.old.seen pass.old.reads rows.old.items pass.new) }
     ensures stop { IfErr result (λ w. w.0.value ≡ tx.value) }
+    ensures cost { IfOk result (λ e. EndCosts (stored_by e) (3 * length rows.old.items + 8) pass.old pass.new) }
+    ensures wait_cost { OnErr result (EndCosts 0 (2 * length rows.old.items + 7) pass.old pass.new) }
     ensures back { OnErr result (IsPutBack pass.old pass.new) }
     ensures rows { OnErr result (rows.new.items ≡ []) }
     ensures room { OnErr result (vec_capacity rows.new ≡ vec_capacity rows.old) }
@@ -124,6 +129,8 @@ fn end_taken(
     ensures cause { IfOk result (λ e. IsCauseBy shared.now (attempt_in tx.value) e (shelf_of pass.old) pass.old.seen pass.old.reads rows.old.items pass.new) }
     ensures wait { IfErr result (λ w. IsWaitBy shared.now (attempt_in tx.value) w.1 (shelf_of pass.old) pass.old.seen pass.old.reads rows.old.items pass.new) }
     ensures stop { IfErr result (λ w. w.0.value ≡ tx.value) }
+    ensures cost { IfOk result (λ e. EndCosts (stored_by e) (3 * length rows.old.items + 8) pass.old pass.new) }
+    ensures wait_cost { OnErr result (EndCosts 0 (2 * length rows.old.items + 7) pass.old pass.new) }
     ensures back { OnErr result (IsPutBack pass.old pass.new) }
     ensures rows { OnErr result (rows.new.items ≡ []) }
     ensures room { OnErr result (vec_capacity rows.new ≡ vec_capacity rows.old) }
@@ -157,6 +164,8 @@ fn end_attempt(
     ensures cause { IfOk result (λ e. IsCause shared.now (attempt_in tx.value) e pass.old pass.new) }
     ensures wait { IfErr result (λ w. IsWaitCause shared.now (attempt_in tx.value) w.1 pass.old pass.new) }
     ensures stop { IfErr result (λ w. w.0.value ≡ tx.value) }
+    ensures cost { IfOk result (λ e. IsEndCost (attempt_in tx.value) (stored_by e) pass.old pass.new) }
+    ensures wait_cost { OnErr result (IsEndCost (attempt_in tx.value) 0 pass.old pass.new) }
     ensures back { OnErr result (IsPutBack pass.old pass.new) }
     ensures rows { OnErr result (rows.new.items ≡ []) }
     ensures room { OnErr result (vec_capacity rows.new ≡ vec_capacity rows.old) }
@@ -187,6 +196,8 @@ impl Txn {
         ensures cause { IfOk result (λ e. IsCause shared.now (kept_of keep self) e pass.old pass.new) }
         ensures wait { IfErr result (λ w. IsWaitCause shared.now (kept_of keep self) w.1 pass.old pass.new) }
         ensures stop { IfErr result (λ w. w.0 ≡ self) }
+        ensures cost { IfOk result (λ e. IsEndCost (kept_of keep self) (stored_by e) pass.old pass.new) }
+        ensures wait_cost { OnErr result (IsEndCost (kept_of keep self) 0 pass.old pass.new) }
         ensures kept { OnErr result (pass.new.own ≡ pass.old.own) }
         ensures quiet { pass.new.quiet ≡ pass.old.quiet }
         ensures spent { OnOk result (pass.old.spare ≡ pass.new.spare + 1) }

@@ -1,6 +1,7 @@
 // The rows after a commit.
-ghost use Rattle.std.specs.Prelude.{◌≡◌, ◌<◌, ◌+◌, ◌≤◌, [], vec_len, vec_capacity};
+ghost use Rattle.std.specs.Prelude.{◌≡◌, ◌<◌, ◌+◌, ◌*◌, ◌≤◌, length, [], vec_len, vec_capacity};
 ghost use Rattle.gl_model.specs.declared.limits.TheConstants.{THREADS};
+ghost use Rattle.gl_txn.specs.Costs.{EndCosts};
 ghost use Rattle.gl_txn.specs.Noting.{IsNotedRow, AreCommitted};
 
 use crate::taken::TakenRow;
@@ -31,6 +32,7 @@ fn put_noted(shared: &Shared, pass: &mut Pass, rows: &mut Vec<TakenRow>, base: &
     requires held { AreCommitted pass.old rows.old.items base.now at }
     requires some { 0 < vec_len rows.old }
     ensures pass { pass.new ≡ record pass.old { own = record pass.old.own { held = pass.new.own.held }; moves = pass.new.moves } }
+    ensures cost { EndCosts 0 2 pass.old pass.new }
     ensures held { AreCommitted pass.new rows.new.items base.now at }
     ensures len { vec_len rows.new + 1 ≡ vec_len rows.old }
 {
@@ -56,7 +58,8 @@ pub(crate) fn put_all_noted(
 )
     requires table { pass.old.own.table ≡ shared.now.id }
     requires held { AreCommitted pass.old rows.old.items base.now at }
-    ensures { pass.new ≡ record pass.old { own = record pass.old.own { held = [] }; moves = pass.new.moves } }
+    ensures pass { pass.new ≡ record pass.old { own = record pass.old.own { held = [] }; moves = pass.new.moves } }
+    ensures cost { EndCosts 0 (2 * length rows.old.items) pass.old pass.new }
 {
     for _ in 0..rows.len() {
         put_noted(shared, pass, rows, base, at);

@@ -1,9 +1,10 @@
 // Publishing the commit of an attempt.
-ghost use Rattle.std.specs.Prelude.{◌≡◌, ◌<◌, ◌≤◌, IfOk, IfErr, []};
+ghost use Rattle.std.specs.Prelude.{◌≡◌, ◌+◌, ◌*◌, ◌<◌, ◌≤◌, length, IfOk, IfErr, OnOk, OnErr, []};
 ghost use Rattle.gl_rule.specs.Taken.{StateTold};
 ghost use Rattle.gl_table.specs.PassView.{view_of};
 ghost use Rattle.gl_table.specs.Putting.{DoesNotHold};
 ghost use Rattle.gl_model.specs.Records.{variables_of};
+ghost use Rattle.gl_txn.specs.Costs.{EndCosts};
 ghost use Rattle.gl_txn.specs.Publishing.{HasReached, IsReachStop, MayPublish, HasPublished};
 
 use crate::dropping::draw_numbers;
@@ -22,6 +23,8 @@ pub(crate) fn reach_list(shared: &Shared, pass: &mut Pass) -> Result<ListState, 
     ensures ok { IfOk result (λ l. HasReached shared.now pass.old l pass.new) }
     ensures told { IfOk result (λ l. StateTold shared.now.key.setting (view_of pass.old) l) }
     ensures stop { IfErr result (λ w. IsReachStop shared.now w pass.old pass.new) }
+    ensures cost { OnOk result (EndCosts 0 4 pass.old pass.new) }
+    ensures stop_cost { OnErr result (EndCosts 0 6 pass.old pass.new) }
 {
     let state = match shared.take_list(pass) {
         Ok(state) => state,
@@ -51,6 +54,7 @@ pub(crate) fn publish(
     requires none { tx.value.numbers ≡ [] }
     requires vars { vars.now ≡ variables_of tx.value }
     ensures published { HasPublished tx.value result pass.old pass.new }
+    ensures cost { EndCosts 5 (3 * length rows.old.items + 3) pass.old pass.new }
     ensures here { result ≡ pass.old.seen }
 {
     let mut tx = tx;

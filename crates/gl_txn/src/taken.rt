@@ -1,6 +1,7 @@
 // Rows that an attempt's end holds.
-ghost use Rattle.std.specs.Prelude.{◌≡◌, ◌≤◌, ◌+◌, ◌++◌, ◌∷◌, ◌<◌, [], IfErr, OnOk, OnErr, vec_len, vec_capacity};
+ghost use Rattle.std.specs.Prelude.{◌≡◌, ◌≤◌, ◌+◌, ◌*◌, length, ◌++◌, ◌∷◌, ◌<◌, [], IfErr, OnOk, OnErr, vec_len, vec_capacity};
 ghost use Rattle.gl_model.specs.declared.limits.TheConstants.{TX_VARIABLES};
+ghost use Rattle.gl_txn.specs.Costs.{EndCosts};
 ghost use Rattle.gl_txn.specs.Holding.{AreUnused, HaveTaken, HaveWrites, WereBusy, write_in};
 
 use gl_model::{Pairs, VarSet};
@@ -39,6 +40,7 @@ fn put_last(shared: &Shared, pass: &mut Pass, rows: &mut Vec<TakenRow>)
     requires held { AreUnused pass.old.own.held rows.old.items }
     requires some { 0 < vec_len rows.old }
     ensures pass { pass.new ≡ record pass.old { own = record pass.old.own { held = pass.new.own.held }; moves = pass.new.moves } }
+    ensures cost { EndCosts 0 2 pass.old pass.new }
     ensures held { AreUnused pass.new.own.held rows.new.items }
     ensures len { vec_len rows.new + 1 ≡ vec_len rows.old }
     ensures room { vec_capacity rows.new ≡ vec_capacity rows.old }
@@ -55,6 +57,7 @@ pub(crate) fn put_rows(shared: &Shared, pass: &mut Pass, rows: &mut Vec<TakenRow
     requires table { pass.old.own.table ≡ shared.now.id }
     requires held { AreUnused pass.old.own.held rows.old.items }
     ensures pass { pass.new ≡ record pass.old { own = record pass.old.own { held = [] }; moves = pass.new.moves } }
+    ensures cost { EndCosts 0 (2 * length rows.old.items) pass.old pass.new }
     ensures rows { rows.new.items ≡ [] }
     ensures room { vec_capacity rows.new ≡ vec_capacity rows.old }
 {
@@ -77,6 +80,8 @@ pub(crate) fn take_rows(
     requires room { TX_VARIABLES ≤ vec_capacity rows.old }
     ensures ok { OnOk result (HaveTaken pass.old pass.new vars.now rows.new.items) }
     ensures busy { IfErr result (λ by. WereBusy vars.now by pass.old pass.new) }
+    ensures cost { OnOk result (EndCosts 0 (2 * length vars.now) pass.old pass.new) }
+    ensures busy_cost { OnErr result (EndCosts 0 (4 * length vars.now + 1) pass.old pass.new) }
     ensures none { OnErr result (rows.new.items ≡ []) }
     ensures writes { OnOk result (HaveWrites writes.now rows.new.items) }
     ensures room { vec_capacity rows.new ≡ vec_capacity rows.old }

@@ -1,9 +1,10 @@
-use Rattle.std.proofs.Common.{sym, ap, ◌∙◌, subst}
+use Rattle.std.proofs.Common.{sym, ap, refl, arith, ◌+◌, ◌∙◌, subst}
 use Rattle.std.specs.Prelude.{List}
 use Rattle.gl_model.specs.declared.tx.Number.{Number}
 use Rattle.gl_table.specs.PassView.{PassView}
 use Rattle.gl_txn.specs.Drawing.{HasDrawn, numbered}
 use Rattle.gl_txn.proofs.Changes.{at_item}
+use Rattle.gl_txn.proofs.Costs.{costs_both, costs_steps}
 use Rattle.gl_txn.proofs.Drawings.{may_number, number_more}
 use Rattle.gl_txn.proofs.Numberings.{near_var, rises_on, not_numbered, found_there, numbered_on}
 use Rattle.gl_txn.proofs.dropping.draw_numbers.Goals as goal
@@ -54,4 +55,8 @@ loop-taken-preserved c =
           (c.loop-taken.invariant.0 list tails a) r.var r there out c.mark_open-nth.new.pass n c.mark_open-nth.ensures.opened
           c.mark_open-nth.ensures.above)),
       ap numbered is ∙ numbered_on c.args.rows.now c.loop-taken.taken-index r at m.held.are c.loop-taken.numbers c.loop-taken.invariant.1 n,
+      costs_both c.loop-taken.taken-index 1 (c.loop-taken.taken-index + 1) 0 0 0 c.args.pass.now c.loop-taken.pass
+          c.mark_open-nth.new.pass c.loop-taken.invariant.2
+          (costs_steps 1 c.loop-taken.pass c.mark_open-nth.new.pass (ap (λ (z : PassView). z.known) c.mark_open-nth.ensures.opened)
+          (ap (λ (z : PassView). z.moves) c.mark_open-nth.ensures.opened)) refl (omega arith),
     )

@@ -280,7 +280,7 @@ returns-clause-published c =
       writes = ap (λ (t : Tx). t.writes) t;
       is = published_is z.key.setting q r l lh refl rows tails (drew_on p (numbered numbers)) d.held tx n are
           c.publish_commit-at.ensures.published c.put_list.new.pass c.put_list.ensures p c.put_all_noted.new.pass numbers d.is
-          c.put_all_noted.ensures;
+          c.put_all_noted.ensures.pass;
     }
 
 pub returns-clause-here : goal.returns-clause-here

@@ -1,4 +1,4 @@
-use Rattle.std.proofs.Common.{sym, subst}
+use Rattle.std.proofs.Common.{sym, subst, ap}
 use Rattle.std.specs.Prelude.{List}
 use Rattle.gl_rule.specs.View.{Held}
 use Rattle.gl_table.specs.PassView.{view_of, shelf_of}
@@ -6,6 +6,8 @@ use Rattle.gl_txn.specs.Holding.{AreUnused}
 use Rattle.gl_txn.specs.declared.taken.TakenRow.{TakenRow}
 use Rattle.gl_txn.proofs.Holdings.{last_near, may_put_unused, unused_fewer}
 use Rattle.gl_txn.proofs.TakeSteps.{put_held, put_is}
+use Rattle.gl_table.specs.PassView.{PassView}
+use Rattle.gl_txn.proofs.Costs.{costs_steps}
 use Rattle.gl_txn.proofs.taken.put_last.Goals as goal
 
 pub put_row-requires-clause-near : goal.put_row-requires-clause-near
@@ -27,3 +29,7 @@ returns-clause-held c =
     (sym (put_held c.args.pass.now c.put_row.new.pass c.in-Some.taken.var c.put_row.ensures))
     (unused_fewer c.args.pass.now.own.held c.pop.new.self.items c.in-Some.taken
     (subst (λ (l : List TakenRow). AreUnused c.args.pass.now.own.held l) c.in-Some.ensures.items c.requires.held))
+
+pub returns-clause-cost : goal.returns-clause-cost
+returns-clause-cost c = costs_steps 2 c.args.pass.now c.put_row.new.pass (ap (λ (z : PassView). z.known) c.put_row.ensures)
+    (ap (λ (z : PassView). z.moves) c.put_row.ensures)

@@ -1,11 +1,13 @@
 use Rattle.gl_txn.proofs.Holdings.{lacks_next}
-use Rattle.std.proofs.Common.{sym, ◌∙◌, subst, ◌++◌, ◌+◌, [], ◌∷◌, take, get_or}
+use Rattle.std.proofs.Common.{sym, ap, refl, arith, ◌*◌, ◌∙◌, subst, ◌++◌, ◌+◌, [], ◌∷◌, take, get_or}
 use Rattle.std.specs.Prelude.{List, ℕ}
 use Rattle.std.proofs.lemmas.List.{take_more}
 use Rattle.gl_model.specs.Kept.{AreVariables}
 use Rattle.gl_txn.specs.Holding.{HaveTaken, HaveWrites, WereBusy}
 use Rattle.gl_txn.specs.declared.taken.TakenRow.{TakenRow}
 use Rattle.gl_txn.proofs.TakeSteps.{taken_more, writes_more, were_busy, take_are}
+use Rattle.gl_txn.proofs.Costs.{costs_both, costs_steps}
+use Rattle.gl_table.specs.PassView.{PassView}
 use Rattle.gl_txn.proofs.taken.take_rows.Goals as goal
 
 pub returns-in-Err-clause-busy : goal.returns-in-Err-clause-busy
@@ -32,6 +34,9 @@ loop-var-preserved c =
           (record { var = get_or ids i 0; write = c.word_of.result; row = c.in-Ok.row })
           c.loop-var.invariant.1 c.word_of.ensures),
       c.keep.ensures.room ∙ c.loop-var.invariant.2,
+      costs_both (2 * i) 2 (2 * (i + 1)) 0 0 0 c.args.pass.now c.loop-var.pass c.take_row.new.pass c.loop-var.invariant.3
+          (costs_steps 2 c.loop-var.pass c.take_row.new.pass (ap (λ (z : PassView). z.known) c.in-Ok.ensures.ok)
+          (ap (λ (z : PassView). z.moves) c.in-Ok.ensures.ok)) refl (omega arith),
     )
 
 pub take_row-requires-clause-free : goal.take_row-requires-clause-free
