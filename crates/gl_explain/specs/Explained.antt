@@ -1,5 +1,5 @@
 -- What is said of a race.
-use Rattle.std.specs.Prelude.{◌≡◌, ℕ, ◌+◌, ◌<◌, ◌==◌, Bool, true, false, List, ◌∷◌, ◌++◌, length, map, take, slice_get, Option, Some, None}
+use Rattle.std.specs.Prelude.{◌≡◌, ℕ, ◌+◌, ◌<◌, ◌==◌, ◌&&◌, ◌||◌, Bool, true, false, List, ◌∷◌, ◌++◌, length, map, take, slice_get, Option, Some, None, is_some}
 use Rattle.std.specs.List.{filter}
 use Rattle.gl_model.specs.declared.event.Act.TheVariants.{Begin, End, Acq, Rel, VRead, VWrite, Fork, Join, Alloc, Print, Input, Fail}
 use Rattle.gl_model.specs.declared.row.Item.{Item}
@@ -16,7 +16,12 @@ use Rattle.gl_explain.specs.Told.{lines_of}
 use Rattle.gl_explain.specs.Races.{IsCulprit, IsLastOf, Counts}
 use Rattle.gl_explain.specs.Owned.{AreOwned}
 
--- the line hands on what thread t did before it, to who takes it up: t releases a monitor, writes a volatile, forks a thread or commits, or t is joined
+-- a commit of some variable
+abbrev pub touches : List ℕ → List ℕ → Bool
+touches reads writes = is_some (slice_get reads 0) || is_some (slice_get writes 0)
+
+-- the line hands on what thread t did before it, to who takes it up: t releases a monitor, writes a volatile, forks a thread or commits on some variable,
+-- or t is joined
 abbrev pub hands_on : ℕ → Item → Judged → ℕ → Bool
 hands_on t (Acts (Begin f)) judged u = false
 hands_on t (Acts End) judged u = false
@@ -32,7 +37,7 @@ hands_on t (Acts Input) judged u = false
 hands_on t (Acts (Fail k)) judged u = false
 hands_on t (Access x write) judged u = false
 hands_on t (Commit reads writes) NoAccess u = false
-hands_on t (Commit reads writes) Performed u = u == t
+hands_on t (Commit reads writes) Performed u = u == t && touches reads writes
 hands_on t (Commit reads writes) (Raised var) u = false
 
 abbrev pub is_handing : ℕ → Told → Bool

@@ -1,11 +1,18 @@
 // What another thread did, and how far that leads.
 ghost use Rattle.std.specs.Prelude.{◌≡◌, ◌↔◌, ◌<◌, ◌≤◌, ℕ, IsTrue, length};
-ghost use Rattle.gl_explain.specs.Explained.{IsFirstBehind, is_handing};
+ghost use Rattle.gl_explain.specs.Explained.{IsFirstBehind, is_handing, touches};
 ghost use Rattle.gl_explain.specs.Races.{IsLastOf, IsPassed};
 ghost use Rattle.gl_explain.specs.Told.{told_of};
 
 use crate::told::{Kept, Told};
-use gl_model::{Act, Item, Judged};
+use gl_model::{Act, Item, Judged, VarSet};
+
+// Whether it is a commit of some variable.
+fn touches(reads: &VarSet, writes: &VarSet) -> bool
+    ensures { result ≡ touches reads.now writes.now }
+{
+    reads.ids().first().is_some() || writes.ids().first().is_some()
+}
 
 // Whether the line hands on what the thread did before it.
 fn hands_on(told: &Told, thread: u8) -> bool
@@ -25,8 +32,8 @@ fn hands_on(told: &Told, thread: u8) -> bool
             | Act::Fail(_) => false,
         },
         Item::Access { .. } => false,
-        Item::Commit { .. } => match told.judged {
-            Judged::Performed => told.thread == thread,
+        Item::Commit { reads, writes } => match told.judged {
+            Judged::Performed => told.thread == thread && touches(reads, writes),
             Judged::NoAccess | Judged::Raised { .. } => false,
         },
     }

@@ -53,15 +53,20 @@ way_text names (Releases m) = codes "releases monitor " ++ thing_text names Moni
 way_text names (Writes v) = codes "writes volatile " ++ thing_text names Volatile v
 way_text names (Forks u) = codes "forks thread " ++ thing_text names Thread u
 way_text names Commits = codes "commits"
-way_text names Ends = codes "ends and is joined"
+way_text names Ends = codes "ends"
+
+-- where it does: an entry that no instruction made is made as the thread ends
+abbrev pub where_text : Option SourceLine → List ℕ
+where_text None = codes "at its end"
+where_text (Some line) = codes "in " ++ line_text line
 
 -- an entry that hands on what its thread did, and where
 abbrev pub handing_text : Naming → Handed → List ℕ
-handing_text names h = source_text h.source ++ (codes ": " ++ (way_text names h.handing.way ++ codes "\n"))
+handing_text names h = where_text h.source ++ (codes ": " ++ (way_text names h.handing.way ++ codes "\n"))
 
 abbrev pub found_text : Naming → Option Handed → List ℕ
 found_text names None = codes " is handed on nowhere\n"
-found_text names (Some h) = codes " is first handed on in " ++ handing_text names h
+found_text names (Some h) = codes " is first handed on " ++ handing_text names h
 
 -- what was done at an access
 abbrev pub did_text : Naming → Side → List ℕ

@@ -3,7 +3,7 @@ ghost use Rattle.std.specs.Prelude.{◌≡◌, ◌++◌, OnOk};
 ghost use Rattle.std.specs.List.{flat_map};
 ghost use Rattle.gl_names.specs.Names.{name_of};
 ghost use Rattle.gl_explain.specs.Texts.{ending_text};
-ghost use Rattle.gl_pages.specs.Texts.{did_text, explanation_text, facts_text, found_text, handed_text, handing_text, line_text, others_text, owned_text, place_text, side_text, sides_text, source_text, touch_text, way_text};
+ghost use Rattle.gl_pages.specs.Texts.{did_text, explanation_text, facts_text, found_text, handed_text, handing_text, line_text, others_text, owned_text, place_text, side_text, sides_text, source_text, touch_text, way_text, where_text};
 
 use crate::facts::{Explanation, Handed, Side};
 use crate::phrases::{push, push_access, push_monitors, push_number, push_thing, push_thread};
@@ -111,14 +111,26 @@ fn push_way(out: &mut Vec<u8>, names: &Names<'_>, way: Way) -> Result<(), AllocE
         Way::Writes(v) => push_thing(out, "writes volatile ", names, Kind::Volatile, v),
         Way::Forks(child) => push_thread(out, "forks thread ", names, child),
         Way::Commits => push(out, "commits"),
-        Way::Ends => push(out, "ends and is joined"),
+        Way::Ends => push(out, "ends"),
+    }
+}
+
+fn push_where(out: &mut Vec<u8>, source: &Option<SourceLine<'_>>) -> Result<(), AllocError>
+    ensures { OnOk result (out.new.items ≡ out.old.items ++ where_text source.now) }
+{
+    match source {
+        None => push(out, "at its end"),
+        Some(line) => {
+            push(out, "in ")?;
+            push_line(out, line)
+        }
     }
 }
 
 fn push_handing(out: &mut Vec<u8>, names: &Names<'_>, handed: &Handed<'_>) -> Result<(), AllocError>
     ensures { OnOk result (out.new.items ≡ out.old.items ++ handing_text (name_of names.now) handed.now) }
 {
-    push_source(out, &handed.source)?;
+    push_where(out, &handed.source)?;
     push(out, ": ")?;
     push_way(out, names, handed.handing.way)?;
     push(out, "\n")
@@ -134,7 +146,7 @@ fn push_found(
     match handed {
         None => push(out, " is handed on nowhere\n"),
         Some(found) => {
-            push(out, " is first handed on in ")?;
+            push(out, " is first handed on ")?;
             push_handing(out, names, found)
         }
     }

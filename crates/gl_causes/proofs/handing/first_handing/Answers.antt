@@ -16,12 +16,11 @@ returns-in-Some c =
     let list = c.in_ok-list.list.now in
     let n = c.loop-index.index in
     let e = c.index-list-index.result in
-    let joined = c.is_joined-joined.result in
     let less : n < length list = omega arith in
     let at : slice_get list n ≡ Some e = slice_get-get_or list n _ less ∙ ap Some (sym c.index-list-index.is) in
-    let told : (if nat_lt c.args.place.index n then entry_way joined (seen e) else None) ≡ Some c.in-Some.way =
+    let told : (if nat_lt c.args.place.index n then entry_way (seen e) else None) ≡ Some c.in-Some.way =
     sym c.way_behind.ensures ∙ c.in-Some.is in
-    let hands = hands_on R t joined c.is_joined-joined.ensures (seen_place c.args.place) n (seen e) c.in-Some.way refl told in
+    let hands = hands_on (seen_place c.args.place) n (seen e) c.in-Some.way told in
     record {
       entry = seen e;
       thread = refl;
@@ -38,12 +37,11 @@ loop-index-preserved c =
     let list = c.in_ok-list.list.now in
     let n = c.loop-index.index in
     let e = c.index-list-index.result in
-    let joined = c.is_joined-joined.result in
     let less : n < length list = omega arith in
     let at : slice_get list n ≡ Some e = slice_get-get_or list n _ less ∙ ap Some (sym c.index-list-index.is) in
-    let told : (if nat_lt c.args.place.index n then entry_way joined (seen e) else None) ≡ None =
+    let told : (if nat_lt c.args.place.index n then entry_way (seen e) else None) ≡ None =
     sym c.way_behind.ensures ∙ c.in_default.is in
-    none_more R t joined c.is_joined-joined.ensures (seen_place c.args.place) n (seen e) refl c.loop-index.invariant
+    none_more R (seen_place c.args.place) n (seen e) c.loop-index.invariant
     (entry_at R t list n e (listed c.args.made.now t list c.in_ok-list.ensures) at) told
 
 pub returns : goal.returns

@@ -9,5 +9,5 @@ pub returns-in_ok-push-in-Some : goal.returns-in_ok-push-in-Some
 returns-in_ok-push-in-Some c =
     let names = name_of c.args.names.now in
     joined c.push_handing.result c.args.out.now.items c.push-in-Some.new.out.items c.push_handing.new.out.items
-    (codes " is first handed on in ") (handing_text names c.in-Some.found)
+    (codes " is first handed on ") (handing_text names c.in-Some.found)
     (found_text names c.args.handed.now) c.in_ok-push-in-Some.ensures c.push_handing.ensures (ap (found_text names) (sym c.in-Some.is))
