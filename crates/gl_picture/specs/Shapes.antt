@@ -2,7 +2,6 @@
 use Rattle.std.specs.Prelude.{ℕ, ◌+◌, ◌-◌, ◌*◌, ◌==◌, nat_lt, if◌then◌else◌, List, [], ◌∷◌, ◌++◌, codes}
 use Rattle.std.specs.Fmt.{decimal}
 use Rattle.std.specs.List.{flat_map}
-use Rattle.gl_picture.specs.declared.elements.TheConstants.{STYLE}
 use Rattle.gl_picture.specs.declared.picture.Cell.{Cell}
 use Rattle.gl_picture.specs.declared.picture.Spot.{Spot}
 
@@ -57,7 +56,25 @@ unfoldable pub words_text : List ℕ → Spot → List ℕ → List ℕ
 words_text style spot words = codes "<text "
     ++ (style ++ (pair_text (codes " x='") (codes "' y='") spot ++ (codes "'>" ++ (escape words ++ codes "</text>\n"))))
 
+-- how the shapes look, the tip of an arrow, and a white ground
+abbrev pub style_text : List ℕ
+style_text =
+    codes "<style>\n" ++ (
+    codes "text { font: 12px monospace; paint-order: stroke; stroke: white; stroke-width: 3px }\n" ++ (
+    codes ".life { stroke: #bbb }\n" ++ (
+    codes ".arrow { fill: none; stroke: #26a; marker-end: url(#tip) }\n" ++ (
+    codes ".race { stroke: #c00; stroke-dasharray: 5 4 }\n" ++ (
+    codes ".mark { fill: none; stroke: #c00; stroke-width: 2px }\n" ++ (
+    codes ".head { text-anchor: middle; font-weight: bold }\n" ++ (
+    codes ".line { text-anchor: end; fill: #777 }\n" ++ (
+    codes ".note { fill: #777 }\n" ++ (
+    codes ".said { fill: #c00 }\n" ++ (
+    codes "</style>\n" ++ (
+    codes "<defs><marker id='tip' viewBox='0 0 8 8' refX='13' refY='4' markerWidth='8' markerHeight='8' " ++ (
+    codes "orient='auto' markerUnits='userSpaceOnUse'><path d='M0 0L8 4L0 8z' fill='#26a'/></marker></defs>\n" ++ (
+    codes "<rect width='100%' height='100%' fill='white'/>\n")))))))))))))
+
 -- the beginning of a drawing so wide and so high, with how the shapes look
 unfoldable pub opening_text : Spot → List ℕ
 opening_text size =
-    pair_text (codes "<svg xmlns='http://www.w3.org/2000/svg' width='") (codes "' height='") size ++ (codes "'>\n" ++ STYLE.now)
+    pair_text (codes "<svg xmlns='http://www.w3.org/2000/svg' width='") (codes "' height='") size ++ (codes "'>\n" ++ style_text)
