@@ -1,4 +1,7 @@
 // The words of the command line.
+ghost use Rattle.std.specs.Prelude.{◌≡◌};
+ghost use Rattle.goldi_explain.specs.Words.{form_of};
+
 use std::env::FillError;
 use std::rt::Env;
 
@@ -26,11 +29,15 @@ fn has_word(rt: &impl Env, place: usize) -> bool {
 }
 
 // What a word asks for.
-fn form_of(word: &[u8]) -> Option<Form> {
-    match word {
-        b"--picture" => Some(Form::Picture),
-        b"--run" => Some(Form::Run),
-        _ => None,
+fn form_of(word: &[u8]) -> Option<Form>
+    ensures { result ≡ form_of word.now }
+{
+    if word == b"--picture".as_slice() {
+        Some(Form::Picture)
+    } else if word == b"--run".as_slice() {
+        Some(Form::Run)
+    } else {
+        None
     }
 }
 
