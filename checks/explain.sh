@@ -74,7 +74,7 @@ printf '0 fork 1\n0 wr 7\n' | ./explain --picture >"$work/out"
 same "a picture without a race: status" 0 $?
 same "a picture without a race: rows" "<text class='note' x='10' y='22'>races 0</text>" "$(grep races "$work/out")"
 printf '# var 7 <a>&\n0 fork 1\n0 wr 7\n1 wr 7\n' | ./explain --picture >"$work/out"
-same "a name with signs: a row" "<text dx='16' dy='4' x='300' y='164'>writes variable 7 (&lt;a&gt;&amp;)</text>" "$(tail -n 3 "$work/out" | head -n 1)"
+same "a name with signs: a row" "<text dx='16' dy='4' x='380' y='164'>writes variable 7 (&lt;a&gt;&amp;)</text>" "$(tail -n 3 "$work/out" | head -n 1)"
 ./explain </ >/dev/null
 same "a folder as input: status" 2 $?
 ./explain <examples/explain/two_locks.trace >/dev/full

@@ -4,6 +4,7 @@ use Rattle.std.specs.Fmt.{decimal}
 use Rattle.std.specs.List.{flat_map}
 use Rattle.gl_picture.specs.declared.picture.Cell.{Cell}
 use Rattle.gl_picture.specs.declared.picture.Spot.{Spot}
+use Rattle.gl_picture.specs.declared.positions.TheConstants.{MARGIN, COLUMN_STEP, TOP, ROW_STEP}
 
 -- what stands for a byte of a text: names may have the five that have a meaning
 abbrev pub escape_byte : ℕ → List ℕ
@@ -16,10 +17,10 @@ escape bytes = flat_map escape_byte bytes
 
 -- where a column and a row stand
 abbrev pub x_of : ℕ → ℕ
-x_of column = 110 + 190 * column
+x_of column = MARGIN + COLUMN_STEP * column
 
 abbrev pub y_of : ℕ → ℕ
-y_of slot = 112 + 26 * slot
+y_of slot = TOP + ROW_STEP * slot
 
 -- where a row's point is
 unfoldable pub spot_of : Cell → Spot

@@ -1,5 +1,5 @@
 -- The text of a picture, with the names that the trace gives.
-use Rattle.std.specs.Prelude.{ℕ, ◌+◌, ◌%◌, ◌==◌, if◌then◌else◌, List, [], ◌∷◌, ◌++◌, codes, slice_get, Option, Some, None}
+use Rattle.std.specs.Prelude.{ℕ, ◌+◌, ◌%◌, ◌==◌, if◌then◌else◌, List, [], ◌∷◌, ◌++◌, codes, slice_get, max, Option, Some, None}
 use Rattle.std.specs.Fmt.{decimal}
 use Rattle.std.specs.List.{flat_map}
 use Rattle.gl_names.specs.Names.{Naming}
@@ -12,6 +12,7 @@ use Rattle.gl_picture.specs.declared.picture.Row.{Row}
 use Rattle.gl_picture.specs.declared.picture.Picture.{Picture}
 use Rattle.gl_picture.specs.declared.picture.Cell.{Cell}
 use Rattle.gl_picture.specs.declared.picture.Spot.{Spot}
+use Rattle.gl_picture.specs.declared.text.TheConstants.{FOOT_ROOM, LABEL_ROOM, TITLE_ROOM}
 use Rattle.gl_picture.specs.Shapes.{spot_of, x_of, y_of, bend_text, line_text, circle_text, words_text, opening_text}
 
 -- the column of thread t: how many stand before it
@@ -73,7 +74,7 @@ closing_text y = words_text (codes "class='note'") (record { x = 10; y = y }) (c
 
 -- how wide and how high the picture is
 abbrev pub size_of : Picture → Spot
-size_of p = record { x = x_of p.width + 330; y = y_of p.height + 34 }
+size_of p = record { x = max (x_of p.width + LABEL_ROOM) TITLE_ROOM; y = y_of p.height + FOOT_ROOM }
 
 -- what stands behind the rows, from the back to the front
 unfoldable pub frame_text : Naming → Explanation → Picture → List ℕ

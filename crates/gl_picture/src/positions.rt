@@ -5,18 +5,30 @@ ghost use Rattle.gl_picture.specs.Texts.{cell_at, cell_of, column_of};
 
 use crate::picture::{Cell, Column, Picture, Row, Spot};
 
+/// Where the first column stands: behind half of the longest head of a column.
+pub const MARGIN: u32 = 190;
+
+/// How far columns stand apart.
+pub const COLUMN_STEP: u32 = 190;
+
+/// Where the first row stands.
+pub const TOP: u32 = 112;
+
+/// How far rows stand apart.
+pub const ROW_STEP: u32 = 26;
+
 /// Where a column stands.
 pub fn x_of(column: u8) -> u32
     ensures { result ≡ x_of column }
 {
-    110 + 190 * u32::from(column)
+    MARGIN + COLUMN_STEP * u32::from(column)
 }
 
 /// Where a row stands.
 pub fn y_of(slot: u16) -> u32
     ensures { result ≡ y_of slot }
 {
-    112 + 26 * u32::from(slot)
+    TOP + ROW_STEP * u32::from(slot)
 }
 
 // The column of the thread.

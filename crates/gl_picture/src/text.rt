@@ -193,6 +193,15 @@ fn push_closing(out: &mut Vec<u8>, y: u32) -> Result<(), AllocError>
     push(out, "</svg>\n")
 }
 
+// The room for the words of a row behind the last column.
+const LABEL_ROOM: u32 = 330;
+
+// The room for a title.
+const TITLE_ROOM: u32 = 1020;
+
+// The room below the rows.
+const FOOT_ROOM: u32 = 34;
+
 // How wide and how high the picture is.
 fn size_of(p: &Picture) -> Spot
     ensures { result ≡ size_of p.now }
@@ -200,8 +209,8 @@ fn size_of(p: &Picture) -> Spot
     let x = x_of(p.width);
     let y = y_of(p.height);
     Spot {
-        x: x + 330,
-        y: y + 34,
+        x: (x + LABEL_ROOM).max(TITLE_ROOM),
+        y: y + FOOT_ROOM,
     }
 }
 
