@@ -1,5 +1,5 @@
 // Whether an entry of a thread is a step of the machine; if it is one, the coded state makes it.
-ghost use Rattle.std.specs.Prelude.{◌≡◌, ℕ, ℤ, pos, ◌<◌, List};
+ghost use Rattle.std.specs.Prelude.{◌≡◌, ℕ, pos, ◌<◌, List};
 ghost use Rattle.gl_acts.specs.Applying.{act_by, Applies, AreShallow, commit_by};
 ghost use Rattle.gl_acts.specs.Making.{AppliesEntry};
 ghost use Rattle.gl_bytecode.specs.Lawful.{setting_of};

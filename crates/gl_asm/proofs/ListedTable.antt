@@ -89,7 +89,8 @@ is_defined scope name line number is = rw is refl
 
 -- ## Free names
 
--- of classes, functions and labels those that are still to come: from these numbers on, and of the last function's labels from this place on
+-- of classes, functions and labels those that are still to come: from these numbers on, and of the last function's labels from this place
+-- on
 pub record AreFree (before : List Definition) (main classes functions label : ℕ) : Type 0 where
   pub of_classes : (k : ℕ) → classes ≤ k → k ≤ MOST_INDEX → IsFree before Classes (class_name k)
   pub of_functions : (k : ℕ) → functions ≤ k → k ≤ MOST_INDEX → IsFree before Functions (function_name main k)

@@ -1,5 +1,5 @@
 // What a line adds to a program.
-ghost use Rattle.std.specs.Prelude.{ℕ, ◌<◌, ◌≡◌, ◌≤◌, IfOk, MatchResult, MatchOption, Ok, Err, Some, None, pos, true, option_map};
+ghost use Rattle.std.specs.Prelude.{ℕ, ◌<◌, ◌≡◌, ◌≤◌, IfOk, MatchResult, Ok, Err, Some, None, true, option_map};
 ghost use Rattle.gl_asm.specs.Definitions.{first_definition};
 ghost use Rattle.gl_asm.specs.Words.{operand_of};
 ghost use Rattle.gl_bytecode.specs.Faults.{ThrowsInRange};

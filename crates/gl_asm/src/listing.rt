@@ -1,7 +1,7 @@
 // The canonical listing of a program.
-ghost use Rattle.std.specs.Prelude.{◌≡◌, ◌++◌, ◌<◌, ◌≤◌, ℕ, IfOk, OnOk, string_bytes, length, []};
+ghost use Rattle.std.specs.Prelude.{◌≡◌, ◌++◌, ◌<◌, IfOk, OnOk, string_bytes, []};
 ghost use Rattle.std.specs.List.{flat_map, list_any};
-ghost use Rattle.gl_bytecode.specs.Programs.{function_at, Bytecode, Function};
+ghost use Rattle.gl_bytecode.specs.Programs.{function_at, Function};
 ghost use Rattle.gl_asm.specs.Code.{IsShort, catches_of, code_of, text_of};
 ghost use Rattle.gl_asm.specs.Words.{operand_of};
 ghost use Rattle.gl_asm.specs.Listable.{AreTyped, IsTyped, OperandsAreTyped};

@@ -1,5 +1,5 @@
 // Names, and the words that define labels.
-ghost use Rattle.std.specs.Prelude.{◌≡◌, MatchOption, false, true, bytes_eq};
+ghost use Rattle.std.specs.Prelude.{◌≡◌, MatchOption, false, bytes_eq};
 ghost use Rattle.std.specs.List.{list_all};
 ghost use Rattle.gl_asm.specs.Names.{is_name_byte, is_name, label_of};
 

@@ -1,11 +1,10 @@
 // What a line says, behind the lines before it.
-ghost use Rattle.std.specs.Prelude.{◌≡◌, ◌≤◌, ◌<◌, ◌-◌, ◌+◌, not, is_some, slice_get, length, IfOk, IfErr, Ok, Err, Some, None, List, ℕ, true, MatchOption};
+ghost use Rattle.std.specs.Prelude.{◌≡◌, ◌≤◌, ◌<◌, ◌-◌, ◌+◌, not, is_some, slice_get, length, IfOk, IfErr, Ok, Err, Some, None, ℕ, true};
 ghost use Rattle.gl_model.specs.declared.limits.TheConstants.{INPUTS};
 ghost use Rattle.gl_text.specs.Text.{words};
-ghost use Rattle.gl_bytecode.specs.Faults.{ThrowsInRange};
 ghost use Rattle.gl_asm.specs.Additions.{IsPlaced, inputs_of, rest_of, values_of};
-ghost use Rattle.gl_asm.specs.Forms.{ThrowsForm, form_of};
-ghost use Rattle.gl_asm.specs.Sayings.{IsNoInputs, ThrowsIn, IsFunction, Refused, StartsFunction, form_says, is_in_section, is_placed, said};
+ghost use Rattle.gl_asm.specs.Forms.{form_of};
+ghost use Rattle.gl_asm.specs.Sayings.{IsNoInputs, ThrowsIn, Refused, StartsFunction, form_says, is_in_section, is_placed, said};
 
 use crate::additions::{
     Addition, catch_of, class_of, function_of, instruction_of, label_of_line, room_for, value_of,

@@ -37,8 +37,9 @@ number_of OfRaces = 5
 number_of OfWords = 6
 number_of OfProgram = 7
 
--- what the clause says: the record is well formed; listed; numbered; its events are a run of the one-memory machine; its entries are raised as
--- the race law says; laid out, it is one history of one memory; and each list is what its thread's instructions make of the answers in it
+-- what the clause says: the record is well formed; listed; numbered; its events are a run of the one-memory machine; its entries are
+-- raised as the race law says; laid out, it is one history of one memory; and each list is what its thread's instructions make of the
+-- answers in it
 abbrev pub Says : Bytecode → List ℤ → ℕ → Lists → Clause → Type 0
 Says P inputs steps R OfForm = Form R
 Says P inputs steps R OfList = Listed R

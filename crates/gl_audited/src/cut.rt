@@ -1,8 +1,7 @@
 // Where the text of an audit is cut in two.
-ghost use Rattle.std.specs.Prelude.{◌≡◌, ℕ, ◌+◌, ◌<◌, ◌≤◌, ◌-◌, ◌⊎◌, drop, length, take, false};
-ghost use Rattle.std.specs.List.{list_any};
+ghost use Rattle.std.specs.Prelude.{◌≡◌, ◌+◌, ◌<◌, ◌≤◌, ◌-◌, drop, length, take, false};
 ghost use Rattle.std.specs.Str.Lines.{lines};
-ghost use Rattle.gl_audited.specs.Cut.{IsCutAt, IsLineEnd, begins_record, first_begins_record, is_record};
+ghost use Rattle.gl_audited.specs.Cut.{IsCutAt, IsLineEnd, begins_record, first_begins_record};
 
 use gl_text::{Lines, words_of};
 

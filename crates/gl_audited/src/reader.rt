@@ -1,5 +1,5 @@
 // What the text of an audit means.
-ghost use Rattle.std.specs.Prelude.{◌≡◌, IfErr, IfOk};
+ghost use Rattle.std.specs.Prelude.{IfErr, IfOk};
 ghost use Rattle.gl_audited.specs.Meaning.{IsAuditText, TellsFirst};
 
 use crate::cut::{cut_text, parts_at};

@@ -1,8 +1,7 @@
-ghost use Rattle.std.specs.Prelude.{◌≡◌, ℕ, ◌≤◌, ◌<◌, ◌++◌, ◌∷◌, [], length, map, replicate, false, IfOk, MatchBool, OnOk, None};
+ghost use Rattle.std.specs.Prelude.{◌≡◌, ℕ, ◌≤◌, ◌<◌, ◌++◌, ◌∷◌, [], length, map, false, IfOk, MatchBool, OnOk, None};
 ghost use Rattle.gl_bytecode.specs.Faults.{HasDepths, fault_at, falls_off};
 ghost use Rattle.gl_bytecode.specs.Instructions.{successors};
 ghost use Rattle.gl_bytecode.specs.Passing.{Passing, claims_after, work};
-ghost use Rattle.gl_bytecode.specs.declared.instr.Catch.{Catch as Handler};
 
 use crate::contents::Contents;
 use crate::function::Function;

@@ -1,6 +1,6 @@
-ghost use Rattle.std.specs.Prelude.{◌≡◌, ℕ, ◌≤◌, ◌<◌, length, nat_lt, sum_by, false, IfErr, IfOk, MatchBool, MatchOption, Some};
+ghost use Rattle.std.specs.Prelude.{◌≡◌, ℕ, ◌≤◌, ◌<◌, length, nat_lt, sum_by, false, IfErr, IfOk, MatchOption, Some};
 ghost use Rattle.std.specs.List.{list_any};
-ghost use Rattle.gl_bytecode.specs.Faults.{of_whole, has_args, instr_fault, is_long_class, is_long_function, is_too_long, HasDepths, IsFaultless, IsFirstIn, IsFirstOfFunctions, IsRight, NamesWrong, TellsFirst, TellsKind, fault_at, falls_off};
+ghost use Rattle.gl_bytecode.specs.Faults.{of_whole, has_args, instr_fault, is_long_class, is_long_function, is_too_long, IsFaultless, IsFirstIn, IsFirstOfFunctions, IsRight, NamesWrong, TellsFirst, TellsKind, fault_at, falls_off};
 ghost use Rattle.gl_bytecode.specs.Programs.{Function as Routine, draft_of, function_at};
 ghost use Rattle.gl_bytecode.specs.declared.fault.ProgError.TheVariants.{Fault};
 ghost use Rattle.gl_bytecode.specs.Searches.{IsAllRight, IsFirstWrong};

@@ -111,7 +111,8 @@ AreRising xs = (i j : ℕ) (r s : Stand) → slice_get xs i ≡ Some r → slice
 
 filtered_rise : (a : Asked) (xs : List Stand) → AreRising xs → AreRising (races_among a xs)
 filtered_rise a [] rise = λ i j r s e f lt. absurd (cc)
-filtered_rise a (x ∷ xs) rise = by (is_some (race_number a x)) (filtered_rise a xs (λ i j r s e f lt. rise (suc i) (suc j) r s e f (omega arith)))
+filtered_rise a (x ∷ xs) rise = by (is_some (race_number a x))
+    (filtered_rise a xs (λ i j r s e f lt. rise (suc i) (suc j) r s e f (omega arith)))
   where
     after : (j : ℕ) (s : Stand) → slice_get (races_among a xs) j ≡ Some s → Before x.place s.place
     after j s e = let w = filtered_means a xs j s e in rise zero (suc w.0) x s refl w.1.0 (omega arith)
@@ -202,7 +203,8 @@ module _ (setting : Setting) (R : Lists) (h : List Stamp) (now : State) (rows : 
             (let o = found_out c q.0 q.1 in
             let j = filtered_there w.asked stands o.0 o.1.0 q.0 o.1.1 o.1.3 in
             subst (Contains places) o.1.2
-            (map_contains (λ (s : Stand). s.place) (races_among w.asked stands) o.1.0 (of_list (races_among w.asked stands) j.0 o.1.0 j.1))),
+            (map_contains (λ (s : Stand). s.place) (races_among w.asked stands) o.1.0
+                (of_list (races_among w.asked stands) j.0 o.1.0 j.1))),
       );
       rising = λ i j b c e' f lt.
           (let r = at_mapped (races_among w.asked stands) i b e' in

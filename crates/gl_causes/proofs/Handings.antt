@@ -1,17 +1,15 @@
 -- Where a thread first hands on what it did.
-use Rattle.std.proofs.Common.{◌≡◌, ℕ, ℤ, zero, suc, ◌+◌, ◌<◌, ◌≤◌, ◌||◌, nat_lt, Bool, true, false, List, [], ◌∷◌, length, map, Some, None, refl, sym, ◌∙◌, ap, subst, inl, inr, arith, eq-eqb}
-use Rattle.std.specs.Prelude.{MatchBool, pos, slice_get, unwrap_or, if◌then◌else◌}
-use Rattle.std.specs.List.{list_any}
-use Rattle.std.proofs.lemmas.Bool.{cases_lt, eqb-true, lt-ltb, ltb-true}
+use Rattle.std.proofs.Common.{◌≡◌, ℕ, zero, suc, ◌+◌, ◌<◌, ◌≤◌, nat_lt, Bool, true, false, List, [], ◌∷◌, length, map, Some, None, refl, sym, ◌∙◌, ap, subst, inl, inr, arith}
+use Rattle.std.specs.Prelude.{slice_get, unwrap_or, if◌then◌else◌}
+use Rattle.std.proofs.lemmas.Bool.{cases_lt, lt-ltb, ltb-true}
 use Rattle.std.proofs.lemmas.Option.{slice_get_within}
-use Rattle.gl_model.specs.declared.event.Act.{Act}
 use Rattle.gl_model.specs.declared.event.Act.TheVariants.{Begin, End, Acq, Rel, VRead, VWrite, Fork, Join, Alloc, Print, Input, Fail}
 use Rattle.gl_model.specs.declared.tx.Tx.{Tx}
 use Rattle.gl_model.specs.Entries.{Entry, Sync, Commit, Plain, Abort, Trim, Over}
 use Rattle.gl_model.specs.declared.record.Entry.{Entry as StoredEntry}
 use Rattle.gl_model.specs.Entries.{seen}
 use Rattle.gl_model.specs.Lists.{list_of, lists_of}
-use Rattle.gl_model.specs.Records.{At, EntryAt, Lists, Place}
+use Rattle.gl_model.specs.Records.{At, Lists, Place}
 use Rattle.gl_causes.specs.declared.handing.Way.{Way}
 use Rattle.gl_causes.specs.declared.handing.Way.TheVariants.{Releases, Writes, Forks, Commits, Ends}
 use Rattle.gl_causes.specs.Handing.{HandsOn, NoneHandsOn, entry_way, touches}
@@ -34,7 +32,8 @@ way_back e (Forks u) (at, (f, (value, same))) = ap entry_way same
 way_back e Commits (at, (tx, (same, some))) = ap entry_way same ∙ way_of_commit at tx some
 way_back e Ends (at, (value, same)) = ap entry_way same
 
-of_commit : (at : ℕ) (tx : Tx) (b : Bool) (way : Way) → touches tx ≡ b → (if b then Some Commits else None) ≡ Some way → HandsOn (Commit at tx) way
+of_commit : (at : ℕ) (tx : Tx) (b : Bool) (way : Way) → touches tx ≡ b → (if b then Some Commits else None) ≡ Some way
+    → HandsOn (Commit at tx) way
 of_commit at tx true way some told = (let one : Commits ≡ way = cc in subst (HandsOn (Commit at tx)) one (at, (tx, (refl, some))))
 of_commit at tx false way some told = absurd (cc)
 

@@ -68,7 +68,8 @@ module _ (depths : List ℕ) where
 
   pub not_owned : (n : ℕ) (monitors : List ℕ) → nat_lt 0 (slice_index_or depths n 0) ≡ false → AreOwnedBelow depths n monitors
       → AreOwnedBelow depths (n + 1) monitors
-  not_owned n monitors test o = let least = ltb-false 0 (slice_index_or depths n 0) test in let held : slice_index_or depths n 0 ≡ 0 = omega arith in record {
+  not_owned n monitors test o = let least = ltb-false 0 (slice_index_or depths n 0) test
+      in let held : slice_index_or depths n 0 ≡ 0 = omega arith in record {
     rises = o.rises;
     each = λ m. (
       λ c. (let w = (o.each m).0 c in let l = w.0 in (omega arith, w.1)),

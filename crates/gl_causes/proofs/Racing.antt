@@ -199,7 +199,8 @@ module _ (setting : Setting) (R : Lists) (h : List Stamp) (now : State) (rows : 
       }
 
   -- and what races is found
-  pub race_out : (c : Place) (k : ℕ) → RacesWith R sd.place r.var c k → (i : ℕ) × ((s : Stand) × (slice_get stands i ≡ Some s) × (s.place ≡ c)
+  pub race_out : (c : Place) (k : ℕ) → RacesWith R sd.place r.var c k
+      → (i : ℕ) × ((s : Stand) × (slice_get stands i ≡ Some s) × (s.place ≡ c)
       × (race_number a s ≡ Some k))
   race_out c k w =
       let v = stand_of setting R h now rows stands L c w.earlier w.there in
@@ -216,7 +217,8 @@ module _ (setting : Setting) (R : Lists) (h : List Stamp) (now : State) (rows : 
       let conflict : Conflict s.entry sd.entry r.var = subst (λ z. Conflict z sd.entry r.var) (sym entry)
       (subst (λ z. Conflict w.earlier z r.var) second w.conflict) in
       let order = told s is done.kind conflict.1 apart in
-      let unknown : at a.known s.place.thread ≤ tick_in s.block s.entry = elim (cases_lt (tick_in s.block s.entry) (at a.known s.place.thread)) [
+      let unknown : at a.known s.place.thread ≤ tick_in s.block s.entry = elim
+          (cases_lt (tick_in s.block s.entry) (at a.known s.place.thread)) [
         | inl lt ↦ absurd (w.unordered (subst (λ z. HappensBefore R z sd.place) v.1.2 (order.0 lt)))
         | inr ge ↦ ge
       ] in
@@ -306,7 +308,8 @@ module _ (setting : Setting) (R : Lists) (h : List Stamp) (now : State) (rows : 
           at : EntryAt R s (Plain var nth false hr.by_write f.0 false)
           at = subst (λ e. EntryAt R s e) f.1 hr.there
 
-          v : (i : ℕ) × ((q : Stand) × (slice_get stands i ≡ Some q) × (q.place ≡ w.other) × (q.entry ≡ Plain var nth true write value false)
+          v : (i : ℕ) × ((q : Stand) × (slice_get stands i ≡ Some q) × (q.place ≡ w.other)
+              × (q.entry ≡ Plain var nth true write value false)
               × IsStand R q)
           v = stand_of setting R h now rows stands L w.other (Plain var nth true write value false) there
 

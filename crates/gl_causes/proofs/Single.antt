@@ -44,7 +44,8 @@ first_same x y xs ys rise rise' h k = elim (has_cases y ys x h) [
 ]
 
 -- and so do their rests
-rest_in : (x y : Place) (xs ys : List Place) → x ≡ y → Rise (x ∷ xs) → ((c : Place) → Has (x ∷ xs) c → Has (y ∷ ys) c) → (c : Place) → Has xs c
+rest_in : (x y : Place) (xs ys : List Place) → x ≡ y → Rise (x ∷ xs) → ((c : Place) → Has (x ∷ xs) c → Has (y ∷ ys) c) → (c : Place)
+    → Has xs c
     → Has ys c
 rest_in x y xs ys same rise all c w = elim (has_cases y ys c (all c (suc w.0, w.1))) [
   | inr rest ↦ rest

@@ -174,14 +174,16 @@ module _ (setting : Setting) (R : Lists) (h : List Stamp) (now : State) (rows : 
       kind = inl (e, there, plain, refl);
     }
 
-  module _ (c : Place) (a : Access) (stands_for : StandsFor R c a) (d : Place) (f : Entry) (here : EntryAt R d f) (access : IsAccess f) (q : ℕ)
+  module _ (c : Place) (a : Access) (stands_for : StandsFor R c a) (d : Place) (f : Entry) (here : EntryAt R d f) (access : IsAccess f)
+      (q : ℕ)
       (block : IsBlockOf R d q) (apart : c.thread ≢ d.thread) where
     -- the clock of a block tells what precedes it
     pub row_told : (tick a < cell rows q c.thread) ↔ Precedes h a d.thread q
     row_told =
         let goes = goes_on R L.form d f here access q block in
         let m = block_told setting R h now L.is_list rise L.allowed c a stands_for d q block goes apart in
-        let there : EventAt h q block.event = L.is_list.listed (record { thread = d.thread; index = block.index }) q block.event block.made in
+        let there : EventAt h q block.event = L.is_list.listed
+            (record { thread = d.thread; index = block.index }) q block.event block.made in
         let row : cell rows q c.thread ≡ clocks (take (q + 1) h) (Thread d.thread) c.thread =
         L.clocks_are.known q c.thread block.event there ∙ ap (λ t. clocks (take (q + 1) h) (Thread t) c.thread) block.made.own in
         let same : a.thread ≡ c.thread = stands_for.thread in
@@ -265,7 +267,8 @@ module _ (setting : Setting) (R : Lists) (h : List Stamp) (now : State) (rows : 
             (λ l. k.0 (omega arith), λ w. let y = k.1 w in omega arith)
 
     -- a commit and a refused commit have no number in common
-    numbers_apart : (m d : Place) (g f : Entry) → EntryAt R m g → EntryAt R d f → IsCommit g → IsRefusedCommit f → (x k : ℕ) → NumberOn g x k
+    numbers_apart : (m d : Place) (g f : Entry) → EntryAt R m g → EntryAt R d f → IsCommit g → IsRefusedCommit f → (x k : ℕ)
+        → NumberOn g x k
         → NumberOn f x k → ⊥
     numbers_apart m d g f a b' is refused x k n o =
         let same : m ≡ d = (L.numbered x).1.once m d g f k a b' (inr (draws_itself g x k (inl is) n))

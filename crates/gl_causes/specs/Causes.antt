@@ -9,8 +9,8 @@ use Rattle.gl_raised.specs.Accesses.{raised_on}
 use Rattle.gl_causes.specs.declared.cause.Cause.{Cause}
 
 -- The access at d races on x with the one at c, which drew the number k on x: that was performed by another thread, comes before it there,
--- conflicts with it and does not happen before it. The race law (`IsRacy`) names such a one, or a cached repeat of it; a repeat has the number
--- of the access that it repeats and is named by that.
+-- conflicts with it and does not happen before it. The race law (`IsRacy`) names such a one, or a cached repeat of it; a repeat has the
+-- number of the access that it repeats and is named by that.
 pub record RacesWith (R : Lists) (d : Place) (x : ℕ) (c : Place) (k : ℕ) : Type 0 where
   pub earlier : Entry
   pub refused : Entry

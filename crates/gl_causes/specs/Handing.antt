@@ -14,8 +14,8 @@ use Rattle.gl_causes.specs.declared.handing.Way.TheVariants.{Releases, Writes, F
 abbrev pub touches : Tx → Bool
 touches tx = is_some (slice_get tx.looks 0) || is_some (slice_get tx.writes 0)
 
--- the entry hands on in this way what its thread did before it: others acquire the monitor, read the volatile, are the thread that is forked, commit
--- on a variable of the commit, or join the thread
+-- the entry hands on in this way what its thread did before it: others acquire the monitor, read the volatile, are the thread that is
+-- forked, commit on a variable of the commit, or join the thread
 abbrev pub HandsOn : Entry → Way → Type 0
 HandsOn e (Releases m) = (at : ℕ) × ((value : ℤ) × (e ≡ Sync at (Rel m) value))
 HandsOn e (Writes v) = (at : ℕ) × ((value : ℤ) × (e ≡ Sync at (VWrite v) value))

@@ -3,8 +3,6 @@ ghost use Rattle.std.specs.Prelude.{IfOk, length, map};
 ghost use Rattle.gl_causes.specs.Causes.{AreCauses};
 ghost use Rattle.gl_causes.specs.Finding.{AreFound, HasRace, HaveRaces, IsAsked, IsFound};
 ghost use Rattle.gl_causes.specs.Stands.{AreOfThreads, stand_seen};
-ghost use Rattle.gl_causes.specs.declared.races.Asked.{Asked as AnAsked};
-ghost use Rattle.gl_model.specs.Entries.{seen};
 ghost use Rattle.gl_model.specs.Form.{Form, Listed, Numbered};
 ghost use Rattle.gl_model.specs.HappensBefore.{Races};
 ghost use Rattle.gl_model.specs.Lists.{lists_of};
@@ -27,8 +25,8 @@ pub struct Cause {
     pub at: Place,
     /// The variable on which it was refused.
     pub var: u16,
-    /// What it races with: of the performed accesses of the variable by other threads that conflict with it, come before it there and do not
-    /// happen before it, that with the greatest number.
+    /// What it races with: of the performed accesses of the variable by other threads that conflict with it, come before it there and do
+    /// not happen before it, that with the greatest number.
     pub other: Place,
     /// How many other such accesses there are. A cached repeat is not counted.
     pub others: usize,
@@ -106,9 +104,9 @@ fn causes_by_places(
     Ok(causes)
 }
 
-/// Why the refused entries of a record were refused, one for each, by thread and then by place. For each event there is one clock of 64 bytes, and
-/// for each entry 32 bytes. For each refused entry each entry of the record is looked at, twice for an attempt. The only error is
-/// want of memory, for which too many events to be counted also stand.
+/// Why the refused entries of a record were refused, one for each, by thread and then by place. For each event there is one clock of 64
+/// bytes, and for each entry 32 bytes. For each refused entry each entry of the record is looked at, twice for an attempt. The only error
+/// is want of memory, for which too many events to be counted also stand.
 pub fn causes(alloc: Global, made: &Record) -> Result<Vec<Cause>, AllocError>
     requires form { Form (lists_of made.now) }
     requires listed { Listed (lists_of made.now) }

@@ -1,5 +1,5 @@
 // How far the thread of a refused entry knows each thread.
-ghost use Rattle.std.specs.Prelude.{◌≡◌, ◌↔◌, ◌⊎◌, ◌<◌, ℕ, length, map, max, slice_get, Some};
+ghost use Rattle.std.specs.Prelude.{◌≡◌, ◌↔◌, ◌⊎◌, ◌<◌, ℕ, map, max, Some};
 ghost use Rattle.gl_causes.specs.Learning.{IsLearned, Knows, commits_before, handed_on, is_lower, is_lower_than};
 ghost use Rattle.gl_causes.specs.Stands.{AreOfThreads, stand_seen};
 ghost use Rattle.gl_core.specs.Cells.{at, cell};

@@ -66,8 +66,9 @@ fn is_owned(depths: &[u64; MONITOR_ROOM], monitor: u16) -> bool
     0 < depth
 }
 
-/// The monitors that the thread owns where the place is, told from the entries before it in its own list: those that it has entered more often than
-/// left, rising, where leaving a monitor that it has not entered counts for nothing. None where the thread has no list. The only error is want of memory.
+/// The monitors that the thread owns where the place is, told from the entries before it in its own list: those that it has entered more
+/// often than left, rising, where leaving a monitor that it has not entered counts for nothing. None where the thread has no list. The
+/// only error is want of memory.
 pub fn owned_at(alloc: Global, made: &Record, place: Place) -> Result<Vec<u16>, AllocError>
     ensures { IfOk result (λ monitors. AreOwned (take place.index (lists_of made.now place.thread)) monitors.items) }
 {

@@ -10,7 +10,7 @@ use crate::refusals::Refusal;
 use crate::stands::stands_of;
 use gl_model::{Act, Entry, Record};
 use gl_places::Place;
-use std::alloc::{AllocError, Global};
+use std::alloc::{AllocError};
 use std::test::Fail;
 
 fn add(made: &mut Record, thread: u8, entry: Entry) -> Result<(), AllocError>
@@ -73,8 +73,9 @@ fn add_accesses(made: &mut Record) -> Result<(), AllocError> {
     refused(made, 2, 4, true)
 }
 
-// Thread 2 knows of thread 0 what it did before the event at 2, that is below 3, and nothing of thread 1. So its write races with the read and with
-// the last write, of which the write has the greater number, and not with the repeat of the read, the first write or the refused read.
+// Thread 2 knows of thread 0 what it did before the event at 2, that is below 3, and nothing of thread 1. So its write races with the
+// read and with the last write, of which the write has the greater number, and not with the repeat of the read, the first write or the
+// refused read.
 #[test]
 fn the_last_access_is_found(rt: HostRuntime) -> Result<(), Fail> {
     let alloc = rt.alloc();

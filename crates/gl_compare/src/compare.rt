@@ -51,8 +51,8 @@ impl Tally {
     }
 }
 
-/// Whether both say the same of each line of a trace, up to the first of which they do not: over a clean trace they do, what they say is what
-/// the race law says, and all of it is counted.
+/// Whether both say the same of each line of a trace, up to the first of which they do not: over a clean trace they do, what they say is
+/// what the race law says, and all of it is counted.
 pub fn agree(alloc: Global, trace: &[Line], tally: &mut Tally) -> Result<bool, AllocError>
     requires { All IsStep trace.now }
     ensures same { AreClean trace.now → IfOk result IsTrue }

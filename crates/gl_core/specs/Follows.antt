@@ -39,8 +39,9 @@ IsStepped t item judged old new =
     AreVerdicts (lines ++ record { thread = t; item = item; judged = judged } ∷ []) ×
     Follows (lines ++ record { thread = t; item = item; judged = judged } ∷ []) new
 
--- the most ticks that a line looks at or moves: of an act the clocks of two events, what it acquires, what it releases and its thread's; of a plain
--- access those of the last write or of the reads; of a commit those of each variable when it acquires, looks and releases, and its thread's clock
+-- the most ticks that a line looks at or moves: of an act the clocks of two events, what it acquires, what it releases and its thread's;
+-- of a plain access those of the last write or of the reads; of a commit those of each variable when it acquires, looks and releases, and
+-- its thread's clock
 abbrev pub most_ticks : Item → ℕ
 most_ticks (Acts act) = THREADS * 6
 most_ticks (Access x write) = if write then THREADS else 1

@@ -118,7 +118,8 @@ impl Detector {
     }
 
     /// Judges the next line, which a trace can have and which has no fault behind those before it. It takes no memory: the error says
-    /// that no more events can be counted, and the detector is as before. How many ticks a line looks at and moves is bounded by its item alone.
+    /// that no more events can be counted, and the detector is as before. How many ticks a line looks at and moves is bounded by its item
+    /// alone.
     pub fn step(&mut self, thread: u8, item: &Item, _cuts: &Cuts) -> Result<Judged, AllocError>
         requires ready { IsReady self.old }
         requires step { IsStep (thread, item.now) }

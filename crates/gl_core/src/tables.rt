@@ -1,5 +1,5 @@
 // The clocks of threads, monitors, volatiles and committed variables.
-ghost use Rattle.std.specs.Prelude.{◌≡◌, ◌≢◌, ℕ, ◌+◌, ◌*◌, ◌^◌, ◌<◌, ◌≤◌, ◌==◌, List, length, max, if◌then◌else◌, slice_index_or, All, IfOk, [], vec_capacity};
+ghost use Rattle.std.specs.Prelude.{◌≡◌, ℕ, ◌+◌, ◌*◌, ◌^◌, ◌<◌, ◌≤◌, ◌==◌, List, length, max, if◌then◌else◌, slice_index_or, IfOk, [], vec_capacity};
 ghost use Rattle.gl_model.specs.declared.limits.TheConstants.{THREADS, MONITORS, VOLATILES, VARIABLES};
 ghost use Rattle.gl_model.specs.Trace.{is_in};
 ghost use Rattle.gl_core.specs.Cells.{at, cell};

@@ -1,5 +1,5 @@
 -- The entry that was added to a record is racy in it exactly where it is so as the next access before it.
-use Rattle.std.proofs.Common.{◌≡◌, ◌≢◌, ℕ, ◌<◌, List, [], ◌∷◌, ◌++◌, length, refl, ap, subst, sym, ◌∙◌, inl, inr, arith, Some, None}
+use Rattle.std.proofs.Common.{◌≡◌, ◌≢◌, ℕ, ◌<◌, List, [], ◌∷◌, length, refl, ap, subst, sym, ◌∙◌, inl, inr, arith, Some, None}
 use Rattle.std.specs.Prelude.{◌↔◌, Option}
 use Rattle.std.proofs.lemmas.Option.{slice_get_within}
 use Rattle.gl_model.specs.declared.event.Stamp.{Stamp}

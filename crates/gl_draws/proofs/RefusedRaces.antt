@@ -1,6 +1,6 @@
 -- At the end a refused attempt is racy on the variable that it names, and on none below it.
 use Rattle.std.proofs.Common.{◌≡◌, ◌≢◌, ℕ, ◌<◌, ◌≤◌, List, [], length, take, drop, refl, ap, subst, sym, ◌∙◌, inl, inr, arith, Some, None, true}
-use Rattle.std.specs.Prelude.{◌↔◌, ◌⊎◌, Contains}
+use Rattle.std.specs.Prelude.{Contains}
 use Rattle.std.proofs.lemmas.Bool.{cases_lt}
 use Rattle.std.proofs.lemmas.List.{take-append-drop, length-take-le}
 use Rattle.std.proofs.lemmas.Option.{slice_get_within}
@@ -213,7 +213,8 @@ module _ (R : Lists) (h : List Stamp) (draws : ℕ → List Draw) (k : AreAllRig
           var_of y v.later m,
         )
 
-  -- an access of another thread happens before the attempt just where it happens before a next commit on its variables, over the first N events
+  -- an access of another thread happens before the attempt just where it happens before a next commit on its variables, over the first N
+  -- events
   module _ (c : Place) (a : Draw) (own : a.thread ≡ c.thread) (stood : StandsFor R c (access_of a)) (apart : a.thread ≢ d.thread) (x m : ℕ)
       (has : Contains tx.numbers (record { var = x; nth = m })) where
     abbrev p : ℕ

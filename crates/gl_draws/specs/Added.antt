@@ -12,8 +12,8 @@ use Rattle.gl_draws.specs.NextRaces.{IsRacyNext}
 use Rattle.gl_draws.specs.Ties.{AreTied, IsRepeat}
 use Rattle.gl_draws.specs.Verdicts.{IsPlaced}
 
--- the record R, with the events h' and the draws ds', has the entry e at the place d, with the number m on y. Before it the events were h, and the
--- draws of y were ds: those with lower numbers. No entry is a repeat
+-- the record R, with the events h' and the draws ds', has the entry e at the place d, with the number m on y. Before it the events were
+-- h, and the draws of y were ds: those with lower numbers. No entry is a repeat
 pub record IsAdded (h h' : List Stamp) (R : Lists) (ds ds' : ℕ → List Draw) (d : Place) (e : Entry) (y m : ℕ) : Type 0 where
   pub listed : IsEventList h' R
   pub rise : PositionsRise R

@@ -63,7 +63,8 @@ HasRoomAt z low tail = tail < low * z.key.cells + capacity z.key
 abbrev pub IsRefused : Call → TableView → PassView → PassView → Stop → Type 0
 IsRefused c z p q s = (l : ListView) × Looked z p q l [] × Refuses c p.own.id l s
 
--- why the call stopped: the turn was read as held by another pass; the state that was taken made the thread wait; or it did not, and there was no room
+-- why the call stopped: the turn was read as held by another pass; the state that was taken made the thread wait; or it did not, and
+-- there was no room
 abbrev pub IsCause : Call → TableView → PassView → PassView → Stop → Type 0
 IsCause c z p q (stop.Busy by) = (by < THREADS) × (q.reads ≡ p.reads ++ Busy 0 by ∷ []) × (q.seen ≡ p.seen) × (by ≢ p.own.id)
 IsCause c z p q (stop.Blocked owner) = IsRefused c z p q (stop.Blocked owner) × (q.seen ≡ p.seen)

@@ -5,12 +5,13 @@ use Rattle.gl_table.specs.PassView.{PassView}
 use Rattle.gl_events.specs.declared.done.Stop.{Stop}
 use Rattle.gl_events.specs.declared.done.Stop.TheVariants as stop
 
--- five words were stored in the cell of the event, and seven other steps made: two to take the list, one for the first segment, one for the tail, one to
--- publish the event, and two to put the list back
+-- five words were stored in the cell of the event, and seven other steps made: two to take the list, one for the first segment, one for
+-- the tail, one to publish the event, and two to put the list back
 abbrev pub IsEventCost : PassView → PassView → Type 0
 IsEventCost p q = q.moves ≡ with_stores 5 (moved 7 p.moves)
 
--- the steps of a call that stopped: a try on the list's turn; or four to take the list and to put it back; or those, and the two loads between them
+-- the steps of a call that stopped: a try on the list's turn; or four to take the list and to put it back; or those, and the two loads
+-- between them
 abbrev pub steps_to : Stop → ℕ
 steps_to (stop.Busy by) = 1
 steps_to (stop.Blocked owner) = 4

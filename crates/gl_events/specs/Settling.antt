@@ -18,7 +18,8 @@ pub record MaySettle (z : TableView) (p : PassView) : Type 0 where
   pub spare : 0 < p.spare
   pub goes_on : IsOpen p.own.mine
 
--- the pass, which was p and is q, loaded the holds of the variables below k, each in one step, and did nothing else; the least of them is this
+-- the pass, which was p and is q, loaded the holds of the variables below k, each in one step, and did nothing else; the least of them is
+-- this
 pub record AreLoaded (k : ℕ) (p q : PassView) (least : ℕ) : Type 0 where
   pub further : List Read
   pub is : q ≡ record p { reads = p.reads ++ further; moves = moved k p.moves }

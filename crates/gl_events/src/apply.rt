@@ -1,5 +1,5 @@
 // What the list's state becomes by an act.
-ghost use Rattle.std.specs.Prelude.{◌≡◌, ◌<◌, Some, IfSome};
+ghost use Rattle.std.specs.Prelude.{◌≡◌, ◌<◌, Some};
 ghost use Rattle.std.specs.Prelude.{slice_get};
 ghost use Rattle.gl_model.specs.declared.limits.TheConstants.{THREADS};
 ghost use Rattle.gl_state.specs.Acts.{HasRoom, with_object, with_input};

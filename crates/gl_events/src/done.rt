@@ -14,9 +14,9 @@ pub struct Done {
     pub code: u8,
 }
 
-/// Why an event call did nothing. `Busy`: another pass, `by`, held the list's turn. `Blocked`: `owner` is in the monitor. `NotEnded`: the thread
-/// that is joined was forked and has not ended. `NotForked`: this thread was not forked; `live` threads were forked and have not ended.
-/// `RingFull`: there is no room for an event at `tail` where the ring begins with the segment `low`.
+/// Why an event call did nothing. `Busy`: another pass, `by`, held the list's turn. `Blocked`: `owner` is in the monitor. `NotEnded`: the
+/// thread that is joined was forked and has not ended. `NotForked`: this thread was not forked; `live` threads were forked and have not
+/// ended. `RingFull`: there is no room for an event at `tail` where the ring begins with the segment `low`.
 #[derive(Clone, Copy)]
 pub enum Stop {
     Busy { by: u8 },

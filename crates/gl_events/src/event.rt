@@ -1,5 +1,5 @@
 // One event, whatever it is: the list is taken, its state looked at, room asked for, the act published, and the list put back.
-ghost use Rattle.std.specs.Prelude.{◌≡◌, ◌||◌, ◌<◌, ◌≤◌, [], IfOk, IfErr, OnOk, OnErr};
+ghost use Rattle.std.specs.Prelude.{◌≡◌, ◌||◌, ◌<◌, [], IfOk, IfErr, OnOk, OnErr};
 ghost use Rattle.gl_model.specs.Entries.{Sync};
 ghost use Rattle.gl_rule.specs.declared.slot.Slot.TheVariants as slot;
 ghost use Rattle.gl_table.specs.Doing.{told, announced};

@@ -112,8 +112,8 @@ pub fn vwrite(shared: &Shared, pass: &mut Pass, field: u16, value: i64) -> Resul
     event(shared, pass, &Call::VWrite { field, value })
 }
 
-/// The thread forks the least thread that was never forked, with a function and its argument; answers its number. The code 7 comes exactly where the
-/// threads 1 to 15 were all forked.
+/// The thread forks the least thread that was never forked, with a function and its argument; answers its number. The code 7 comes
+/// exactly where the threads 1 to 15 were all forked.
 pub fn fork(shared: &Shared, pass: &mut Pass, func: u16, value: i64) -> Result<Done, Stop>
     requires may { MayCall (call.Fork func value) shared.now pass.old }
     requires there { func < FUNCTIONS }

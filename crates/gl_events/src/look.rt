@@ -1,7 +1,7 @@
 // What a call does with the list's state: the act that it publishes, or why it waits.
-ghost use Rattle.std.specs.Prelude.{◌≡◌, ◌<◌, IfOk, IfErr, IfSome, length, Contains, pos, ℤ};
+ghost use Rattle.std.specs.Prelude.{◌≡◌, ◌<◌, IfOk, IfErr, length, Contains};
 ghost use Rattle.gl_model.specs.declared.event.Act.TheVariants.{Fail};
-ghost use Rattle.gl_model.specs.declared.limits.TheConstants.{THREADS, FUNCTIONS, CLASSES, MONITORS, VOLATILES};
+ghost use Rattle.gl_model.specs.declared.limits.TheConstants.{THREADS, FUNCTIONS, CLASSES, MONITORS};
 ghost use Rattle.gl_events.specs.Acting.{IsSound, IsPlan};
 ghost use Rattle.gl_events.specs.Answers.{Refuses};
 ghost use Rattle.gl_events.specs.Calls.{IsCallInRange};

@@ -27,7 +27,8 @@ fn load_holds(shared: &Shared, pass: &mut Pass) -> u64
     least
 }
 
-/// Loads the holds of all variables, raises the first segment of the ring to that of the least, where it is below, and answers what it is then.
+/// Loads the holds of all variables, raises the first segment of the ring to that of the least, where it is below, and answers what it is
+/// then.
 pub fn settle(shared: &Shared, pass: &mut Pass) -> u64
     requires may { MaySettle shared.now pass.old }
     ensures settled { IsSettled shared.now pass.old pass.new result }

@@ -20,8 +20,8 @@ use Rattle.gl_explain.specs.Owned.{AreOwned}
 abbrev pub touches : List ℕ → List ℕ → Bool
 touches reads writes = is_some (slice_get reads 0) || is_some (slice_get writes 0)
 
--- the line hands on what thread t did before it, to who takes it up: t releases a monitor, writes a volatile, forks a thread or commits on some variable,
--- or t is joined
+-- the line hands on what thread t did before it, to who takes it up: t releases a monitor, writes a volatile, forks a thread or commits
+-- on some variable, or t is joined
 abbrev pub hands_on : ℕ → Item → Judged → ℕ → Bool
 hands_on t (Acts (Begin f)) judged u = false
 hands_on t (Acts End) judged u = false
@@ -50,7 +50,8 @@ IsFirstBehind test before j (Some found) =
     (i : ℕ) × (j < i) × (slice_get before i ≡ Some found) × (test found ≡ true)
     × ((h : ℕ) (k : Told) → j < h → h < i → slice_get before h ≡ Some k → test k ≡ false)
 
--- the line at place i is one of thread t, and what t did before it happens before the next line: so does a plain access that t made just there
+-- the line at place i is one of thread t, and what t did before it happens before the next line: so does a plain access that t made just
+-- there
 pub record IsLearnt (before : List Told) (next : Told) (t i : ℕ) : Type 0 where
   pub told : Told
   pub there : slice_get before i ≡ Some told

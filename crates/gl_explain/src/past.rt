@@ -1,5 +1,5 @@
 // What another thread did, and how far that leads.
-ghost use Rattle.std.specs.Prelude.{◌≡◌, ◌↔◌, ◌<◌, ◌≤◌, ℕ, IsTrue, length};
+ghost use Rattle.std.specs.Prelude.{◌≡◌, ◌↔◌, ◌<◌, ◌≤◌, IsTrue, length};
 ghost use Rattle.gl_explain.specs.Explained.{IsFirstBehind, is_handing, touches};
 ghost use Rattle.gl_explain.specs.Races.{IsLastOf, IsPassed};
 ghost use Rattle.gl_explain.specs.Told.{told_of};

@@ -1,5 +1,5 @@
 // The lines that a raised access races with.
-ghost use Rattle.std.specs.Prelude.{◌≡◌, ◌↔◌, ◌⊎◌, ◌<◌, ◌+◌, ℕ, IsTrue, None, Some, false, length};
+ghost use Rattle.std.specs.Prelude.{◌≡◌, ◌↔◌, ◌<◌, ◌+◌, ℕ, IsTrue, None, Some, false, length};
 ghost use Rattle.gl_core.specs.Cells.{at};
 ghost use Rattle.gl_lines.specs.TraceLaws.{Accesses, WritesTo, commit_of};
 ghost use Rattle.gl_explain.specs.Races.{Conflicts, Counts, IsLastOf, IsUnknown};

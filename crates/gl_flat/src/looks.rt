@@ -1,5 +1,5 @@
 // Looks against their own numbers.
-ghost use Rattle.std.specs.Prelude.{◌≡◌, ℕ, map, IfOk, IsSorted, MatchBool, MatchOption};
+ghost use Rattle.std.specs.Prelude.{map, IfOk, IsSorted, MatchBool, MatchOption};
 ghost use Rattle.gl_model.specs.Entries.{seen, Abort as AbortEntry};
 ghost use Rattle.gl_model.specs.Flat.{LooksReadRight, ReadsRight};
 ghost use Rattle.gl_model.specs.Lists.{lists_of};

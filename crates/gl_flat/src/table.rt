@@ -1,5 +1,5 @@
 // The words along the flat history, in a table by variable.
-ghost use Rattle.std.specs.Prelude.{◌≡◌, ◌↔◌, ℕ, ◌<◌, length, true, false, IsTrue, MatchBool};
+ghost use Rattle.std.specs.Prelude.{◌≡◌, ℕ, ◌<◌, length, true, false, MatchBool};
 ghost use Rattle.gl_model.specs.Entries.{seen};
 ghost use Rattle.gl_model.specs.Flat.{LooksAgree, stored};
 ghost use Rattle.gl_model.specs.Kept.{IsEntryKept};

@@ -1,4 +1,4 @@
-ghost use Rattle.std.specs.Prelude.{◌≡◌, ◌≢◌, ℕ, ◌<◌, [], IfOk, IfSome, MatchOption};
+ghost use Rattle.std.specs.Prelude.{◌≢◌, ℕ, ◌<◌, [], IfOk, IfSome, MatchOption};
 ghost use Rattle.gl_model.specs.Form.{Form};
 ghost use Rattle.gl_model.specs.Lists.{lists_of};
 ghost use Rattle.gl_bytecode.specs.Runs.{Runs};

@@ -1,11 +1,10 @@
-ghost use Rattle.std.specs.Prelude.{◌≡◌, ◌<◌, ◌≤◌, ◌||◌, ℕ, ℤ, Option, Some, None, IfOk, MatchBool, map, is_some, nat_lt, true, false};
+ghost use Rattle.std.specs.Prelude.{◌≡◌, ◌<◌, ◌≤◌, ◌||◌, ℕ, ℤ, Option, Some, None, IfOk, MatchBool, map, nat_lt, true, false};
 ghost use Rattle.gl_model.specs.Entries.{seen};
 ghost use Rattle.gl_model.specs.Form.{IsTrim};
 ghost use Rattle.gl_model.specs.declared.limits.TheConstants.{TX_VARIABLES, VARIABLES};
 ghost use Rattle.gl_bytecode.specs.Fits.{Fits, StartsRight};
 ghost use Rattle.gl_bytecode.specs.Forced.{word_ahead};
 ghost use Rattle.gl_bytecode.specs.Machine.{ask_of, takes};
-ghost use Rattle.gl_bytecode.specs.Programs.{Bytecode};
 ghost use Rattle.gl_bytecode.specs.Runs.{Made, is_its_end, known_word, knows, looks_after, outset, replied, reply_in, reply_of_abort, reply_of_commit, told_one, touched, word_of, writes_after};
 ghost use Rattle.gl_bytecode.specs.declared.ask.Ask.TheVariants.{Over as AskOver, Read, Write};
 ghost use Rattle.gl_bytecode.specs.declared.ask.Reply.TheVariants.{Go, Value};

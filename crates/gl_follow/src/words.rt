@@ -1,5 +1,5 @@
 ghost use Rattle.std.specs.Ordering.{int_eq};
-ghost use Rattle.std.specs.Prelude.{◌≡◌, ◌==◌, ◌&&◌, ◌<◌, ◌≤◌, ◌⊎◌, true, nat_lt, is_some, ◌||◌, map, []};
+ghost use Rattle.std.specs.Prelude.{◌≡◌, ◌==◌, ◌&&◌, ◌<◌, ◌≤◌, true, nat_lt, is_some, ◌||◌, map, []};
 ghost use Rattle.gl_model.specs.declared.limits.TheConstants.{TX_VARIABLES, VARIABLES};
 ghost use Rattle.gl_bytecode.specs.Runs.{known_word, same_words, with_word, word_of};
 ghost use Rattle.gl_follow.specs.Words.{look_word, pair_word, size_of};

@@ -17,7 +17,7 @@ pub(crate) struct Walk {
 }
 
 impl Walk {
-    ghost use Rattle.std.specs.Prelude.{ℕ, ◌+◌, ◌<◌, ◌^◌, List, IfOk};
+    ghost use Rattle.std.specs.Prelude.{◌+◌, ◌<◌, ◌^◌, List, IfOk};
     ghost use Rattle.gl_model.specs.Entries.{Entry as SeenEntry, seen};
     ghost use Rattle.gl_model.specs.Kept.{IsEntryKept};
     ghost use Rattle.gl_form.specs.Come.{HasCome, SaysOver, WalksOn};

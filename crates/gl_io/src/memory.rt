@@ -1,5 +1,5 @@
 // A source and a sink in memory, which fail at the calls that they are told.
-ghost use Rattle.std.specs.Prelude.{◌≡◌, ◌≤◌, ◌<◌, ◌↔◌, ◌⊎◌, ◌-◌, ◌+◌, ◌^◌, ℕ, List, Option, length, min, take, drop, ◌++◌, [], vec_len, vec_capacity, IsErr, IfOk, OnOk, IfErr, Contains, Some};
+ghost use Rattle.std.specs.Prelude.{◌≡◌, ◌≤◌, ◌<◌, ◌↔◌, ◌⊎◌, ◌-◌, ◌+◌, ◌^◌, length, min, take, drop, ◌++◌, [], vec_len, vec_capacity, IsErr, IfOk, IfErr, Contains, Some};
 ghost use Rattle.std.specs.Io.{ReadsAtMost};
 ghost use Rattle.std.specs.Io.KnownBytes.{ReadConsumes, WriteAppends};
 ghost use Rattle.gl_io.specs.Faults.{HasCause};

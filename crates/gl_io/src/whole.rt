@@ -1,7 +1,7 @@
 // Reading all that there is, and writing all of a text.
-ghost use Rattle.std.specs.Prelude.{◌≡◌, ◌<◌, ◌≤◌, ◌^◌, ℕ, List, length, take, vec_len, IfOk, OnOk, OnErr, IfSome, IsErrOf};
+ghost use Rattle.std.specs.Prelude.{◌≡◌, ◌<◌, ◌≤◌, ℕ, List, length, take, vec_len, IfOk, OnOk, OnErr, IfSome, IsErrOf};
 ghost use Rattle.std.specs.Io.KnownBytes.{Appends, Consumes, IsAtEnd};
-ghost use Rattle.gl_io.specs.Faults.{HasCause, Rose};
+ghost use Rattle.gl_io.specs.Faults.{HasCause};
 ghost use Rattle.gl_io.specs.Whole.{FaultsBy, IsTaken};
 
 use crate::{Failed, Sink, Source};

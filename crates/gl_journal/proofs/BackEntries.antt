@@ -1,5 +1,5 @@
 -- The lines of entries that are written and read back.
-use Rattle.std.proofs.Common.{◌≡◌, ◌+◌, ◌-◌, ◌*◌, ◌/◌, ◌%◌, ◌<◌, ◌≤◌, ◌^◌, ◌==◌, ◌&&◌, ℕ, [], ◌∷◌, ◌++◌, Bool, true, false, Ok, nat_lt, nat_le, codes, length, refl, ap, ◌∙◌, arith}
+use Rattle.std.proofs.Common.{◌≡◌, ◌+◌, ◌-◌, ◌*◌, ◌/◌, ◌%◌, ◌<◌, ◌≤◌, ◌^◌, ◌&&◌, ℕ, [], ◌∷◌, Bool, true, false, Ok, nat_lt, nat_le, codes, length, refl, ap, arith}
 use Rattle.std.specs.Prelude.{if◌then◌else◌}
 use Rattle.std.specs.Fmt.{decimal, signed_decimal}
 use Rattle.std.specs.List.{AllByRecursion, list_all}
@@ -155,7 +155,8 @@ sync_back at a value low range small is =
     (rw (natural_back (most_of (kind_of a)) (arg_of a) arg (omega (arith, most_small (kind_of a))))
     (rw (value_back_in value is) (ap (λ b. Ok (Sync at b value)) (act_back a range)))))
 
-commit_back : (at : ℕ) (tx : Tx) → at ≤ MOST_STAMP → IsTxKept tx → IsTxTyped tx → IsTxStamped tx → TxNamesFew tx → commit_in (decimal at ∷ tx_words tx)
+commit_back : (at : ℕ) (tx : Tx) → at ≤ MOST_STAMP → IsTxKept tx → IsTxTyped tx → IsTxStamped tx → TxNamesFew tx
+    → commit_in (decimal at ∷ tx_words tx)
     ≡ Ok (Commit at tx)
 unfolding commit_in
 commit_back at tx low kept typed few named = rw (natural_back MOST_STAMP at low (omega arith)) (rw (tx_back tx kept typed few named) refl)
@@ -181,7 +182,8 @@ changed_back tx var read found low old new kept typed few named =
     rw (natural_back (VARIABLES - 1) var (omega arith) (omega arith))
     (rw (value_back_in read old) (rw (value_back_in found new) (rw (tx_back tx kept typed few named) refl)))
 
-raised_back : (tx : Tx) (var : ℕ) → var < VARIABLES → IsTxKept tx → IsTxTyped tx → IsTxStamped tx → TxNamesFew tx → raised_in (decimal var ∷ tx_words tx)
+raised_back : (tx : Tx) (var : ℕ) → var < VARIABLES → IsTxKept tx → IsTxTyped tx → IsTxStamped tx → TxNamesFew tx
+    → raised_in (decimal var ∷ tx_words tx)
     ≡ Ok (Abort tx (Raised var))
 unfolding raised_in
 raised_back tx var low kept typed few named = rw (natural_back (VARIABLES - 1) var (omega arith) (omega arith))

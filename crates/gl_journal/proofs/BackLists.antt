@@ -1,5 +1,5 @@
 -- The lists of a transaction that are written and read back.
-use Rattle.std.proofs.Common.{◌≡◌, ◌≢◌, ◌+◌, ◌-◌, ◌<◌, ◌≤◌, ◌^◌, ◌==◌, ◌&&◌, ℕ, pos, List, [], ◌∷◌, ◌++◌, true, false, Ok, nat_le, nat_lt, bytes_eq, codes, length, map, refl, ap, sym, ◌∙◌, arith, append-nil, inl, inr, All}
+use Rattle.std.proofs.Common.{◌≡◌, ◌+◌, ◌-◌, ◌<◌, ◌≤◌, ◌^◌, ℕ, pos, List, [], ◌∷◌, ◌++◌, true, false, Ok, nat_le, nat_lt, bytes_eq, codes, length, map, refl, ap, sym, ◌∙◌, arith, append-nil, inl, inr, All}
 use Rattle.std.specs.Fmt.{decimal, signed_decimal}
 use Rattle.std.specs.List.{AllByRecursion, flat_map, list_all, slice_split}
 use Rattle.std.proofs.lemmas.Bool.{and_from, cases_Bool, le-leb, lt-ltb, ne_eqb}
@@ -325,7 +325,8 @@ lists_back tx = refl
 parts_are_tx : (tx : Tx) → IsTxBack tx → tx_of (map part_of_look tx.looks) (map part_of_pair tx.writes) (map part_of_number tx.numbers)
     ≡ Ok tx
 parts_are_tx tx back =
-    rw (back.looks_set, back.writes_set, back.numbers_set, back.named) (rw (same_looks tx.looks, same_pairs tx.writes, same_numbers tx.numbers) refl)
+    rw (back.looks_set, back.writes_set, back.numbers_set, back.named)
+        (rw (same_looks tx.looks, same_pairs tx.writes, same_numbers tx.numbers) refl)
 
 pub tx_back : (tx : Tx) → IsTxKept tx → IsTxTyped tx → IsTxStamped tx → TxNamesFew tx → tx_in (tx_words tx) ≡ Ok tx
 unfolding tx_in

@@ -1,5 +1,5 @@
 -- Lists of parts, piece by piece and part by part.
-use Rattle.std.proofs.Common.{◌≡◌, ◌+◌, ◌<◌, ◌≤◌, ◌==◌, ◌&&◌, ℕ, zero, suc, List, [], ◌∷◌, ◌++◌, true, false, Some, None, Result, Ok, Err, nat_lt, nat_le, length, take, drop, map, slice_index_or, refl, ap, sym, ◌∙◌, append_assoc, arith}
+use Rattle.std.proofs.Common.{◌≡◌, ◌+◌, ◌<◌, ◌==◌, ℕ, zero, suc, List, [], ◌∷◌, ◌++◌, true, false, Some, None, Result, Ok, Err, nat_lt, nat_le, length, take, drop, map, slice_index_or, refl, ap, sym, ◌∙◌, append_assoc, arith}
 use Rattle.std.specs.List.{AllByRecursion, list_all, slice_split, position, before_first, after_first}
 use Rattle.std.proofs.lemmas.Bool.{and_parts, ltb-true, ne_eqb, le-ltb}
 use Rattle.std.proofs.lemmas.List.{take_more}

@@ -57,8 +57,8 @@ is_next (Some t) (Err kind) = true
 abbrev pub thread_in : List Word → Result ℕ ℕ
 thread_in ws = first_of WORD_COUNT ws >>= natural_in (THREADS - 1)
 
--- where a line of this form may stand: a header at the front alone; a thread behind those below it, where its number can be read; an entry behind a
--- thread
+-- where a line of this form may stand: a header at the front alone; a thread behind those below it, where its number can be read; an
+-- entry behind a thread
 abbrev pub may_stand : Standing → Form → List Word → Bool
 may_stand s forms.Header ws = false
 may_stand s forms.Thread ws = is_next s.thread (thread_in ws)

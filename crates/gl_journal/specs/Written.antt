@@ -85,8 +85,8 @@ NamesFew (Over ending) = Unit {0}
 abbrev pub AllEntries : (Entry → Type 0) → List (ℕ × List Entry) → Type 0
 AllEntries P R = AllByRecursion (λ l. AllByRecursion P l.1) R
 
--- a number of steps that there may be, and a record whose positions, numbers and low marks a line can say: so are those of each run and of each
--- trace, which make far fewer than 2^63 of each
+-- a number of steps that there may be, and a record whose positions, numbers and low marks a line can say: so are those of each run and
+-- of each trace, which make far fewer than 2^63 of each
 pub record IsStamped (steps : ℕ) (R : List (ℕ × List Entry)) : Type 0 where
   pub few : LEAST_STEPS ≤ steps
   pub most : steps ≤ MOST_STEPS

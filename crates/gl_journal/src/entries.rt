@@ -1,5 +1,5 @@
 // The entry that a line says.
-ghost use Rattle.std.specs.Prelude.{◌≡◌, ◌<◌, ◌≤◌, ◌-◌, MatchResult, IfOk, IfErr, Ok, Err};
+ghost use Rattle.std.specs.Prelude.{◌≡◌, ◌<◌, ◌-◌, MatchResult, IfOk, IfErr, Ok, Err};
 ghost use Rattle.gl_model.specs.Entries.{seen};
 ghost use Rattle.gl_model.specs.Kept.{IsEntryInRange};
 ghost use Rattle.gl_model.specs.declared.limits.TheConstants.{VARIABLES};

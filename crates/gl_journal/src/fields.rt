@@ -1,5 +1,5 @@
 // The words of a line, each in its place.
-ghost use Rattle.std.specs.Prelude.{◌≡◌, ◌≤◌, ◌<◌, ◌==◌, length, IfOk, pos};
+ghost use Rattle.std.specs.Prelude.{◌≡◌, ◌≤◌, ◌<◌, ◌==◌, length, IfOk};
 ghost use Rattle.gl_text.specs.Text.{words};
 ghost use Rattle.gl_journal.specs.Fields.{natural_in, value_in, told, choice_in, none_of};
 

@@ -1,5 +1,5 @@
 // The lists of a transaction.
-ghost use Rattle.std.specs.Prelude.{◌≡◌, ◌<◌, ◌≤◌, ◌==◌, ◌∷◌, [], ℕ, IfOk, IfErr, MatchOption, MatchResult, Ok, Err, List, map, pos, length, true, OnOk, ◌++◌, nat_lt};
+ghost use Rattle.std.specs.Prelude.{◌≡◌, ◌<◌, ◌==◌, ◌∷◌, [], ℕ, IfOk, IfErr, Ok, Err, List, map, true, OnOk, ◌++◌, nat_lt};
 ghost use Rattle.std.specs.List.{position, list_all, slice_split, AllByRecursion};
 ghost use Rattle.std.specs.Iterator.{YieldsFirstBy, item_count};
 ghost use Rattle.gl_model.specs.declared.limits.TheConstants.{VARIABLES};

@@ -1,12 +1,12 @@
 // A whole record text, line by line.
-ghost use Rattle.std.specs.Prelude.{◌≡◌, ◌+◌, ◌<◌, ◌≤◌, ◌^◌, ◌∷◌, ℕ, length, IfOk, IfErr, IfSome, OnOk, Ok, Some, None, true};
+ghost use Rattle.std.specs.Prelude.{◌≡◌, ◌+◌, ◌<◌, ◌≤◌, ◌^◌, length, IfOk, IfErr, IfSome, OnOk, Ok, Some, None, true};
 ghost use Rattle.std.specs.Str.Lines.{lines};
 ghost use Rattle.gl_text.specs.Text.{words};
 ghost use Rattle.gl_model.specs.Entries.{seen};
 ghost use Rattle.gl_model.specs.Kept.{IsEntryInRange};
 ghost use Rattle.gl_model.specs.declared.limits.TheConstants.{THREADS};
 ghost use Rattle.gl_journal.specs.Refused.{Refused};
-ghost use Rattle.gl_journal.specs.Meaning.{steps_in, header_in, nothing, is_next, thread_in, may_stand, with_entry, form_read, placed_read, body_read, some_read, words_read, line_read, outcome, said, AreClean, refused_at, FaultsFirst, IsRecordText, TellsFirst};
+ghost use Rattle.gl_journal.specs.Meaning.{steps_in, header_in, nothing, is_next, thread_in, may_stand, with_entry, form_read, body_read, some_read, line_read, outcome, said, AreClean, refused_at, FaultsFirst, IsRecordText, TellsFirst};
 
 use crate::entries::entry_in;
 use crate::fields::{has_words, natural_in, none_of, told};

@@ -1,5 +1,5 @@
 // The kinds of synchronization, by the word that tells each.
-ghost use Rattle.std.specs.Prelude.{◌≡◌, ◌≤◌, ◌+◌, ◌*◌, ◌^◌, ◌<◌};
+ghost use Rattle.std.specs.Prelude.{◌≡◌, ◌≤◌, ◌+◌, ◌*◌, ◌<◌};
 ghost use Rattle.gl_model.specs.Elements.{IsActInRange};
 ghost use Rattle.gl_journal.specs.Written.{IsActTyped};
 ghost use Rattle.gl_journal.specs.SyncKinds.{kind_in, word_of, most_of, act_of, kind_of, arg_of};

@@ -1,10 +1,10 @@
 // The transaction of a line.
-ghost use Rattle.std.specs.Prelude.{◌≡◌, MatchResult, IfOk, IfErr, Ok, Err, map, true, ◌<◌};
+ghost use Rattle.std.specs.Prelude.{◌≡◌, MatchResult, IfOk, IfErr, Ok, Err, true, ◌<◌};
 ghost use Rattle.std.specs.List.{AllByRecursion};
 ghost use Rattle.gl_model.specs.declared.limits.TheConstants.{VARIABLES};
-ghost use Rattle.gl_journal.specs.Parts.{is_set, look_of, pair_of, number_of};
+ghost use Rattle.gl_journal.specs.Parts.{is_set};
 ghost use Rattle.gl_journal.specs.Refused.{Refused};
-ghost use Rattle.gl_journal.specs.Transactions.{lists_of, names_few, tx_in, tx_of, vars_of};
+ghost use Rattle.gl_journal.specs.Transactions.{lists_of, names_few, tx_in, vars_of};
 
 use crate::fields::told;
 use crate::parts::{Part, PartForm, is_set, list_in, looks_of, numbers_of, pairs_of};

@@ -1,10 +1,10 @@
 // The text of a record.
-ghost use Rattle.std.specs.Prelude.{◌≡◌, ◌++◌, ℕ, OnOk, IfOk, string_bytes, map};
+ghost use Rattle.std.specs.Prelude.{◌≡◌, ◌++◌, OnOk, IfOk, string_bytes, map};
 ghost use Rattle.std.specs.List.{AllByRecursion, flat_map};
 ghost use Rattle.gl_journal.specs.Meaning.{IsRecordText};
 ghost use Rattle.gl_journal.specs.Written.{AllEntries, IsActTyped, IsEndingTyped, IsEntryTyped, IsStamped, IsTxTyped, IsValue, IsWhyTyped, NamesFew};
 ghost use Rattle.gl_model.specs.Entries.{seen, Sync as SyncEntry};
-ghost use Rattle.gl_journal.specs.Rows.{list_word, look_word, pair_word, number_word, tx_words, over_row, abort_row, entry_row, entry_rows, thread_row, header_row, row_text, record_text};
+ghost use Rattle.gl_journal.specs.Rows.{list_word, look_word, pair_word, number_word, tx_words, over_row, abort_row, entry_row, thread_row, row_text, record_text};
 
 use crate::sync_kinds::{kind_of, number_of};
 use gl_model::{
@@ -200,8 +200,8 @@ fn push_list(out: &mut String, thread: u8, entries: &[Entry]) -> Result<(), Allo
     Ok(())
 }
 
-/// The text of a record and of the number of steps that its threads were given. Where a line can say its positions, numbers and low marks, and
-/// each transaction names at most `TX_VARIABLES` variables, it means that record, and so is read back.
+/// The text of a record and of the number of steps that its threads were given. Where a line can say its positions, numbers and low
+/// marks, and each transaction names at most `TX_VARIABLES` variables, it means that record, and so is read back.
 pub fn write_record(alloc: Global, steps: u32, record_of: &Record) -> Result<Vec<u8>, AllocError>
     ensures text { IfOk result (λ text. text.items ≡ record_text steps record_of.now) }
     ensures read { IsStamped steps record_of.now → AllEntries NamesFew record_of.now → IfOk result (λ text. IsRecordText text.items steps record_of.now) }

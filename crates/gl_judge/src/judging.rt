@@ -1,5 +1,5 @@
 ghost use Rattle.gl_judge.specs.declared.judging.Verdict.TheVariants.{Race};
-ghost use Rattle.std.specs.Prelude.{Bool, false, ◌≡◌, ◌↔◌, ◌⊎◌, ℕ, ◌<◌, ◌≤◌, ◌+◌, IsTrue, List, Some, All, length, drop, slice_get};
+ghost use Rattle.std.specs.Prelude.{Bool, false, ◌≡◌, ◌↔◌, ℕ, ◌<◌, IsTrue, List, Some, All};
 ghost use Rattle.gl_model.specs.declared.event.Stamp.{Stamp as AStamp};
 ghost use Rattle.gl_model.specs.declared.limits.TheConstants.{THREADS};
 ghost use Rattle.gl_model.specs.Elements.{IsStampInRange};
@@ -104,10 +104,10 @@ fn some_conflict_fails(row: &Row, q: &Question, from: u64, window: &[Stamp], cut
 }
 
 /// Whether a next access of the row's variable completes a race: Race exactly where the lockset of some Info that conflicts
-/// with it does not let it pass. Over a row that stands that is exactly where the access is racy, and in any record to which its entry is added
-/// exactly where that entry is, by the race law. The window is the list of events from a position on; no Info's position is outside of it. Each Info is asked
-/// of the early cuts, then of the late ones over the events from its position on, and then walked: the cuts change no answer.
-/// This is said of each list in which the row's Infos stand for accesses and the question is of a next access.
+/// with it does not let it pass. Over a row that stands that is exactly where the access is racy, and in any record to which its entry is
+/// added exactly where that entry is, by the race law. The window is the list of events from a position on; no Info's position is outside
+/// of it. Each Info is asked of the early cuts, then of the late ones over the events from its position on, and then walked: the cuts
+/// change no answer. This is said of each list in which the row's Infos stand for accesses and the question is of a next access.
 pub fn judge(row: &Row, q: &Question, from: u64, window: &[Stamp], cuts: &Cuts) -> Verdict
     requires thread { q.now.thread < THREADS }
     requires stamps { All IsStampInRange window.now }

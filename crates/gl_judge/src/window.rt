@@ -1,6 +1,6 @@
-ghost use Rattle.std.specs.Prelude.{◌≡◌, ◌↔◌, ℕ, ◌<◌, All};
+ghost use Rattle.std.specs.Prelude.{◌↔◌, All};
 ghost use Rattle.gl_model.specs.declared.event.Element.{Element as AnElement};
-ghost use Rattle.gl_model.specs.Elements.{IsEventInRange, IsStampInRange};
+ghost use Rattle.gl_model.specs.Elements.{IsStampInRange};
 ghost use Rattle.gl_model.specs.Lockset.{Has};
 ghost use Rattle.gl_model.specs.Locksets.{AfterAll};
 

@@ -1,6 +1,7 @@
--- One whole record that every definition accepts. Thread 0 forks thread 1, writes variable 5 and reads it again from its private word, drops an
--- attempt because variable 6 was changed, commits a look of it, and reads what thread 1 wrote to variable 8. Thread 1 reads variable 5, which
--- races, drops an attempt that would race on it, writes variable 8, and commits a write of variable 6: the two commits order what follows.
+-- One whole record that every definition accepts. Thread 0 forks thread 1, writes variable 5 and reads it again from its private word,
+-- drops an attempt because variable 6 was changed, commits a look of it, and reads what thread 1 wrote to variable 8. Thread 1 reads
+-- variable 5, which races, drops an attempt that would race on it, writes variable 8, and commits a write of variable 6: the two commits
+-- order what follows.
 use Rattle.std.proofs.Common.{◌≡◌, ℕ, zero, suc, ◌<◌, ◌==◌, List, [], ◌∷◌, refl, ap, sym, inl, inr, arith, true, false}
 use Rattle.std.specs.Prelude.{◌⊎◌, pos, ℤ, Bool, Contains, if◌then◌else◌}
 use Rattle.gl_model.specs.declared.event.Act.TheVariants.{Begin, End, Fork}
@@ -97,7 +98,8 @@ pub entries0 : (P : ℕ → Entry → Type 0) → P 0 B0 → P 1 F0 → P 2 Firs
     → (i : ℕ) (e : Entry) → At es0 i e → P i e
 entries0 P b f w c a k r e o = all_at P es0 (b, (f, (w, (c, (a, (k, (r, (e, (o, tt)))))))))
 
-pub entries1 : (P : ℕ → Entry → Type 0) → P 0 B1 → P 1 RaisedRead → P 2 A1 → P 3 OtherWrite → P 4 K1 → P 5 E1 → P 6 O → (i : ℕ) (e : Entry) → At es1 i e
+pub entries1 : (P : ℕ → Entry → Type 0) → P 0 B1 → P 1 RaisedRead → P 2 A1 → P 3 OtherWrite → P 4 K1 → P 5 E1 → P 6 O
+    → (i : ℕ) (e : Entry) → At es1 i e
     → P i e
 entries1 P b r a w k e o = all_at P es1 (b, (r, (a, (w, (k, (e, (o, tt)))))))
 
@@ -107,7 +109,8 @@ none (suc zero) lt = absurd (omega arith)
 none (suc (suc t)) lt = refl
 
 -- each entry of the record
-pub each : (P : Place → Entry → Type 0) → P (at 0 0) B0 → P (at 0 1) F0 → P (at 0 2) FirstWrite → P (at 0 3) C0 → P (at 0 4) A0 → P (at 0 5) K0
+pub each : (P : Place → Entry → Type 0) → P (at 0 0) B0 → P (at 0 1) F0 → P (at 0 2) FirstWrite → P (at 0 3) C0 → P (at 0 4) A0
+    → P (at 0 5) K0
     → P (at 0 6) R0 → P (at 0 7) E0 → P (at 0 8) O
     → P (at 1 0) B1 → P (at 1 1) RaisedRead → P (at 1 2) A1 → P (at 1 3) OtherWrite → P (at 1 4) K1 → P (at 1 5) E1 → P (at 1 6) O
     → (c : Place) (e : Entry) → EntryAt R c e → P c e

@@ -1,5 +1,5 @@
--- The race law of the record of two threads: the read of thread 1 races, as its refused attempt would have, and nothing else does; what thread 1
--- wrote before its commit is ordered before what thread 0 reads behind its own.
+-- The race law of the record of two threads: the read of thread 1 races, as its refused attempt would have, and nothing else does; what
+-- thread 1 wrote before its commit is ordered before what thread 0 reads behind its own.
 use Rattle.std.proofs.Common.{◌≡◌, ◌≢◌, ℕ, zero, suc, ◌<◌, ◌≤◌, List, [], ◌∷◌, refl, ap, sym, ◌∙◌, inl, inr, arith, Some, true, false}
 use Rattle.std.specs.Prelude.{◌⊎◌, ◌↔◌, pos, Bool, Contains}
 use Rattle.gl_model.specs.declared.event.Event.TheVariants.{Commit as Commits}

@@ -1,4 +1,5 @@
--- The events of the record of two threads are listed, and are steps of the machine; and the whole record, laid out, is one history of one memory.
+-- The events of the record of two threads are listed, and are steps of the machine; and the whole record, laid out, is one history of one
+-- memory.
 use Rattle.std.proofs.Common.{◌≡◌, ◌≢◌, ℕ, zero, suc, ◌+◌, List, [], ◌∷◌, length, refl, ap, sym, ◌∙◌, inl, inr, arith, Some}
 use Rattle.std.specs.Prelude.{◌⊎◌, pos, ℤ}
 use Rattle.gl_model.specs.declared.event.Act.TheVariants.{Begin, End, Fork}

@@ -1,6 +1,6 @@
 -- The three kinds of next accesses of a trace: a plain access, a performed commit, a refused one.
 use Rattle.std.proofs.Common.{◌≡◌, ℕ, ◌+◌, ◌-◌, ◌<◌, List, [], ◌∷◌, ◌++◌, length, refl, ap, subst, sym, ◌∙◌, inl, inr, arith, Some, None, true, false, Bool, length-append}
-use Rattle.std.specs.Prelude.{◌⊎◌, ◌↔◌, pos, Contains, if◌then◌else◌}
+use Rattle.std.specs.Prelude.{◌↔◌, pos, Contains}
 use Rattle.std.proofs.lemmas.Option.{slice_get_within}
 use Rattle.gl_model.specs.declared.event.Event.TheVariants.{Commit as Commits}
 use Rattle.gl_model.specs.declared.event.Stamp.{Stamp}

@@ -1,5 +1,5 @@
 -- The entry of a trace's last line is racy in the record behind it exactly where it is so as the next access behind the lines before.
-use Rattle.std.proofs.Common.{◌≡◌, ◌≢◌, ℕ, ◌<◌, List, [], ◌∙◌}
+use Rattle.std.proofs.Common.{◌≡◌, ◌≢◌, ℕ, ◌<◌, List}
 use Rattle.std.specs.Prelude.{◌↔◌, Option}
 use Rattle.gl_model.specs.Entries.{Entry}
 use Rattle.gl_model.specs.HappensBefore.{HappensBefore, IsRacy}

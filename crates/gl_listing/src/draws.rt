@@ -1,5 +1,5 @@
 ghost use Rattle.std.specs.Prelude.{◌≡◌, ◌==◌, ◌++◌, ◌∷◌, [], ℕ, ◌<◌, IfOk, MatchOption, OnOk, List, if◌then◌else◌, map, slice_index_or};
-ghost use Rattle.gl_model.specs.Entries.{Entry as SeenEntry, seen as seen_entry};
+ghost use Rattle.gl_model.specs.Entries.{seen as seen_entry};
 ghost use Rattle.gl_model.specs.Kept.{IsEntryKept, IsListKept};
 ghost use Rattle.gl_model.specs.Records.{Place as SeenPlace};
 ghost use Rattle.gl_model.specs.declared.limits.TheConstants.{VARIABLES};

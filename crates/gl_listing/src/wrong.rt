@@ -1,4 +1,4 @@
-ghost use Rattle.std.specs.Prelude.{◌≡◌, IfOk, MatchBool, MatchOption, map};
+ghost use Rattle.std.specs.Prelude.{IfOk, MatchBool, MatchOption, map};
 ghost use Rattle.gl_model.specs.Records.{Place as SeenPlace};
 ghost use Rattle.gl_places.specs.Places.{Before, IsFirstBy, seen};
 ghost use Rattle.gl_places.specs.Uses.{UseFailsAt, use_seen};

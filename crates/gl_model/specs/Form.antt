@@ -51,9 +51,9 @@ pub record NumbersName (tx : Tx) (xs : List ℕ) : Type 0 where
       (x k m : ℕ) (value : ℤ) → Contains tx.looks (record { var = x; value = value; nth = k }) →
       Contains tx.numbers (record { var = x; nth = m }) → k < m
 
--- what each entry of thread t has to be by itself: a value where its act has one; a raised access is no repeat, and a raised read has the value 0; the
--- numbers of a commit and of a refused one name just its variables, those of a changed attempt the variable that was changed, which
--- it looked at
+-- what each entry of thread t has to be by itself: a value where its act has one; a raised access is no repeat, and a raised read has the
+-- value 0; the numbers of a commit and of a refused one name just its variables, those of a changed attempt the variable that was
+-- changed, which it looked at
 abbrev pub EntryForm : ℕ → Entry → Type 0
 EntryForm t (Sync at act value) = HasNoValue t act → value ≡ pos 0
 EntryForm t (Commit at tx) = NumbersName tx (variables_of tx)
@@ -141,8 +141,8 @@ abbrev pub value_of : Entry → ℤ
 value_of (Sync at act value) = value
 value_of _ = pos 0
 
--- the events of the record, in the order of their positions, are steps of the machine; each forked thread has a list; and at the end each thread
--- that was forked, and thread 0, has ended
+-- the events of the record, in the order of their positions, are steps of the machine; each forked thread has a list; and at the end each
+-- thread that was forked, and thread 0, has ended
 pub record IsMachineRun (setting : Setting) (R : Lists) (h : List Stamp) : Type 0 where
   pub at : ℕ → State
   pub first : at 0 ≡ start setting

@@ -1,5 +1,5 @@
--- Happens-before between the entries of a record (the Java Language Specification, 17.4.5), and the race law. The last step into a refused commit
--- is this project's own: it stands where the edge from an earlier commit would have stood.
+-- Happens-before between the entries of a record (the Java Language Specification, 17.4.5), and the race law. The last step into a
+-- refused commit is this project's own: it stands where the edge from an earlier commit would have stood.
 use Rattle.std.specs.Prelude.{◌≡◌, ◌≢◌, ℕ, ◌<◌, true, ◌↔◌}
 use Rattle.gl_model.specs.declared.event.Stamp.{Stamp}
 use Rattle.gl_model.specs.Entries.{Entry}

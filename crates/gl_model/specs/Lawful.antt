@@ -7,8 +7,8 @@ use Rattle.gl_model.specs.Form.{Form, Numbered, IsMachineRun}
 use Rattle.gl_model.specs.HappensBefore.{Races}
 use Rattle.gl_model.specs.Flat.{Legal}
 
--- the record is well formed, listed and numbered; its events are steps of the machine; its raised entries are those of the race law; and, laid
--- out, it is one history of the machine's one memory. What the instructions of a program add stands with the instructions.
+-- the record is well formed, listed and numbered; its events are steps of the machine; its raised entries are those of the race law; and,
+-- laid out, it is one history of the machine's one memory. What the instructions of a program add stands with the instructions.
 pub record IsLawful (setting : Setting) (R : Lists) : Type 0 where
   pub form : Form R
   pub events : List Stamp

@@ -1,6 +1,6 @@
 -- The lockset rules, after Goldilocks: what an event does to the lockset of an earlier access, with which set an access starts, and the
--- test of a later access. A thread is in the set where its next access is ordered after the one whose set it is. The table has two columns, what an
--- event acquires and what it releases. The mark for commits and the wording of the rules are this project's own.
+-- test of a later access. A thread is in the set where its next access is ordered after the one whose set it is. The table has two
+-- columns, what an event acquires and what it releases. The mark for commits and the wording of the rules are this project's own.
 use Rattle.std.specs.Prelude.{◌≡◌, ◌≢◌, ℕ, ◌+◌, slice_range, List, [], ◌∷◌, Contains, Option, Some, None, ◌⊎◌}
 use Rattle.gl_model.specs.declared.event.Act.TheVariants.{Begin, End, Acq, Rel, VRead, VWrite, Fork, Join, Alloc, Print, Input, Fail}
 use Rattle.gl_model.specs.declared.event.Event.{Event}

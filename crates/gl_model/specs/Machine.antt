@@ -1,5 +1,5 @@
--- The one-memory machine, in its synchronization part: no plain access and no data word. It is this project's own: what the bytecode's threads may
--- do to what they share, one event after another.
+-- The one-memory machine, in its synchronization part: no plain access and no data word. It is this project's own: what the bytecode's
+-- threads may do to what they share, one event after another.
 use Rattle.std.specs.Prelude.{◌≡◌, ◌≢◌, ℕ, ℤ, Bool, true, false, pos, ◌+◌, ◌*◌, ◌^◌, ◌<◌, ◌≤◌, ◌==◌, if◌then◌else◌, List, [], ◌∷◌, ◌++◌, Contains, slice_get, Some, None}
 use Rattle.gl_model.specs.declared.event.Act.{Act}
 use Rattle.gl_model.specs.declared.event.Act.TheVariants.{Begin, End, Acq, Rel, VRead, VWrite, Fork, Join, Alloc, Print, Input, Fail}

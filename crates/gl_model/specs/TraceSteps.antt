@@ -1,4 +1,5 @@
--- A trace as steps: the thread of each line and what the line says. What the steps so far leave, and the fault that a next step has behind them.
+-- A trace as steps: the thread of each line and what the line says. What the steps so far leave, and the fault that a next step has
+-- behind them.
 use Rattle.std.specs.Prelude.{◌≡◌, ℕ, ◌+◌, ◌-◌, ◌<◌, List, length, take, Bool, false, not, Option, Some, None, ◌==◌, ◌&&◌, ◌||◌, if◌then◌else◌, fold, is_some, nat_lt, slice_get}
 use Rattle.std.specs.List.{list_any}
 use Rattle.gl_model.specs.declared.event.Act.{Act}

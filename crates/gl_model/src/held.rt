@@ -1,4 +1,4 @@
-ghost use Rattle.std.specs.Prelude.{◌≡◌, ℕ, ◌<◌, ◌↔◌, [], take, All, IsTrue, Contains};
+ghost use Rattle.std.specs.Prelude.{◌≡◌, ℕ, ◌<◌, ◌↔◌, [], take, IsTrue, Contains};
 ghost use Rattle.gl_model.specs.Rising.{with_one};
 ghost use Rattle.gl_model.specs.declared.limits.TheConstants.{HELD, MONITORS};
 

@@ -1,4 +1,4 @@
-ghost use Rattle.std.specs.Prelude.{◌≡◌, ◌↔◌, ◌⊎◌, ℕ, ◌+◌, ◌*◌, ◌<◌, IsTrue, length, Some, None};
+ghost use Rattle.std.specs.Prelude.{◌≡◌, ◌↔◌, ◌⊎◌, ℕ, ◌+◌, ◌*◌, ◌<◌, IsTrue, Some, None};
 ghost use Rattle.gl_model.specs.Elements.{HasBit, IsElement, IsEventInRange, place};
 ghost use Rattle.gl_model.specs.declared.event.Element.{Element as AnElement};
 

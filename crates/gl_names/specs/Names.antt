@@ -1,5 +1,6 @@
 -- Names that comment lines give. A line names one thing where it begins with a `#`, behind which stand three words: what the thing is
--- (`thread`, `monitor`, `volatile` or `var`), its number, and the name. A second `#` begins a comment there too. Any other line is a mere comment.
+-- (`thread`, `monitor`, `volatile` or `var`), its number, and the name. A second `#` begins a comment there too. Any other line is a mere
+-- comment.
 use Rattle.std.specs.Prelude.{ℕ, List, [], ◌∷◌, Bool, Option, Some, None, ◌&&◌, ◌==◌, not, nat_lt, nat_le, length, bytes_eq, codes, if◌then◌else◌, option_and_then}
 use Rattle.std.specs.Option.{option_map, option_or}
 use Rattle.std.specs.Str.Lines.{lines}

@@ -1,7 +1,7 @@
 // The names of one kind.
 ghost use Rattle.std.specs.Prelude.{◌≡◌, ◌<◌, ℕ, IfOk, length, option_copied, Some};
 ghost use Rattle.std.specs.Option.{option_or};
-ghost use Rattle.gl_names.specs.Names.{count_of, given, name_of, naming};
+ghost use Rattle.gl_names.specs.Names.{count_of, given, naming};
 ghost use Rattle.gl_names.specs.Tables.{IsTable, slot};
 
 use crate::kind::Kind;

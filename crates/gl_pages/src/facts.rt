@@ -25,8 +25,8 @@ pub struct Handed<'a> {
     pub source: Option<SourceLine<'a>>,
 }
 
-/// Why an entry was refused on a variable: the access that it races with, how many others there are, and where the other thread first hands on
-/// what it did.
+/// Why an entry was refused on a variable: the access that it races with, how many others there are, and where the other thread first
+/// hands on what it did.
 #[derive(Drop)]
 pub struct Explanation<'a> {
     pub at: Side<'a>,

@@ -64,8 +64,8 @@ fn page_of(alloc: Global, input: &[u8], audited: &Audited) -> Result<Page, Alloc
     }
 }
 
-/// What the text of an audit is answered: why each race of its record is one, with the names that the text gives; or what `audit` says of it,
-/// where the record is not lawful; or the text's first fault.
+/// What the text of an audit is answered: why each race of its record is one, with the names that the text gives; or what `audit` says of
+/// it, where the record is not lawful; or the text's first fault.
 pub fn explain_run(alloc: Global, input: &[u8]) -> Result<Page, AllocError>
     ensures { IfOk result (λ p. ExplainsAudit input.now p.status p.text.items) }
 {

@@ -1,5 +1,5 @@
 // Which rows lead to which.
-ghost use Rattle.std.specs.Prelude.{◌≡◌, ◌≢◌, ◌↔◌, ◌<◌, ◌≤◌, ◌+◌, ◌^◌, ℕ, false, IfOk, IsTrue, Some, length, slice_get};
+ghost use Rattle.std.specs.Prelude.{◌≡◌, ◌↔◌, ◌<◌, ◌≤◌, ◌+◌, ℕ, false, IfOk, IsTrue, Some, length, slice_get};
 ghost use Rattle.gl_model.specs.Edges.{SynchronizesWith};
 ghost use Rattle.gl_model.specs.TraceSteps.{is_too_wide};
 ghost use Rattle.gl_model.specs.declared.event.Event.{Event as AnEvent};

@@ -5,7 +5,7 @@ ghost use Rattle.gl_explain.specs.declared.told.Explanation.{Explanation as AnEx
 ghost use Rattle.gl_explain.specs.First.{IsFirstRace};
 ghost use Rattle.gl_explain.specs.Told.{told_of};
 ghost use Rattle.gl_picture.specs.Arrows.{AreNarrow, HasRow};
-ghost use Rattle.gl_picture.specs.Drawn.{AreColumns, AreRows, IsDrawn, IsPicture, IsRow, left_out_of, rows_of, slot_of, span};
+ghost use Rattle.gl_picture.specs.Drawn.{AreColumns, AreRows, IsDrawn, IsPicture, IsRow, rows_of, slot_of, span};
 
 use crate::arrows::{arrows_to, has_row};
 use crate::picture::{Column, HALF, LEAD, Picture, Row};

@@ -2,7 +2,7 @@
 ghost use Rattle.std.specs.Prelude.{◌≡◌, ◌++◌, ◌%◌, ◌==◌, if◌then◌else◌, OnOk};
 ghost use Rattle.std.specs.List.{flat_map};
 ghost use Rattle.gl_names.specs.Names.{name_of};
-ghost use Rattle.gl_picture.specs.Shapes.{line_text, y_of};
+ghost use Rattle.gl_picture.specs.Shapes.{y_of};
 ghost use Rattle.gl_picture.specs.Texts.{arrow_text, arrows_text, closing_text, column_text, frame_text, left_text, picture_text, quiet_text, race_text, row_text, size_of, titles_text};
 
 use crate::bends::push_bend;

@@ -1,5 +1,5 @@
 // A whole trace text.
-ghost use Rattle.std.specs.Prelude.{◌≡◌, ◌<◌, IfOk, length};
+ghost use Rattle.std.specs.Prelude.{◌<◌, IfOk};
 ghost use Rattle.gl_explain.specs.First.{AreSought};
 ghost use Rattle.gl_explain.specs.Told.{told_of};
 ghost use Rattle.gl_picture.specs.Answers.{IsAnswered, PicturesText};

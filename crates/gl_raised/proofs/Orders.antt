@@ -1,5 +1,5 @@
 -- What happens before an access of a record, told by what precedes its block.
-use Rattle.std.proofs.Common.{◌≡◌, ◌≢◌, ℕ, ◌+◌, ◌<◌, ◌≤◌, List, take, ap, sym, ◌∙◌, subst, inl, inr, arith, None}
+use Rattle.std.proofs.Common.{◌≡◌, ◌≢◌, ℕ, ◌+◌, ◌<◌, List, take, ap, sym, ◌∙◌, subst, inl, inr, arith, None}
 use Rattle.std.specs.Prelude.{◌⊎◌, ◌↔◌}
 use Rattle.std.proofs.Math.Nat.{eq-or-lt_of_le}
 use Rattle.gl_model.specs.declared.event.Act.TheVariants.{End}

@@ -1,5 +1,5 @@
 -- What the accesses of an entry say of it.
-use Rattle.std.proofs.Common.{◌≡◌, ◌≢◌, ℕ, zero, suc, ◌+◌, ◌-◌, ◌^◌, ◌<◌, ◌≤◌, ◌==◌, List, [], ◌∷◌, ◌++◌, map, Bool, true, false, not, refl, ◌∙◌, subst, inl, inr, arith, Some, eq-eqb}
+use Rattle.std.proofs.Common.{◌≡◌, ℕ, zero, suc, ◌-◌, ◌==◌, List, [], ◌∷◌, map, Bool, true, false, not, refl, subst, inl, inr, arith, Some, eq-eqb}
 use Rattle.std.specs.Prelude.{◌⊎◌, ◌↔◌, ℤ, Contains, find, is_some, if◌then◌else◌}
 use Rattle.std.proofs.lemmas.Bool.{eqb-true}
 use Rattle.std.proofs.lemmas.List.Elements.{Contains-append_left, Contains-append_right, Contains-append_cases}

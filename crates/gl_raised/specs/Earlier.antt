@@ -1,5 +1,5 @@
 -- What the walks over the accesses, in the order of their numbers, know after the first i of them.
-use Rattle.std.specs.Prelude.{◌≡◌, ◌≢◌, ℕ, ◌+◌, ◌-◌, ◌<◌, ◌≤◌, ◌==◌, ◌⊎◌, true, false, if◌then◌else◌, List, [], slice_get, Some, ◌↔◌}
+use Rattle.std.specs.Prelude.{◌≡◌, ℕ, ◌-◌, ◌<◌, ◌==◌, ◌⊎◌, true, false, if◌then◌else◌, List, slice_get, Some, ◌↔◌}
 use Rattle.gl_core.specs.Cells.{cell}
 use Rattle.gl_raised.specs.declared.access.Access.{Access}
 

@@ -87,10 +87,10 @@ fn fault_by_places(
     Ok(first_other(&all.claims, &least))
 }
 
-/// The first place of a record where an entry is raised, or is not, against the race law, by thread and then by place; `None` where the law holds
-/// of the record. For each event and each access there is one clock of 64 bytes, and for each variable of an access 40 bytes. It takes as many
-/// steps as there are events and accesses times the threads, and a sort. The only error is want of memory, for which too many
-/// events to be counted also stand.
+/// The first place of a record where an entry is raised, or is not, against the race law, by thread and then by place; `None` where the
+/// law holds of the record. For each event and each access there is one clock of 64 bytes, and for each variable of an access 40 bytes.
+/// It takes as many steps as there are events and accesses times the threads, and a sort. The only error is want of memory, for which too
+/// many events to be counted also stand.
 pub fn race_fault(alloc: Global, made: &Record) -> Result<Option<Place>, AllocError>
     requires form { Form (lists_of made.now) }
     requires listed { Listed (lists_of made.now) }

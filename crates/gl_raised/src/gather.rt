@@ -2,9 +2,7 @@
 ghost use Rattle.std.specs.Prelude.{◌≡◌, ℕ, ◌+◌, ◌++◌, List, IfOk, OnOk, map, length};
 ghost use Rattle.gl_model.specs.Entries.{Entry as AnEntry, seen};
 ghost use Rattle.gl_raised.specs.Gathers.{AreGathered};
-ghost use Rattle.gl_model.specs.Kept.{IsEntryKept, AreVariables};
 ghost use Rattle.gl_model.specs.Lists.{lists_of};
-ghost use Rattle.gl_model.specs.Records.{position_of};
 ghost use Rattle.gl_model.specs.declared.limits.TheConstants.{THREADS};
 ghost use Rattle.gl_raised.specs.Accesses.{accesses_of, block_after, claims_of, part_of, tick_after, writes_one};
 

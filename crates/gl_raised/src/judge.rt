@@ -1,5 +1,5 @@
 // On which variables the entries are racy.
-ghost use Rattle.std.specs.Prelude.{◌≡◌, ◌↔◌, ℕ, ◌<◌, ◌+◌, true, All, List, IfOk, OnOk, Option, length, slice_get, slice_index_or, Some, None};
+ghost use Rattle.std.specs.Prelude.{◌≡◌, ◌↔◌, ℕ, ◌<◌, ◌+◌, true, All, List, IfOk, Option, length, slice_get, Some, None};
 ghost use Rattle.gl_model.specs.declared.limits.TheConstants.{THREADS, VARIABLES};
 ghost use Rattle.gl_raised.specs.Accesses.{IsWithin};
 ghost use Rattle.gl_raised.specs.Judged.{AreLasts, AreLeast, AreOfThreads, IsRacyBy, least_of};

@@ -1,5 +1,5 @@
 // What is kept of a variable: of each thread the last plain read, plain write, commit read and commit write.
-ghost use Rattle.std.specs.Prelude.{◌≡◌, ◌≢◌, ℕ, ◌<◌, ◌≤◌, Bool, true, IsTrue, ◌↔◌, Option, None, slice_index_or};
+ghost use Rattle.std.specs.Prelude.{◌≡◌, ◌≢◌, ℕ, ◌<◌, Bool, true, IsTrue, ◌↔◌, Option, None, slice_index_or};
 ghost use Rattle.gl_core.specs.Cells.{at};
 ghost use Rattle.gl_model.specs.declared.limits.TheConstants.{THREADS};
 ghost use Rattle.gl_raised.specs.Lasts.{at_least, later, mark_of, noted, noted_where, thread_fails};
@@ -10,7 +10,8 @@ use crate::rows::ALL;
 // Of each thread the greatest tick of an access of one kind, if it made any.
 type Ticks = [Option<u64>; ALL];
 
-/// Of each thread the greatest tick of its plain reads of a variable, of its plain writes, and of the commits that read it and that write it.
+/// Of each thread the greatest tick of its plain reads of a variable, of its plain writes, and of the commits that read it and that write
+/// it.
 #[derive(Clone, Copy)]
 pub(crate) struct Lasts {
     plain_reads: Ticks,

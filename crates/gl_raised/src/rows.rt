@@ -1,5 +1,5 @@
 // The clock of each block of a record.
-ghost use Rattle.std.specs.Prelude.{◌≡◌, ℕ, ◌<◌, ◌≤◌, ◌+◌, ◌^◌, List, IfOk, IfSome, IsSome, OnOk, MatchOption, length, map, slice_get, Some, None};
+ghost use Rattle.std.specs.Prelude.{◌≡◌, ℕ, ◌<◌, ◌+◌, ◌^◌, List, IfOk, IfSome, IsSome, OnOk, MatchOption, map, slice_get, Some, None};
 ghost use Rattle.gl_core.specs.TablesView.{AreClocksOf, IsSized};
 ghost use Rattle.gl_lines.specs.Traced.{with_stamp};
 ghost use Rattle.gl_model.specs.Entries.{seen};
@@ -94,8 +94,8 @@ fn next_clock(tables: &mut Tables, made: &Record, place: &Place) -> Result<[u32;
     }
 }
 
-/// The clock of the thread of each event after it, by position: how far the block that this event begins knows each thread. The places are those of
-/// the events, in their order. The only error is want of memory.
+/// The clock of the thread of each event after it, by position: how far the block that this event begins knows each thread. The places
+/// are those of the events, in their order. The only error is want of memory.
 pub fn block_clocks(
     alloc: Global,
     made: &Record,

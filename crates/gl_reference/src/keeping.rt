@@ -1,5 +1,5 @@
 // What a line of a trace leaves of the events, of the performed accesses and of who has ended.
-ghost use Rattle.std.specs.Prelude.{◌≡◌, ◌+◌, ◌<◌, ◌≤◌, ℕ, false, IfOk, List, ◌∷◌, ◌++◌, [], ◌||◌, length, map, vec_len, vec_capacity, slice_index_or};
+ghost use Rattle.std.specs.Prelude.{◌≡◌, ◌+◌, ◌<◌, ◌≤◌, ℕ, false, IfOk, ◌++◌, [], ◌||◌, length, map, vec_len, vec_capacity, slice_index_or};
 ghost use Rattle.gl_model.specs.declared.limits.TheConstants.{THREADS, VARIABLES, TX_VARIABLES};
 ghost use Rattle.gl_model.specs.declared.event.Act.TheVariants.{Begin, Join};
 ghost use Rattle.gl_model.specs.declared.event.Event.TheVariants.{Act as Does};

@@ -1,4 +1,4 @@
-ghost use Rattle.std.specs.Prelude.{◌≡◌, ◌↔◌, ◌⊎◌, ℕ, true, IsTrue, IfOk, None};
+ghost use Rattle.std.specs.Prelude.{◌↔◌, true, IsTrue, IfOk, None};
 ghost use Rattle.gl_reference.specs.Races.{Conflicts, RacesWith, IsRacyNext, IsPartOf, IsFirstRacy};
 
 use crate::reach::{Access, happens_before_next};

@@ -1,7 +1,7 @@
-ghost use Rattle.std.specs.Prelude.{◌≡◌, ◌↔◌, ◌⊎◌, ℕ, ◌<◌, ◌≤◌, length, IsTrue, IfOk};
+ghost use Rattle.std.specs.Prelude.{◌≡◌, ◌↔◌, ◌⊎◌, ◌<◌, ◌≤◌, length, IsTrue, IfOk};
 ghost use Rattle.gl_model.specs.declared.event.Stamp.{Stamp as AStamp};
 ghost use Rattle.gl_model.specs.Edges.{EventAt};
-ghost use Rattle.gl_model.specs.Next.{IsCommitOn, ReachesThread, HappensBeforeNext};
+ghost use Rattle.gl_model.specs.Next.{IsCommitOn, HappensBeforeNext};
 ghost use Rattle.gl_reference.specs.Steps.{access_of, IsCommitEdge, Starts, Leads, IsMarked, HasMarked, IsCommitWith, AreMarks};
 
 use crate::edges::synchronizes;

@@ -78,7 +78,8 @@ LeavesRightly c Input reply = Unit {0}
 LeavesRightly c TxBegin reply = Unit {0}
 LeavesRightly c (TxEnd keep) reply = Unit {0}
 
--- a plain entry is a repeat exactly where the list gives the right to it; a thread that is answered makes no Trim, and does not end its list
+-- a plain entry is a repeat exactly where the list gives the right to it; a thread that is answered makes no Trim, and does not end its
+-- list
 abbrev pub IsRightly : Entry → Own → Type 0
 IsRightly (Plain x nth cached write value raised) own = cached ≡ allows (right_of own.mine x) write
 IsRightly (Sync at act value) own = Unit {0}

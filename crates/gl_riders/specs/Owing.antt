@@ -60,7 +60,8 @@ pub record MayMark (z : TableView) (p : PassView) : Type 0 where
   pub few : counted p.own.mine < 2 ^ 50
   pub runs : life_of p.own.mine ≡ Running
 
--- private words beside a thread: inside an attempt there are none, and nothing is owed; the rights that the pass has then end with the attempt
+-- private words beside a thread: inside an attempt there are none, and nothing is owed; the rights that the pass has then end with the
+-- attempt
 abbrev pub AreKept : Option Attempting → Words → Own → Type 0
 AreKept None words own = Owns words own
 AreKept (Some a) words own = (words ≡ no_words) × (own.owed ≡ [])

@@ -4,8 +4,8 @@ use Rattle.gl_model.specs.Entries.{Entry, Plain}
 use Rattle.gl_model.specs.Form.{At, EndsRights, GivesRight}
 use Rattle.gl_table.specs.RightOf.{right_of}
 
--- a plain entry is cached exactly where an earlier one of its block, with no event and no abort between, gives the right to it: what sparing
--- says of one list
+-- a plain entry is cached exactly where an earlier one of its block, with no event and no abort between, gives the right to it: what
+-- sparing says of one list
 abbrev pub IsSpared : List Entry → Type 0
 IsSpared es =
     (i x k : ℕ) (cached write raised : Bool) (value : ℤ) → At es i (Plain x k cached write value raised) →

@@ -1,4 +1,4 @@
-ghost use Rattle.std.specs.Prelude.{◌≡◌, ◌≢◌, ◌<◌, ◌≤◌, Option, Some, None, IfOk, OnOk, OnErr, IsTrue, []};
+ghost use Rattle.std.specs.Prelude.{◌≡◌, ◌≢◌, ◌<◌, ◌≤◌, Option, Some, None, IfOk, OnOk, []};
 ghost use Rattle.gl_bytecode.specs.Machine.{ask_of};
 ghost use Rattle.gl_cache.specs.Words.{no_words};
 ghost use Rattle.gl_rule.specs.Objects.{capacity};

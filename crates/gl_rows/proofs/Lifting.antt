@@ -59,14 +59,16 @@ raise_step q x to row h e at =
     let G : Held → List Held → PassView = λ g l. holding q (record g { taken = slot.Row row; tails = q.seen ∷ []; floor = Some to }
     ∷ without g.object l) q.reads (moved 1 q.moves) in
     ap (λ (l : List Held). G (held_at (x + 1) l) l) e ∙ ap (λ (g : Held). G g (h ∷ [])) (head_held x h at)
-    ∙ ap (λ (l : List Held). holding q (record h { taken = slot.Row row; tails = q.seen ∷ []; floor = Some to } ∷ l) q.reads (moved 1 q.moves))
+    ∙ ap (λ (l : List Held). holding q (record h { taken = slot.Row row; tails = q.seen ∷ []; floor = Some to } ∷ l) q.reads
+        (moved 1 q.moves))
     (none_left h.object h refl)
 
 -- the row is put back
 put_step : (q : PassView) (x : ℕ) (h : Held) → q.own.held ≡ h ∷ [] → h.object ≡ suc x → after q (left (view_of q) (suc x) false)
     ≡ holding q [] q.reads (moved 2 q.moves)
 put_step q x h e at =
-    ap (λ b. record (holding q (without (suc x) q.own.held) q.reads (moved 2 q.moves)) { quiet = q.quiet || false; stored = (if b then [] else q.stored) })
+    ap (λ b. record (holding q (without (suc x) q.own.held) q.reads (moved 2 q.moves)) { quiet = q.quiet || false; stored =
+        (if b then [] else q.stored) })
     (ne_eqb (suc x) 0 (λ z. omega arith))
     ∙ ap (λ b. record (holding q (without (suc x) q.own.held) q.reads (moved 2 q.moves)) { quiet = b }) (or_false q.quiet)
     ∙ ap (λ (l : List Held). holding q (without (suc x) l) q.reads (moved 2 q.moves)) e
@@ -135,9 +137,11 @@ module _ (p : PassView) (x : ℕ) (row : Row) (before : ℕ) where
 
   -- the tail was loaded, and events
   abbrev pub lifted : ℕ → List (ℕ × Stamp) → List CellWord → Moves → PassView
-  lifted tail known loaded m = record (holding p (with_tail tail floored ∷ []) reads_floored m) { seen = tail; known = known; loaded = loaded }
+  lifted tail known loaded m = record (holding p
+      (with_tail tail floored ∷ []) reads_floored m) { seen = tail; known = known; loaded = loaded }
 
-  pub tail_is : (u v : PassView) (tail : ℕ) → u ≡ floor_pass → v ≡ after u (saw_tail (view_of u) tail) → v ≡ lifted tail p.known p.loaded (moved 1 floor_moves)
+  pub tail_is : (u v : PassView) (tail : ℕ) → u ≡ floor_pass → v ≡ after u (saw_tail (view_of u) tail)
+      → v ≡ lifted tail p.known p.loaded (moved 1 floor_moves)
   tail_is u v tail is step = step ∙ ap (λ (z : PassView). after z (saw_tail (view_of z) tail)) is
 
   pub holds_lifted : (v : PassView) (tail : ℕ) → v ≡ lifted tail p.known p.loaded (moved 1 floor_moves) → HoldsRow v row
@@ -145,7 +149,8 @@ module _ (p : PassView) (x : ℕ) (row : Row) (before : ℕ) where
       (with_tail tail floored, (0, omega arith, refl), (x, refl), refl)
 
   pub within_lifted : (u v : PassView) (tail : ℕ) → u ≡ floor_pass
-      → ((h : Held) (r : Row) → Contains u.own.held h → h.taken ≡ slot.Row r → IsWithin r tail) → v ≡ lifted tail p.known p.loaded (moved 1 floor_moves)
+      → ((h : Held) (r : Row) → Contains u.own.held h → h.taken ≡ slot.Row r → IsWithin r tail)
+          → v ≡ lifted tail p.known p.loaded (moved 1 floor_moves)
       → IsWithin row v.seen
   within_lifted u v tail was within is =
       let has = subst (λ (z : PassView). Contains z.own.held floored) (sym was) (0, omega arith, refl) in
@@ -155,7 +160,8 @@ module _ (p : PassView) (x : ℕ) (row : Row) (before : ℕ) where
       ≡ lifted tail w.known w.loaded w.moves
   lifted_is v w to tail is walk =
       let known = ap (λ (z : PassView). z.known) walk.is in
-      walk.is ∙ ap (λ (l : List (ℕ × Stamp)). record v { known = l; loaded = w.loaded; moves = with_loads (5 * length walk.events) v.moves })
+      walk.is ∙ ap (λ (l : List (ℕ × Stamp)). record v { known = l; loaded = w.loaded; moves = with_loads
+          (5 * length walk.events) v.moves })
       (sym known)
       ∙ ap (λ (m : Moves). record v { known = w.known; loaded = w.loaded; moves = m }) (sym (ap (λ (z : PassView). z.moves) walk.is))
       ∙ ap (λ (z : PassView). record z { known = w.known; loaded = w.loaded; moves = w.moves }) is
@@ -227,14 +233,16 @@ module _ (p : PassView) (x : ℕ) (row : Row) (before : ℕ) where
       step ∙ ap (λ (z : PassView). after z (saw_floor (view_of z) (held_at (x + 1) z.own.held) hold)) is
       ∙ floor_step (raised_pass to tail new known loaded m) x hold (raised_held to tail new) refl refl
 
-  pub may_put_last : (setting : Setting) (v : PassView) (to tail hold : ℕ) (new : Row) (known : List (ℕ × Stamp)) (loaded : List CellWord) (m : Moves)
+  pub may_put_last : (setting : Setting) (v : PassView) (to tail hold : ℕ) (new : Row) (known : List (ℕ × Stamp))
+      (loaded : List CellWord) (m : Moves)
       → v ≡ last_pass to tail hold new known loaded m → MayPutBack setting (shelf_of v) (view_of v) (suc x) (slot.Row new) false
   may_put_last setting v to tail hold new known loaded m is =
       subst (λ (z : PassView). MayPutBack setting (shelf_of z) (view_of z) (suc x) (slot.Row new) false) (sym is)
       (may_put_same setting (last_pass to tail hold new known loaded m) x (record (raised_held to tail new) { floor = Some hold }) new refl
       refl refl refl)
 
-  pub end_is : (v r : PassView) (to tail hold : ℕ) (new : Row) (known : List (ℕ × Stamp)) (loaded : List CellWord) (m : Moves) → p.own.held ≡ [] → v
+  pub end_is : (v r : PassView) (to tail hold : ℕ) (new : Row) (known : List (ℕ × Stamp)) (loaded : List CellWord) (m : Moves)
+      → p.own.held ≡ [] → v
       ≡ last_pass to tail hold new known loaded m → r ≡ after v (left (view_of v) (suc x) false)
       → r ≡ record p {
         seen = tail;
@@ -256,7 +264,8 @@ module _ (p : PassView) (x : ℕ) (row : Row) (before : ℕ) where
       }) (sym empty)
 
   -- what the call tells
-  pub advanced_first : (r : PassView) (to : ℕ) → to ≤ before → r ≡ record p { reads = reads_floored; moves = moved 2 floor_moves } → HasAdvanced x to p before r
+  pub advanced_first : (r : PassView) (to : ℕ) → to ≤ before → r ≡ record p { reads = reads_floored; moves = moved 2 floor_moves }
+      → HasAdvanced x to p before r
   advanced_first r to far is = record {
     row = row;
     holds = Hold (suc x) before ∷ [];
@@ -270,7 +279,8 @@ module _ (p : PassView) (x : ℕ) (row : Row) (before : ℕ) where
     cost = ap (λ (z : PassView). z.moves) is ∙ five_steps p.moves ∙ loads_none (moved 5 p.moves);
   }
 
-  pub advanced_last : (v w r : PassView) (to tail hold : ℕ) → before < to → hold ≡ to → v ≡ lifted tail p.known p.loaded (moved 1 floor_moves)
+  pub advanced_last : (v w r : PassView) (to tail hold : ℕ) → before < to → hold ≡ to
+      → v ≡ lifted tail p.known p.loaded (moved 1 floor_moves)
       → HasWalkedTo row to v w → r ≡ record p {
         seen = tail;
         known = w.known;

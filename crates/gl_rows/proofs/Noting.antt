@@ -1,4 +1,5 @@
--- The row that comes back after a plain access was marked: over each fitting list it is that of the draws of the row as it was taken, and of the mark's.
+-- The row that comes back after a plain access was marked: over each fitting list it is that of the draws of the row as it was taken, and
+-- of the mark's.
 use Rattle.std.proofs.Common.{◌≡◌, ℕ, ◌+◌, ◌<◌, ◌≤◌, List, [], ◌∷◌, ◌++◌, set, replicate, refl, ap, arith, ◌∙◌, true, false, Bool, inl, inr, Some, None}
 use Rattle.std.specs.Prelude.{ℤ, ◌↔◌}
 use Rattle.gl_model.specs.declared.event.Stamp.{Stamp}

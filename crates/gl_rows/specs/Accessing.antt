@@ -89,12 +89,13 @@ pub record LoadsOnce (row : Row) (p q : PassView) : Type 0 where
   pub events : List Stamp
   pub known : q.known ≡ p.known ++ placed_from from events
   pub ends : from + length events ≡ q.seen
-  -- five words were loaded of each, and six other steps made: two to take the row, one for the tail, one for the number, and two to put it back
+  -- five words were loaded of each, and six other steps made: two to take the row, one for the tail, one for the number, and two to put
+  -- it back
   pub cost : q.moves ≡ with_loads (5 * length events) (moved 6 p.moves)
   pub named : (events ≡ []) ⊎ ((i : Info) × InRow row i × (i.pos ≡ from))
 
--- no event is loaded where, of each Info that conflicts with the access, some early cut says for sure that it is ordered before it: asked of
--- the row that was taken, with the least monitors that the thread is in
+-- no event is loaded where, of each Info that conflicts with the access, some early cut says for sure that it is ordered before it: asked
+-- of the row that was taken, with the least monitors that the thread is in
 abbrev pub LoadsNone : {X : _} {Y : _} {f : _} {g : _} → Cuts X Y f g → ℕ → Option ℤ → PassView → PassView → Type 0
 LoadsNone cuts x write p q =
     (row : Row) × (q.reads ≡ p.reads ++ Taken (suc x) (slot.Row row) ∷ []) × (held : List ℕ) × AreLeastEntered (levels_of p.own.mine) held

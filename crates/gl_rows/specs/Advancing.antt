@@ -7,14 +7,15 @@ use Rattle.gl_rule.specs.View.{Read, Taken, Hold, moved, with_loads}
 use Rattle.gl_table.specs.PassView.{PassView}
 use Rattle.gl_rows.specs.Walks.{placed_from}
 
--- the holds that were loaded while x's row was held: the first is no less than the position already, or it is below, and the second is that position.
--- The first takes five steps, the second three more: for the tail, to raise the hold, and to load it
+-- the holds that were loaded while x's row was held: the first is no less than the position already, or it is below, and the second is
+-- that position. The first takes five steps, the second three more: for the tail, to raise the hold, and to load it
 abbrev pub LoadedHolds : ℕ → ℕ → ℕ → List Read → ℕ → Type 0
 LoadedHolds x to hold reads steps =
     ((to ≤ hold) × (reads ≡ Hold (suc x) hold ∷ []) × (steps ≡ 5))
     ⊎ ((before : ℕ) × (before < to) × (hold ≡ to) × (reads ≡ Hold (suc x) before ∷ Hold (suc x) hold ∷ []) × (steps ≡ 8))
 
--- x's row was taken, and then its hold was loaded, which is this in the end; the events before the position that were loaded are each loaded once
+-- x's row was taken, and then its hold was loaded, which is this in the end; the events before the position that were loaded are each
+-- loaded once
 pub record HasAdvanced (x to : ℕ) (p : PassView) (hold : ℕ) (q : PassView) : Type 0 where
   pub row : Row
   pub holds : List Read

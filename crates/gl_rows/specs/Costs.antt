@@ -5,8 +5,8 @@ use Rattle.gl_model.specs.declared.row.Row.{Row}
 use Rattle.gl_rule.specs.Values.{InRow}
 use Rattle.gl_table.specs.PassView.{PassView}
 
--- at most five words were loaded for each event up to the tail, from any position on before which no Info of the row stands; no word was stored, and
--- so many other steps were made
+-- at most five words were loaded for each event up to the tail, from any position on before which no Info of the row stands; no word was
+-- stored, and so many other steps were made
 pub record WalkCosts (row : Row) (tail steps : ℕ) (p q : PassView) : Type 0 where
   pub loads : (n : ℕ) → n ≤ tail → ((i : Info) → InRow row i → n ≤ i.pos) → q.moves.loads ≤ p.moves.loads + 5 * (tail - n)
   pub stores : q.moves.stores ≡ p.moves.stores

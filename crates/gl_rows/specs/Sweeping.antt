@@ -35,8 +35,8 @@ pub record AreTried (k to : ℕ) (p q : PassView) : Type 0 where
   pub far : (x : ℕ) → x < k → IsFar p.own.id x to further
   pub cost : CostsAtMost (9 * k) p q
 
--- the segment is at least that of the tail, or, of a row whose turn pass t read as held by another as it tried the rows, at least that of its
--- hold, as it was loaded after the tries
+-- the segment is at least that of the tail, or, of a row whose turn pass t read as held by another as it tried the rows, at least that of
+-- its hold, as it was loaded after the tries
 abbrev pub Reaches : ℕ → ℕ → ℕ → ℕ → List Read → List Read → Type 0
 Reaches t cells tail low tries holds =
     (tail / cells ≤ low) ⊎ ((x : ℕ) × (by : ℕ) × (m : ℕ) × Contains tries (Busy (suc x) by) × (by ≢ t) × Contains holds (Hold (suc x) m)

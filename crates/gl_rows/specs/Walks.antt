@@ -21,8 +21,8 @@ placed_from n (x ∷ xs) = (n, x) ∷ placed_from (suc n) xs
 abbrev pub KnowsFrom : ℕ → List Stamp → PassView → PassView → Type 0
 KnowsFrom n xs p q = q ≡ record p { known = p.known ++ placed_from n xs; loaded = q.loaded; moves = with_loads (5 * length xs) p.moves }
 
--- the pass loaded the events from a position up to another, each of them once, and did nothing else. The first position is that of an Info of the
--- row, or nothing was loaded
+-- the pass loaded the events from a position up to another, each of them once, and did nothing else. The first position is that of an
+-- Info of the row, or nothing was loaded
 pub record HasWalkedTo (row : Row) (to : ℕ) (p q : PassView) : Type 0 where
   pub from : ℕ
   pub events : List Stamp

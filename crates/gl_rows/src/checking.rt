@@ -47,11 +47,11 @@ fn walked(
     judge(row, q, from, window.as_slice(), cuts)
 }
 
-/// Whether an access to a row completes a race: Race exactly where some Info that conflicts with it fails its test, over each list of events
-/// that the pass cannot tell from the table's, in which the row's Infos stand for accesses and the question is of a next access. The pass
-/// holds the row, which is as it was taken, and has loaded the tail since. The early cuts are asked first: where some of them is sure of
-/// each Info that conflicts, nothing is loaded. Else the events from the least position of the row's Infos to that tail are loaded, each of
-/// them once, into the window.
+/// Whether an access to a row completes a race: Race exactly where some Info that conflicts with it fails its test, over each list of
+/// events that the pass cannot tell from the table's, in which the row's Infos stand for accesses and the question is of a next access.
+/// The pass holds the row, which is as it was taken, and has loaded the tail since. The early cuts are asked first: where some of them is
+/// sure of each Info that conflicts, nothing is loaded. Else the events from the least position of the row's Infos to that tail are
+/// loaded, each of them once, into the window.
 pub fn check(
     shared: &Shared,
     pass: &mut Pass,

@@ -1,5 +1,5 @@
-//! Accesses to the rows of the shared table: the events behind a row's Infos are loaded, each of them once, an access is judged by them, and a
-//! private word is written back.
+//! Accesses to the rows of the shared table: the events behind a row's Infos are loaded, each of them once, an access is judged by them,
+//! and a private word is written back.
 #![tactic(auto)]
 
 mod accessing;

@@ -6,8 +6,8 @@ ghost use Rattle.gl_rows.specs.WritingBack.{IsWrittenBack, read_busy, without_ow
 
 use gl_table::{Busy, Pass, Shared};
 
-/// Stores the word of a cached write in the variable's row; the pass owes it no more then. No number is drawn, and the row's Infos stay. Busy
-/// comes only where this call read the row's turn as held by another pass.
+/// Stores the word of a cached write in the variable's row; the pass owes it no more then. No number is drawn, and the row's Infos stay.
+/// Busy comes only where this call read the row's turn as held by another pass.
 pub fn write_back(shared: &Shared, pass: &mut Pass, var: u16, value: i64) -> Result<(), Busy>
     requires table { pass.old.own.table ≡ shared.now.id }
     requires near { var < VARIABLES }

@@ -1,6 +1,6 @@
 -- The rule when a hold is raised, when the hold of a held row is loaded, and when the first segment is raised.
-use Rattle.std.proofs.Common.{◌≡◌, ◌≢◌, ℕ, zero, suc, ◌+◌, ◌*◌, ◌<◌, ◌≤◌, ◌==◌, List, [], ◌∷◌, ◌++◌, length, set, sym, refl, ap, subst, arith, ◌∙◌, inl, inr, Some, None}
-use Rattle.std.specs.Prelude.{Contains, ◌⊎◌, Option, if◌then◌else◌}
+use Rattle.std.proofs.Common.{◌≡◌, ◌≢◌, ℕ, zero, suc, ◌+◌, ◌*◌, ◌<◌, ◌≤◌, List, [], ◌∷◌, ◌++◌, length, set, sym, refl, ap, subst, arith, ◌∙◌, inl, inr, Some, None}
+use Rattle.std.specs.Prelude.{Contains, Option}
 use Rattle.std.specs.List.{All}
 use Rattle.std.proofs.lemmas.List.Elements.{All-cons, All-contains, All-push}
 use native.Mathlib.Decide.{ℕ_discrete}

@@ -84,7 +84,8 @@ module _ (key : Key) (st : table.State Slot View) (id : ℕ) (v : View) (rule : 
             key.setting (b.hold 0) (lists_in v.shelves) closed key.cells key.segments (length rule.0.log) below r.room,
       )
 
--- the same by segments: the greatest Trim is at most the segment of the tail, and with the ring's segments it is above that of the last event
+-- the same by segments: the greatest Trim is at most the segment of the tail, and with the ring's segments it is above that of the last
+-- event
 pub by_segments : (cells segments : ℕ) (R : Lists) (n : ℕ) → 0 < cells → (t : AreTrims cells segments R n) → (t.greatest ≤ n / cells)
     × (0 < n → (n - 1) / cells < t.greatest + segments)
 by_segments cells segments R n pos t = (

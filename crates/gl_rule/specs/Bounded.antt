@@ -4,8 +4,8 @@ use Rattle.gl_model.specs.Entries.{Entry, Trim}
 use Rattle.gl_model.specs.Form.{Draws}
 use Rattle.gl_model.specs.Records.{Lists, Place, EntryAt, NumberOn, position_of}
 
--- what they are below. A thread makes at most 2^50 entries that are no Trims, so there are at most 2^54 events; of the numbers of one variable a
--- thread draws at most two for each of them and two more, so there are at most 2^55 + 32; and a segment has a cell
+-- what they are below. A thread makes at most 2^50 entries that are no Trims, so there are at most 2^54 events; of the numbers of one
+-- variable a thread draws at most two for each of them and two more, so there are at most 2^55 + 32; and a segment has a cell
 abbrev pub most_stamp : ℕ
 most_stamp = 2 ^ 56
 

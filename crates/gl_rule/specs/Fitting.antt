@@ -50,7 +50,8 @@ IsFresh h = (n : ℕ) × Contains h.tails n
 abbrev pub IsNotOver : List Entry → Type 0
 IsNotOver es = (i : ℕ) (e : Entry) → At es i e → IsEnd e → ⊥
 
--- what is asked of a row that is put back, where an Info may be another one: over each fitting list it is that of the draws of the row as it was taken, and of the one made since
+-- what is asked of a row that is put back, where an Info may be another one: over each fitting list it is that of the draws of the row as
+-- it was taken, and of the one made since
 pub record Follows (setting : Setting) (s : Shelf) (v : View) (h : Held) (x : ℕ) (taken row : Row) : Type 0 where
   pub fresh : IsFresh h
   pub follows : (l : List Stamp) → IsFitting setting s v.seen v.known l → (ds : List Draw) → RowStands setting l x ds taken
@@ -92,7 +93,8 @@ MayWalk v p =
     (h : Held) × Contains v.held h × ((x : ℕ) × (h.object ≡ suc x))
     × (((n : ℕ) × (h.floor ≡ Some n) × (n ≤ p)) ⊎ ((row : Row) × (i : Info) × (h.taken ≡ slot.Row row) × InRow row i × (i.pos ≤ p)))
 
--- what is asked of an event that is published, whatever it is: the state l becomes l', the entry at position n is entry n, and its stamp is x
+-- what is asked of an event that is published, whatever it is: the state l becomes l', the entry at position n is entry n, and its stamp
+-- is x
 pub record MayPublish (key : Key) (s : Shelf) (v : View) (h : Held) (l l' : ListView) (entry : ℕ → Entry) (x : Stamp) (value : ℤ) : Type 0
   where
     pub held : Contains v.held h

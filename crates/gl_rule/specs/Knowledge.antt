@@ -16,7 +16,8 @@ use Rattle.gl_rule.specs.View.{View, Shelf, Held, Read, Busy, Taken, Hold, Stop,
 abbrev pub AreBelow : ℕ → Shelf → Type 0
 AreBelow n s = (i p : ℕ) (e : Entry) → At s.marked i e → position_of e ≡ Some p → p < n
 
--- of the list's holder a tail that it saw since is the tail now; of a row's holder such a tail is at least each position of the row's Infos, and the hold
+-- of the list's holder a tail that it saw since is the tail now; of a row's holder such a tail is at least each position of the row's
+-- Infos, and the hold
 abbrev pub TailFits : ℕ → (ℕ → ℕ) → ℕ → ℕ → Slot → ℕ → Type 0
 TailFits long hold seen zero y n = n ≡ long
 TailFits long hold seen (suc x) (slot.Row row) n = (n ≤ seen) × IsWithin row n × (hold (suc x) ≤ n)

@@ -22,7 +22,8 @@ pub record HasAll (v : View) : Type 0 where
   pub all : (t : ℕ) → t < THREADS → (s : Shelf) × Contains v.shelves s × (s.thread ≡ t)
   pub done : (s : Shelf) → Contains v.shelves s → IsDone s.marked v.quiet
 
--- no two Trims have the same low; the greatest, or 0, is at most the segment of the tail, and with the ring's segments it is above that of the last event
+-- no two Trims have the same low; the greatest, or 0, is at most the segment of the tail, and with the ring's segments it is above that
+-- of the last event
 pub record AreTrims (cells segments : ℕ) (R : Lists) (events : ℕ) : Type 0 where
   pub once : (c d : Place) (low : ℕ) → EntryAt R c (Trim low) → EntryAt R d (Trim low) → c ≡ d
   pub greatest : ℕ

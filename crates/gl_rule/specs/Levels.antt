@@ -67,7 +67,8 @@ MonitorsTell =
     → All IsEntryKept es → (held : List ℕ) →
     AreLeastEntered (levels_of es) held → AreLeastOwned now t held
 
--- a question of a thread that runs by its own entries, with the least monitors that it owns, is of a next access behind each list that has its entries
+-- a question of a thread that runs by its own entries, with the least monitors that it owns, is of a next access behind each list that
+-- has its entries
 abbrev pub QuestionsTell : Type 0
 QuestionsTell =
     (setting : Setting) (h : List Stamp) (now : State) (t : ℕ) (es : List Entry) → Allows setting h now → AreEvents h t es → life_of es

@@ -1,5 +1,5 @@
--- Owed words. A cached write changes neither the row nor the draws until it is written back: then it is a repeat of its draw. Until then the
--- pass owes it, and behind the write that it repeats nobody has accessed the variable.
+-- Owed words. A cached write changes neither the row nor the draws until it is written back: then it is a repeat of its draw. Until then
+-- the pass owes it, and behind the write that it repeats nobody has accessed the variable.
 use Rattle.std.specs.Prelude.{◌≡◌, ℕ, ℤ, true, false, ◌==◌, not, List, [], ◌∷◌, ◌++◌, Contains, Some, ◌⊎◌}
 use Rattle.std.specs.List.{filter}
 use Rattle.gl_model.specs.Entries.{Plain}

@@ -1,5 +1,5 @@
--- The rule of the shared table, put together from its parts. It holds before and after each step. A part of the whole table is named Hold, a
--- part of one seat's view Fit.
+-- The rule of the shared table, put together from its parts. It holds before and after each step. A part of the whole table is named
+-- Hold, a part of one seat's view Fit.
 use Rattle.std.specs.Prelude.{◌≡◌, ℕ, ◌*◌, List, length}
 use Rattle.atomic_table.specs.Table as table
 use Rattle.gl_draws.specs.Verdicts.{DrawsHold}

@@ -21,8 +21,8 @@ HasInfoAt (slot.Row row) p = (i : Info) × InRow row i × (i.pos ≡ p)
 HasInfoAt (slot.List l) p = ⊥
 HasInfoAt slot.Empty p = ⊥
 
--- p is named for object k: an Info of its row stands there, at home or held, or stood there when a pass took the row, and is not below a hold
--- that the pass raised or loaded since
+-- p is named for object k: an Info of its row stands there, at home or held, or stood there when a pass took the row, and is not below a
+-- hold that the pass raised or loaded since
 pub data IsNamed (b : Board) (s : table.State Slot View) (k p : ℕ) : Type 0 where
   at_home : (y : Slot) → b.turn k ≡ 0 → get_elem? s.homes k ≡ some (some y) → HasInfoAt y p → IsNamed b s k p
   as_held : (id : ℕ) → (v : View) → (h : Held) → get_elem? s.views id ≡ some v → Contains v.held h → h.object ≡ k → HasInfoAt h.taken p

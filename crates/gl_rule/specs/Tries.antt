@@ -1,5 +1,5 @@
--- Tries: what passes read of the turns and of the stop word is so for good. Who was read as holding a turn has taken it, by what its own pass says;
--- and the stop word rises only.
+-- Tries: what passes read of the turns and of the stop word is so for good. Who was read as holding a turn has taken it, by what its own
+-- pass says; and the stop word rises only.
 use Rattle.std.specs.Prelude.{◌≡◌, ◌≢◌, ℕ, suc, ◌<◌, ◌≤◌, List, [], ◌∷◌, Contains}
 use Rattle.std.specs.List.{All}
 use Rattle.gl_rule.specs.declared.slot.Slot.{Slot}

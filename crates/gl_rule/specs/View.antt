@@ -1,5 +1,5 @@
--- What a seat knows: the lists that its pass has stored, and what it has seen, holds, drew and owes. The table sees views alone; a pass's own
--- data are tied to its view.
+-- What a seat knows: the lists that its pass has stored, and what it has seen, holds, drew and owes. The table sees views alone; a pass's
+-- own data are tied to its view.
 use Rattle.std.specs.Prelude.{◌≡◌, ℕ, ◌+◌, ℤ, Bool, false, suc, ◌==◌, not, ◌||◌, if◌then◌else◌, List, [], ◌∷◌, ◌++◌, map, length, max, nat_lt, Contains, Option, Some, None}
 use Rattle.std.specs.List.{filter}
 use Rattle.gl_model.specs.declared.event.Stamp.{Stamp}

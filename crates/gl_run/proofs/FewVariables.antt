@@ -310,8 +310,10 @@ quiet_room p (Some t) x a running none is =
 look_room : (p : Progress) (x : ℕ) (a : ℤ) (e : Exchange) → is_none p.config.attempt ≡ false → knows p x ≡ false
     → reply_of p (Read x) e ≡ Some (Value a)
     → touched p < TX_VARIABLES
-look_room p x a (Made entry) running none gives = absurd (none_some (reply_in p (Read x) entry) (Value a) (no_read_made p x entry running) gives)
-look_room p x a (Quiet (Value b)) running none gives = quiet_room p p.config.attempt x b running none (when_true _ (Value b) (Value a) gives).0
+look_room p x a (Made entry) running none gives = absurd
+    (none_some (reply_in p (Read x) entry) (Value a) (no_read_made p x entry running) gives)
+look_room p x a (Quiet (Value b)) running none gives = quiet_room p p.config.attempt x b running none
+    (when_true _ (Value b) (Value a) gives).0
 look_room p x a (Quiet Gone) running none gives = (let e = (when_true _ Gone (Value a) gives).1 in cc)
 look_room p x a (Quiet (Start f b)) running none gives = (let e = (when_true _ (Start f b) (Value a) gives).1 in cc)
 look_room p x a (Quiet (Raise code)) running none gives = (let e = (when_true _ (Raise code) (Value a) gives).1 in cc)
@@ -327,7 +329,8 @@ quiet_write p (Some t) x a running is = elim (or_cases (knows p x) (nat_lt (touc
 
 write_room : (p : Progress) (x : ℕ) (a : ℤ) (e : Exchange) → is_none p.config.attempt ≡ false → reply_of p (Write x a) e ≡ Some Gone
     → (knows p x ≡ true) ⊎ (touched p < TX_VARIABLES)
-write_room p x a (Made entry) running gives = absurd (none_some (reply_in p (Write x a) entry) Gone (no_write_made p x a entry running) gives)
+write_room p x a (Made entry) running gives = absurd
+    (none_some (reply_in p (Write x a) entry) Gone (no_write_made p x a entry running) gives)
 write_room p x a (Quiet Gone) running gives = quiet_write p p.config.attempt x a running (when_true _ Gone Gone gives).0
 write_room p x a (Quiet (Value b)) running gives = (let e = (when_true _ (Value b) Gone gives).1 in cc)
 write_room p x a (Quiet (Start f b)) running gives = (let e = (when_true _ (Start f b) Gone gives).1 in cc)

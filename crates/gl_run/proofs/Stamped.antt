@@ -63,5 +63,6 @@ is_stamped options ls are is bounded = record {
   few = omega (arith, are.some_steps);
   most = are.steps;
   stamped = lists_all IsEntryStamped ls is
-      (λ t some. each_at IsEntryStamped (lists_of ls t) (λ i e here. entry_stamped (lists_of ls) bounded (record { thread = t; index = i }) e here));
+      (λ t some. each_at IsEntryStamped (lists_of ls t)
+          (λ i e here. entry_stamped (lists_of ls) bounded (record { thread = t; index = i }) e here));
 }

@@ -39,8 +39,8 @@ IsNoCommand asked = asked ≡ None
 abbrev pub ReadsNothing : Option Command → Type 0
 ReadsNothing asked = most_of asked ≡ None
 
--- the causes of a status, at each command: that of no command for such words, and those of a read and of a write that failed where the counts of the
--- source and the sink rose and never else; that of a read only for words for which something is read
+-- the causes of a status, at each command: that of no command for such words, and those of a read and of a write that failed where the
+-- counts of the source and the sink rose and never else; that of a read only for words for which something is read
 pub record HasCauses (asked : Option Command) (source_before source_now sink_before sink_now : ℕ) (status : ℕ) : Type 0 where
   pub usage : status ≡ NO_COMMAND → IsNoCommand asked
   pub no_usage : IsNoCommand asked → (status ≡ NO_COMMAND) ⊎ ((status ≡ WRITE_FAILED) ⊎ (status ≡ NO_MEMORY))
@@ -88,8 +88,8 @@ IsAnswered status =
 abbrev pub IsAccepted : ℕ → Type 0
 IsAccepted status = (status ≡ ALL_WELL) ⊎ ((status ≡ RACES) ⊎ ((status ≡ NOT_HALTED) ⊎ (status ≡ NOT_LAWFUL)))
 
--- what a source has left: all where nothing is read for the words; nothing where an input was accepted; and else what was not read of a text that is
--- too long
+-- what a source has left: all where nothing is read for the words; nothing where an input was accepted; and else what was not read of a
+-- text that is too long
 pub record HasLeft (asked : Option Command) (before now : Option (List ℕ)) (status : ℕ) : Type 0 where
   pub unread : ReadsNothing asked → now ≡ before
   pub accepted : (most : ℕ) → most_of asked ≡ Some most → IsAccepted status → IsAtEnd now

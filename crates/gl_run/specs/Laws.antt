@@ -70,8 +70,8 @@ abbrev pub RunsAreApart : Type 0
 RunsAreApart = (asked : RunOptions) (input : List ℕ) (s t : ℕ) (a b : List ℕ) (j k : Option Kept) → AcceptsRun asked input s a j
     → RefusesRun input t b k → ⊥
 
--- what is kept of a run is the closed table of a run of the program and the inputs that the text says, with these options; the status and the bytes are
--- read off it
+-- what is kept of a run is the closed table of a run of the program and the inputs that the text says, with these options; the status and
+-- the bytes are read off it
 pub record IsKeptRun (asked : RunOptions) (input : List ℕ) (status : ℕ) (bytes : List ℕ) (made : SealedView) : Type 0 where
   pub program : Bytecode
   pub inputs : List ℤ

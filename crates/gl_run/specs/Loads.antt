@@ -15,7 +15,8 @@ use Rattle.gl_run.specs.declared.options.LoadOptions.{LoadOptions}
 abbrev pub bank_options : LoadOptions → Options
 bank_options load = record { workers = load.workers; steps = LOAD_STEPS; ring = record { segments = MOST_SEGMENTS; cells = MOST_CELLS } }
 
--- the status, the bytes and what is kept of a load: those of one closed table, which is that of a run of the bank of this size, without inputs
+-- the status, the bytes and what is kept of a load: those of one closed table, which is that of a run of the bank of this size, without
+-- inputs
 pub record AnswersLoad (load : LoadOptions) (status : ℕ) (bytes : List ℕ) (kept : Option Kept) : Type 0 where
   pub made : SealedView
   pub run : IsRunOf (bank_program load.size) [] (bank_options load) made

@@ -46,8 +46,8 @@ run_status made = entries_status (all_entries made)
 abbrev pub HasRing : Ring → Key → Type 0
 HasRing ring key = (key.segments ≡ ring.segments) × (key.cells ≡ ring.cells)
 
--- the closed table of a run of the program: its record is lawful and numbers no access that it may repeat; its ring is that of the options, and its
--- Trims are those of the ring
+-- the closed table of a run of the program: its record is lawful and numbers no access that it may repeat; its ring is that of the
+-- options, and its Trims are those of the ring
 pub record IsRunOf (program : Bytecode) (inputs : List ℤ) (options : Options) (made : SealedView) : Type 0 where
   pub is : IsRecord made.entries
   pub lawful : Lawful program inputs options.steps (lists_of made.entries)

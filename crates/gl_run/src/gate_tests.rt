@@ -97,8 +97,8 @@ const UNGUARDED: &str =
      load 1\n join\n load 2\n join\n halt\n\
      func w 1 1\na:\n load 0\n load 0\n get 0\n push 1\n add\n put 0\nb:\n push 0\n ret\nh:\n print\n push 0\n ret\n catch a b h\n";
 
-// Thread 1 writes 1 and 2 to field 0, and 7 to field 1 by a transaction; thread 2 reads both fields and writes 8 to field 1 by a transaction, and
-// prints what it read of field 0.
+// Thread 1 writes 1 and 2 to field 0, and 7 to field 1 by a transaction; thread 2 reads both fields and writes 8 to field 1 by a
+// transaction, and prints what it read of field 0.
 const CHANGED: &str =
     "class D 2 0\nfunc main 0 3\n new D\n store 0\n load 0\n fork u\n store 1\n load 0\n fork t\n store 2\n\
      load 1\n join\n load 2\n join\n halt\n\
@@ -163,7 +163,8 @@ fn the_later_read_races(rt: HostRuntime) -> Result<(), Fail> {
     Ok(())
 }
 
-// What thread 1 keeps for itself is written back before its transaction begins: thread 2, which read the field before that, begins its own again.
+// What thread 1 keeps for itself is written back before its transaction begins: thread 2, which read the field before that, begins its
+// own again.
 #[test]
 fn a_changed_look_begins_again(rt: HostRuntime) -> Result<(), Fail> {
     let holds = [
@@ -198,7 +199,8 @@ fn a_late_read_of_an_old_thread_races(rt: HostRuntime) -> Result<(), Fail> {
     Ok(())
 }
 
-// Two threads are in the midst of a read at one time: a body that runs one thread after another cannot come there. The record of that run is lawful.
+// Two threads are in the midst of a read at one time: a body that runs one thread after another cannot come there. The record of that run
+// is lawful.
 #[test]
 fn threads_run_side_by_side(rt: HostRuntime) -> Result<(), Fail> {
     let alloc = rt.alloc();

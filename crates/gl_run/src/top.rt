@@ -1,5 +1,5 @@
 // The top calls: words, input, output and status.
-ghost use Rattle.std.specs.Prelude.{◌≡◌, string_bytes, map};
+ghost use Rattle.std.specs.Prelude.{string_bytes, map};
 ghost use Rattle.gl_run.specs.Command.{HasCauses, HasLeft, Serves};
 ghost use Rattle.gl_run.specs.Finishing.{Finishes};
 ghost use Rattle.gl_run.specs.Words.{command_of, run_command_of, text_command_of};
@@ -69,9 +69,9 @@ pub fn goldi_text<S: Source, K: Sink>(
     finish(sink, reply)
 }
 
-/// Does what the words say where they name a command that runs a program, one that it reads or a bank; other words are none that it knows. The
-/// statuses are those of `goldi_text`, and 7 where nothing is raised and some thread ended otherwise than by halting. A run may wait
-/// for ever, and then nothing is answered. The gate is told of each step that a run tries, and changes no answer.
+/// Does what the words say where they name a command that runs a program, one that it reads or a bank; other words are none that it
+/// knows. The statuses are those of `goldi_text`, and 7 where nothing is raised and some thread ended otherwise than by halting. A run
+/// may wait for ever, and then nothing is answered. The gate is told of each step that a run tries, and changes no answer.
 #[tactic(auto, using(crate::proofs::Finished::causes_of, crate::proofs::Finished::written_of))]
 pub fn goldi_run<S: Source, K: Sink, G: Gate, R: Threads + Wait + Sync>(
     rt: &R,

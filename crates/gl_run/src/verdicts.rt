@@ -1,6 +1,5 @@
 // What is said of the lines of a trace, one after another.
 ghost use Rattle.std.specs.Prelude.{◌≡◌, ◌+◌, ◌*◌, ◌<◌, ◌∷◌, ◌++◌, [], List, IfOk, IfSome, OnOk, count_by, false};
-ghost use Rattle.gl_core.specs.Follows.{IsReady};
 ghost use Rattle.gl_model.specs.Trace.{Line};
 ghost use Rattle.gl_model.specs.TraceSteps.{IsLineItem, is_too_wide};
 ghost use Rattle.gl_model.specs.declared.limits.TheConstants.{THREADS};

@@ -1,4 +1,4 @@
-ghost use Rattle.std.specs.Prelude.{◌≡◌, ◌↔◌, ◌⊎◌, ◌+◌, true, false, IsTrue, IsErr, IfOk, IfErr, All, List, Some, None};
+ghost use Rattle.std.specs.Prelude.{◌≡◌, ◌↔◌, ◌⊎◌, ◌+◌, true, false, IsTrue, IsErr, IfOk, IfErr, All, Some, None};
 ghost use Rattle.gl_model.specs.Elements.{IsStampInRange};
 ghost use Rattle.gl_shortcut.specs.Asking.{AreInRange, HoldsAt};
 ghost use Rattle.gl_shortcut.specs.Ordering.{Orders, OrdersOver};

@@ -1,4 +1,4 @@
-ghost use Rattle.std.specs.Prelude.{◌≡◌, true, IsTrue, All};
+ghost use Rattle.std.specs.Prelude.{◌≡◌, IsTrue, All};
 ghost use Rattle.gl_model.specs.Elements.{IsStampInRange};
 ghost use Rattle.gl_shortcut.specs.Asking.{AreInRange, HoldsAt};
 ghost use Rattle.gl_shortcut.specs.Ordering.{Orders, OrdersOver};

@@ -45,7 +45,8 @@ one_longer (a ∷ xs) x = (let more = one_longer xs x in omega arith)
 
 -- ## The maker of one entry
 
-by_stage : (s : Stage) (f : Frame) → ((site : Site) × (site_at s f ≡ Some site) × IsOfInstruction s × (f.function ≡ site.function) × (f.place ≡ site.place))
+by_stage : (s : Stage) (f : Frame) → ((site : Site) × (site_at s f ≡ Some site) × IsOfInstruction s × (f.function ≡ site.function)
+    × (f.place ≡ site.place))
     ⊎ ((site_at s f ≡ None) × (IsOfInstruction s → ⊥))
 by_stage stages.New f = inr (refl, λ never. never)
 by_stage stages.Begins f = inr (refl, λ never. never)

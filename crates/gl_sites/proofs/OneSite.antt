@@ -37,7 +37,8 @@ one_some : {A : Type 0} (o : Option A) (a b : A) → o ≡ Some a → o ≡ Some
 one_some o a b one other = cc
 
 -- no machine makes a note
-pub note_unmade : (P : Bytecode) (steps t : ℕ) (list : List Entry) (n : ℕ) (p : Progress) → IsNote list n → IsAnswered P steps t list n p → ⊥
+pub note_unmade : (P : Bytecode) (steps t : ℕ) (list : List Entry) (n : ℕ) (p : Progress) → IsNote list n
+    → IsAnswered P steps t list n p → ⊥
 note_unmade P steps t list n p note is =
     let same : note.entry ≡ is.entry = one_some (slice_get list n) note.entry is.entry note.there is.there in
     unmade P is.entry p is.next (subst (λ e. IsTrim e ⊎ IsOver e) same note.note) is.answered

@@ -46,7 +46,8 @@ one_below P steps R n makers of_next below next =
     record {
       count = one_longer makers of_next ∙ ap (λ k. k + 1) count;
       each = λ t less. elim (cases_lt t n) [
-        | inl earlier ↦ subst (AreMakers P steps t (R t)) (earlier_of makers of_next [] t (omega (arith, earlier, count))) (below.each t earlier)
+        | inl earlier ↦ subst (AreMakers P steps t (R t)) (earlier_of makers of_next [] t (omega (arith, earlier, count)))
+            (below.each t earlier)
         | inr ge ↦
             let same : n ≡ t = omega (arith, less, ge) in
             subst (λ u. AreMakers P steps u (R u) (slice_index_or (makers ++ of_next ∷ []) u [])) same

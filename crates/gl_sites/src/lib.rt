@@ -1,4 +1,5 @@
-//! Where what is in a record was written: which instruction made an entry, and the line of the program's text that an instruction stands in.
+//! Where what is in a record was written: which instruction made an entry, and the line of the program's text that an instruction stands
+//! in.
 #![tactic(auto)]
 
 mod adding;

@@ -1,5 +1,5 @@
 // What made each entry of a record.
-ghost use Rattle.std.specs.Prelude.{◌≡◌, ◌≢◌, ◌<◌, ◌+◌, ◌++◌, ◌∷◌, ℕ, [], IfOk, length, map};
+ghost use Rattle.std.specs.Prelude.{◌≡◌, ◌≢◌, ◌<◌, ℕ, [], IfOk, map};
 ghost use Rattle.gl_model.specs.Form.{Form};
 ghost use Rattle.gl_model.specs.Lists.{lists_of};
 ghost use Rattle.gl_model.specs.declared.limits.TheConstants.{THREADS};
@@ -35,8 +35,8 @@ fn makers_in(
     }
 }
 
-/// What made each entry of a record, by thread and then by place: each thread's machine is driven along its list, once. For each entry there
-/// are 8 bytes. The only error is want of memory.
+/// What made each entry of a record, by thread and then by place: each thread's machine is driven along its list, once. For each entry
+/// there are 8 bytes. The only error is want of memory.
 pub fn makers_of(
     alloc: Global,
     program: &Program,

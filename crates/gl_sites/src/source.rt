@@ -1,5 +1,5 @@
 // The lines of a program's text.
-ghost use Rattle.std.specs.Prelude.{◌≡◌, ◌≤◌, ◌<◌, ◌+◌, ℕ, ℤ, List, length, MatchOption};
+ghost use Rattle.std.specs.Prelude.{◌≡◌, ◌<◌, ◌+◌, ℕ, ℤ, List, length, MatchOption};
 ghost use Rattle.std.specs.List.{before_first, position};
 ghost use Rattle.std.specs.Str.{IsTrimAscii};
 ghost use Rattle.gl_text.specs.Text.{is_hash};

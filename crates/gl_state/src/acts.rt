@@ -1,5 +1,5 @@
 // What the list's state becomes by each act that changes it.
-ghost use Rattle.std.specs.Prelude.{◌≡◌, ◌≢◌, ℕ, ◌+◌, ◌<◌, ◌≤◌, ◌^◌, Some, length};
+ghost use Rattle.std.specs.Prelude.{◌≡◌, ℕ, ◌+◌, ◌<◌, ◌^◌, Some, length};
 ghost use Rattle.gl_model.specs.declared.limits.TheConstants.{THREADS, MONITORS, VOLATILES};
 ghost use Rattle.gl_state.specs.declared.state.Stage.TheVariants as stage;
 ghost use Rattle.gl_state.specs.Acts.{with_stage, with_word, with_object, with_input, HasRoom, Leaves};

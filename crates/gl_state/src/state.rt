@@ -1,5 +1,5 @@
 // The list's state.
-ghost use Rattle.std.specs.Prelude.{◌≡◌, ℕ, ◌<◌, ◌^◌, IfOk, IfSome, Some, None};
+ghost use Rattle.std.specs.Prelude.{◌≡◌, ℕ, ◌<◌, IfOk, IfSome, Some, None};
 ghost use Rattle.gl_state.specs.Starting.{first_state};
 ghost use Rattle.gl_model.specs.declared.limits.TheConstants.{MONITORS};
 ghost use Rattle.gl_state.specs.Entering.{Enters, IsShallow, IsOfOther, monitor_of};

@@ -172,7 +172,8 @@ candidates_begin levels monitors h = least_wider levels 0 (get_or monitors 0 MON
     none : (o : ℕ) → 0 < slice_index levels o → o < get_or monitors 0 MONITORS → o < 0
     none o some near =
         let c = h.all o some in
-        let first : get_or monitors 0 MONITORS ≡ slice_index monitors 0 = get_or_default monitors 0 MONITORS 0 (let n = c.1 in omega arith) in
+        let first : get_or monitors 0 MONITORS ≡ slice_index monitors 0 = get_or_default monitors 0 MONITORS 0
+            (let n = c.1 in omega arith) in
         let under = rising_places monitors h.rising 0 c.0 (omega arith) c.1 in
         let at = c.2 in
         let there : get_or monitors c.0 o ≡ slice_index monitors c.0 = get_or_default monitors c.0 o 0 c.1 in

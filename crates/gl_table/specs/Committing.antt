@@ -20,8 +20,8 @@ use Rattle.gl_table.specs.PassView.{PassView, view_of, shelf_of, after_storing}
 abbrev pub commit_stamp : ℕ → Tx → Stamp
 commit_stamp t tx = record { thread = t; event = Commits (variables_of tx) }
 
--- the pass may publish the event, whose words are not stored yet, and may commit: its rows are held and were marked, and none of their Infos
--- fails its test
+-- the pass may publish the event, whose words are not stored yet, and may commit: its rows are held and were marked, and none of their
+-- Infos fails its test
 pub record MayPublishTx (key : Key) (p : PassView) (tx : Tx) (state : ListView) : Type 0 where
   pub held : Held
   pub old : ListView

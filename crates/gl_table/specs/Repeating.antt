@@ -5,8 +5,8 @@ use Rattle.gl_rule.specs.Lives.{Running, life_of}
 use Rattle.gl_table.specs.PassView.{PassView}
 use Rattle.gl_table.specs.RightOf.{right_of}
 
--- the pass holds nothing, its thread runs, and it has the right to repeat the access of x with the number k: for a write that of a write; a read
--- has the value of the last performed access
+-- the pass holds nothing, its thread runs, and it has the right to repeat the access of x with the number k: for a write that of a write;
+-- a read has the value of the last performed access
 pub record MayRepeat (p : PassView) (x k : ℕ) (write : Bool) (value : ℤ) : Type 0 where
   pub held : p.own.held ≡ []
   pub runs : life_of p.own.mine ≡ Running

@@ -1,5 +1,5 @@
 // The steps on the table's words, each with what it tells its seat.
-ghost use Rattle.std.specs.Prelude.{◌≡◌, pos, ℕ, ℤ, ◌<◌, ◌≤◌, ◌%◌, ◌+◌, ◌*◌, ◌^◌, true, suc, ◌∷◌, [], List, map, length, Contains};
+ghost use Rattle.std.specs.Prelude.{◌≡◌, pos, ℕ, ℤ, ◌<◌, ◌%◌, ◌+◌, ◌*◌, ◌^◌, suc, ◌∷◌, [], List, length, Contains};
 ghost use Rattle.gl_model.specs.declared.event.Event.TheVariants.{Act as Does};
 ghost use Rattle.gl_model.specs.declared.row.Row.{Row as ARow};
 ghost use Rattle.gl_model.specs.declared.row.Question.{Question};
@@ -17,7 +17,7 @@ ghost use Rattle.gl_table.specs.OfTable.{OfTable};
 ghost use Rattle.gl_table.specs.PassInside.{IsReady};
 ghost use Rattle.gl_table.specs.Putting.{DoesNotHold, MayPutBack, held_at};
 ghost use Rattle.gl_rule.specs.Told.{Took, Left, SawTail, Saw, SawStop, SawHold, PutWord, PublishedAct, Marked, Opened, SawCell, SawEvent, SawFloor, Raised, Lowered};
-ghost use Rattle.gl_rule.specs.View.{Shelf, shelf, Held, Hold, SetStop};
+ghost use Rattle.gl_rule.specs.View.{shelf, Held, SetStop};
 ghost use Rattle.gl_rule.specs.declared.slot.Slot.{Slot as ASlot};
 ghost use Rattle.gl_rule.specs.declared.slot.Slot.TheVariants as slot;
 

@@ -1,8 +1,8 @@
 // The beginning of a table.
-ghost use Rattle.std.specs.Prelude.{◌≡◌, ℕ, ◌+◌, ◌-◌, ◌*◌, ◌≤◌, ◌<◌, ◌∷◌, [], IfOk, IfErr};
+ghost use Rattle.std.specs.Prelude.{◌≡◌, ◌+◌, ◌-◌, ◌*◌, ◌<◌, [], IfOk, IfErr};
 ghost use Rattle.std.specs.List.{All};
 ghost use Rattle.gl_model.specs.declared.limits.TheConstants.{THREADS, FUNCTIONS};
-ghost use Rattle.gl_rule.specs.Objects.{capacity, word_count};
+ghost use Rattle.gl_rule.specs.Objects.{word_count};
 ghost use Rattle.gl_rule.specs.Opened.{first_slots, shelves_from, sixteen};
 ghost use Rattle.gl_rule.specs.View.{blank};
 ghost use Rattle.gl_segments.specs.Rings.{IsRing};

@@ -104,7 +104,8 @@ impl Pass {
         ends(self.mine.entries(), self.quiet)
     }
 
-    /// Number and kind of the last numbered performed access of the variable since the last event or dropped attempt: the right to repeat it.
+    /// Number and kind of the last numbered performed access of the variable since the last event or dropped attempt: the right to repeat
+    /// it.
     pub fn right(&self, var: u16) -> Option<(u64, bool)>
         ensures { result ≡ right_of self.now.own.mine var }
     {

@@ -44,8 +44,8 @@ impl Sealed {
         }
     }
 
-    /// The lists of the threads that began. They are lawful in all that does not speak of the program, their Trims are those of the ring, and
-    /// their positions, numbers and low marks are below 2^56.
+    /// The lists of the threads that began. They are lawful in all that does not speak of the program, their Trims are those of the ring,
+    /// and their positions, numbers and low marks are below 2^56.
     pub fn record(&self) -> &Record
         ensures is { result.now ≡ self.now.entries }
         ensures lawful { IsLawful self.now.key.setting (lists_of self.now.entries) }

@@ -1,8 +1,8 @@
 // The table that threads share.
-ghost use Rattle.std.specs.Prelude.{◌≡◌, ◌≢◌, max, Contains, ℕ, ◌+◌, ◌*◌, ◌<◌, ◌≤◌, IsTrue, ◌↔◌, IfOk, OnOk, IfErr, [], pos, suc, false, List, Some};
-ghost use Rattle.gl_model.specs.declared.limits.TheConstants.{MONITORS, VARIABLES};
+ghost use Rattle.std.specs.Prelude.{◌≡◌, ◌≢◌, max, Contains, ℕ, ◌+◌, ◌<◌, ◌≤◌, IsTrue, ◌↔◌, IfOk, IfErr, [], pos, suc, false, List, Some};
+ghost use Rattle.gl_model.specs.declared.limits.TheConstants.{VARIABLES};
 ghost use Rattle.gl_segments.specs.Rings.{IsRing};
-ghost use Rattle.gl_rule.specs.Objects.{capacity, objects};
+ghost use Rattle.gl_rule.specs.Objects.{capacity};
 ghost use Rattle.gl_model.specs.declared.row.Row.{Row as ARow};
 ghost use Rattle.gl_rule.specs.Fitting.{MayRaise, MayTrim, MayWalk};
 ghost use Rattle.gl_model.specs.Elements.{IsStampInRange};
@@ -112,8 +112,8 @@ impl Shared {
         self.layout.ring
     }
 
-    /// Publishes an act, by which the list's state became `state`, and answers its position: the tail that it saw. The words of the event are stored in the cell
-    /// of the tail first.
+    /// Publishes an act, by which the list's state became `state`, and answers its position: the tail that it saw. The words of the event
+    /// are stored in the cell of the tail first.
     pub fn publish(&self, pass: &mut Pass, act: &Act, value: i64, state: &ListState) -> u64
         requires table { pass.old.own.table ≡ self.now.id }
         requires idle { pass.old.own.drawn ≡ [] }
@@ -158,8 +158,8 @@ impl Shared {
         )
     }
 
-    /// The event at a position that the pass has seen and may walk from: it holds a row of which an Info stands there or below, or whose hold it
-    /// raised that far. The pass knows the event from then on, and has seen no more than a ring's length behind it.
+    /// The event at a position that the pass has seen and may walk from: it holds a row of which an Info stands there or below, or whose
+    /// hold it raised that far. The pass knows the event from then on, and has seen no more than a ring's length behind it.
     pub fn event_at(&self, pass: &mut Pass, pos: u64) -> Stamp
         requires table { pass.old.own.table ≡ self.now.id }
         requires may { (pos < pass.old.seen) × MayWalk (view_of pass.old) pos }
@@ -239,7 +239,8 @@ impl Shared {
         raise_hold(&self.table.shared, pass, var, row, to);
     }
 
-    /// Raises the first segment that the ring has to `to`, where it is below, and answers what it is then. A Trim is stored exactly where it rose.
+    /// Raises the first segment that the ring has to `to`, where it is below, and answers what it is then. A Trim is stored exactly where
+    /// it rose.
     pub fn raise_low(&self, pass: &mut Pass, to: u64) -> u64
         requires table { pass.old.own.table ≡ self.now.id }
         requires spare { 0 < pass.old.spare }

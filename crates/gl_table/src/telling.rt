@@ -1,6 +1,5 @@
 // Publishing an event whose words stand in its cell.
-ghost use Rattle.std.specs.Prelude.{◌≡◌, ℕ, ◌≤◌, ◌<◌, ◌^◌, [], map, length};
-ghost use Rattle.gl_model.specs.declared.event.Event.TheVariants.{Act as Does};
+ghost use Rattle.std.specs.Prelude.{◌≡◌, ◌<◌, ◌^◌, [], length};
 ghost use Rattle.gl_model.specs.Entries.{Sync};
 ghost use Rattle.gl_model.specs.Records.{variables_of};
 ghost use Rattle.gl_table.specs.CaughtUp.{caught_up};
@@ -9,7 +8,6 @@ ghost use Rattle.gl_table.specs.KeyOf.{key_of};
 ghost use Rattle.gl_rule.specs.Objects.{capacity};
 ghost use Rattle.gl_table.specs.OfTable.{OfTable};
 ghost use Rattle.gl_table.specs.PassInside.{IsReady};
-ghost use Rattle.gl_table.specs.PassView.{view_of, after_storing};
 ghost use Rattle.gl_table.specs.Putting.{MayPutWords, MayPublishAct, MayMarkPlain, MayOpenOn, MayPayOn, marked_plain, opened, paid_back, published_act};
 ghost use Rattle.gl_rule.specs.Told.{IsAboveDrawn};
 ghost use Rattle.gl_rule.specs.View.{filled, published};

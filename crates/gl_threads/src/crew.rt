@@ -37,7 +37,8 @@ fn rest<R: Wait>(rt: &R, idle: u32) {
     }
 }
 
-// A worker's rounds, until its threads are done or the run stops, which it does too where a worker waits in vain for one that has not begun.
+// A worker's rounds, until its threads are done or the run stops, which it does too where a worker waits in vain for one that has not
+// begun.
 pub(crate) fn run_crew<G: Gate, R: Wait>(
     rt: &R,
     crew: &mut Crew,

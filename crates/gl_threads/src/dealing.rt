@@ -1,8 +1,7 @@
-ghost use Rattle.std.specs.Prelude.{◌≡◌, ◌<◌, ◌*◌, ◌++◌, ◌∷◌, [], false, slice_set, slice_index_or, length, vec_len, IfOk, OnOk, IfNone, ℕ};
+ghost use Rattle.std.specs.Prelude.{◌≡◌, ◌<◌, ◌*◌, ◌++◌, ◌∷◌, [], false, slice_set, slice_index_or, length, vec_len, IfOk, OnOk, IfNone};
 ghost use Rattle.std.specs.List.{All};
 ghost use Rattle.std.specs.Option.{option_to_list};
 ghost use Rattle.gl_threads.specs.Aboard.{IsAboard, rider_id};
-ghost use Rattle.gl_rule.specs.Objects.{capacity};
 ghost use Rattle.gl_segments.specs.Rings.{IsRing};
 ghost use Rattle.gl_threads.specs.Dealing.{AreBack, AreDealt, AreDone, AreNew, AreReady, IsEmptyCrew, new_own};
 ghost use Rattle.gl_threads.specs.declared.crew.Crew.{Crew as ACrew};

@@ -1,5 +1,5 @@
-ghost use Rattle.std.specs.Prelude.{◌≡◌, ◌==◌, ◌≤◌, ◌<◌, map, length, filter, IfOk, OnOk, ◌++◌, ◌∷◌, [], if◌then◌else◌};
-ghost use Rattle.std.specs.List.{All, range_with_len};
+ghost use Rattle.std.specs.Prelude.{◌≡◌, ◌==◌, ◌≤◌, ◌<◌, map, length, IfOk, OnOk, ◌++◌, ◌∷◌, [], if◌then◌else◌};
+ghost use Rattle.std.specs.List.{All};
 ghost use Rattle.gl_model.specs.declared.limits.TheConstants.{FUNCTIONS};
 ghost use Rattle.gl_bytecode.specs.Instructions.{args_of};
 ghost use Rattle.gl_bytecode.specs.Lawful.{forkable_of, setting_of};

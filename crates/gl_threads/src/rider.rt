@@ -1,9 +1,8 @@
-ghost use Rattle.std.specs.Prelude.{◌≡◌, ◌<◌, true, map, slice_set, slice_index_or, IfOk, OnOk, vec_len, false, ◌≤◌};
+ghost use Rattle.std.specs.Prelude.{◌≡◌, ◌<◌, true, map, false, ◌≤◌};
 ghost use Rattle.std.specs.List.{list_all};
 ghost use Rattle.gl_rule.specs.Objects.{capacity};
 ghost use Rattle.gl_threads.specs.Aboard.{AreAboard, IfPace, IsAboard, rider_id};
 ghost use Rattle.gl_riders.specs.Riding.{IsSetFor};
-ghost use Rattle.gl_threads.specs.declared.rider.Rider.{Rider as ARider};
 
 use crate::advance::{Went, advance};
 use crate::gate::Gate;
@@ -144,8 +143,8 @@ fn go_ahead<G: Gate>(
     }
 }
 
-// So many tries of one thread in a row, where each is answered: enough for an attempt of some accesses, so that those of other threads of this
-// worker seldom come between its looks and its end.
+// So many tries of one thread in a row, where each is answered: enough for an attempt of some accesses, so that those of other threads of
+// this worker seldom come between its looks and its end.
 const TRIES: usize = 32;
 
 // A turn of one thread: its tries, as long as they are answered.

@@ -4,8 +4,8 @@ use std::sync::atomic::{AtomicU64, Ordering};
 // So many idle rounds in a row a worker waits for workers that have not begun: some seconds.
 const PATIENCE: u32 = 50_000;
 
-// How many workers have begun, of how many, and whether one has given up waiting for the others. Where the system makes no thread for a worker, it
-// runs after another one in that one's thread; the first may then wait for ever for what the second has to do.
+// How many workers have begun, of how many, and whether one has given up waiting for the others. Where the system makes no thread for a
+// worker, it runs after another one in that one's thread; the first may then wait for ever for what the second has to do.
 #[derive(Drop)]
 pub(crate) struct RollCall {
     workers: u64,

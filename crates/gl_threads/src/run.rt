@@ -16,8 +16,8 @@ use std::alloc::{AllocError, Global};
 use std::sync::Wait;
 use std::thread::Threads;
 
-/// Runs a program with these inputs, and answers the record of the run: it is lawful, however the threads went, and sparing. The only error is want of
-/// memory. It may not return: a thread may wait for a monitor or another's end for ever.
+/// Runs a program with these inputs, and answers the record of the run: it is lawful, however the threads went, and sparing. The only
+/// error is want of memory. It may not return: a thread may wait for a monitor or another's end for ever.
 pub fn run_program<G: Gate, R: Threads + Wait + Sync>(
     rt: &R,
     alloc: Global,

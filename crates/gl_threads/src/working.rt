@@ -60,8 +60,9 @@ fn has_stopped(crews: &Vec<Crew>) -> bool
     crews.iter().any(|crew| crew.stopped)
 }
 
-/// Runs the threads of a program over the shared table: thread i is worker i mod the workers'. Gives the same passes back, in their order, each done
-/// and holding nothing, with a list that its thread's instructions make of the answers in it. The only error is want of memory.
+/// Runs the threads of a program over the shared table: thread i is worker i mod the workers'. Gives the same passes back, in their
+/// order, each done and holding nothing, with a list that its thread's instructions make of the answers in it. The only error is want of
+/// memory.
 pub fn work<G: Gate, R: Threads + Wait + Sync>(
     rt: &R,
     alloc: Global,

@@ -1,10 +1,10 @@
 // Numbers of a line, and the lists of variables of a commit.
-ghost use Rattle.std.specs.Prelude.{◌≡◌, ◌<◌, ◌≤◌, IfOk, IfSome, MatchOption, [], ◌∷◌, nat_le, true, false, Some, None, List, ℕ, length};
+ghost use Rattle.std.specs.Prelude.{◌≡◌, ◌<◌, ◌≤◌, IfOk, ◌∷◌, nat_le, true, false, Some, None, List, ℕ};
 ghost use Rattle.std.specs.List.{position, list_any, slice_split};
 ghost use Rattle.std.specs.Iterator.{YieldsFirstBy, item_count};
 ghost use Rattle.gl_trace.specs.Ids.{operand_of, set_of, list_words, is_comma, is_set};
 ghost use Rattle.gl_trace.specs.Kept.{parts_left, with_last, IsKept};
-ghost use Rattle.gl_model.specs.declared.limits.TheConstants.{VARIABLES, TX_VARIABLES};
+ghost use Rattle.gl_model.specs.declared.limits.TheConstants.{VARIABLES};
 
 use gl_model::{VARIABLES, VarSet};
 use gl_text::kinds::BAD_NUMBER;

@@ -1,4 +1,4 @@
-ghost use Rattle.std.specs.Prelude.{◌≡◌, ℕ, List, length, slice_get, Some, None, MatchOption};
+ghost use Rattle.std.specs.Prelude.{◌≡◌, List, length, slice_get, Some, None, MatchOption};
 ghost use Rattle.gl_trace.specs.Trace.{AreLines};
 
 use gl_model::Item;

@@ -1,7 +1,7 @@
 // What a line's words say, apart from the lines before it.
-ghost use Rattle.std.specs.Prelude.{◌≡◌, ◌<◌, ◌≤◌, IfOk, OnOk, IfSome, MatchResult, Ok, Err};
+ghost use Rattle.std.specs.Prelude.{◌≡◌, ◌<◌, IfOk, OnOk, IfSome, MatchResult, Ok, Err};
 ghost use Rattle.gl_model.specs.TraceSteps.{IsStep, IsLineItem};
-ghost use Rattle.gl_trace.specs.Phrase.{first_of, only_of, fixed, verb_said, lists_of, commit_said, form_said, step_said, step_with, said};
+ghost use Rattle.gl_trace.specs.Phrase.{only_of, fixed, verb_said, lists_of, commit_said, form_said, step_said, step_with, said};
 ghost use Rattle.gl_trace.specs.Kept.{IsItemKept};
 
 use crate::form::{Form, Verb, form_told};

@@ -6,7 +6,7 @@ ghost use Rattle.std.specs.Char.{is_ascii_digit};
 ghost use Rattle.gl_model.specs.TraceSteps.{IsStep};
 ghost use Rattle.gl_text.specs.Number.{digits_value};
 ghost use Rattle.gl_text.specs.Text.{words};
-ghost use Rattle.gl_trace.specs.Form.{form_of, most_of};
+ghost use Rattle.gl_trace.specs.Form.{form_of};
 ghost use Rattle.gl_trace.specs.Ids.{operand_of, set_of, is_set};
 ghost use Rattle.gl_trace.specs.Kept.{IsItemKept};
 ghost use Rattle.gl_trace.specs.Phrase.{said};
@@ -253,8 +253,8 @@ fn quick_commit<'a>(text: &'a [u8], item: &mut Item) -> Option<(u8, &'a [u8])>
     Some((thread as u8, behind))
 }
 
-/// What the first line of a text says, where it is of the usual form and ends with a line feed: its thread and what is behind it are answered,
-/// and its item is written to its place. `None` says nothing of the line.
+/// What the first line of a text says, where it is of the usual form and ends with a line feed: its thread and what is behind it are
+/// answered, and its item is written to its place. `None` says nothing of the line.
 pub fn quick_line<'a>(text: &'a [u8], item: &mut Item) -> Option<(u8, &'a [u8])>
     ensures said { IfSome result (λ x. (line : List ℕ) × IsFirstLine text.now line x.1.now × (said (words line) ≡ Ok (Some (x.0, item.new)))) }
     ensures range { IfSome result (λ x. IsStep (x.0, item.new)) }

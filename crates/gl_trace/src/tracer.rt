@@ -1,5 +1,5 @@
 // The record of a trace, line by line.
-ghost use Rattle.std.specs.Prelude.{◌≡◌, ◌+◌, ◌-◌, ◌*◌, ◌<◌, ◌≤◌, ◌^◌, ℕ, List, map, pos, length, nat_lt, false, true, not, slice_index, IfOk, OnOk, ◌++◌, ◌∷◌, []};
+ghost use Rattle.std.specs.Prelude.{◌≡◌, ◌+◌, ◌-◌, ◌*◌, ◌<◌, ◌≤◌, ◌^◌, ℕ, List, map, pos, length, nat_lt, false, true, not, slice_index, IfOk, OnOk};
 ghost use Rattle.gl_model.specs.Elements.{IsActInRange};
 ghost use Rattle.gl_model.specs.Entries.{seen};
 ghost use Rattle.gl_model.specs.Kept.{IsEntryInRange};

@@ -126,7 +126,8 @@ fails_at setting t xs i other stands set ordered = elim at_one [
 ]
   where
     at_one : IsOrderedOrExcepted (Has i.set) t (Some xs)
-    at_one = subst (λ n. IsOrderedOrExcepted (Rattle.gl_model.specs.Locksets.AfterAll (Has i.set) (drop n (begun setting))) t (Some xs)) stands
+    at_one = subst (λ n. IsOrderedOrExcepted (Rattle.gl_model.specs.Locksets.AfterAll (Has i.set) (drop n (begun setting))) t
+        (Some xs)) stands
         ordered
 
 of_one : (r u : TakenRow) → Contains (r ∷ []) u → r ≡ u

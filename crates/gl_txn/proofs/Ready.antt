@@ -1,7 +1,7 @@
 -- From the rows that were taken to an end that is certain.
 use Rattle.gl_txn.proofs.Changes.{look_found}
 use Rattle.std.proofs.Common.{◌≡◌, ℕ, zero, suc, ◌-◌, ◌<◌, ◌≤◌, List, [], ◌∷◌, ◌++◌, map, refl, sym, ap, ◌∙◌, subst, arith, Some, None}
-use Rattle.std.specs.Prelude.{◌≢◌, Contains, Option, ◌⊎◌, slice_get}
+use Rattle.std.specs.Prelude.{◌≢◌, Contains, Option, slice_get}
 use Rattle.gl_model.specs.declared.event.Stamp.{Stamp}
 use Rattle.gl_model.specs.declared.limits.TheConstants.{THREADS}
 use Rattle.gl_model.specs.declared.row.Question.{Question}
@@ -322,7 +322,8 @@ module _ (p q r : PassView) (rows : List TakenRow) (tx : Tx) (h : HoldsRows p ro
     reads = d.reads ∙ ap (λ (l : List Read). l ++ Busy 0 by ∷ []) reads_j;
   }
   wait_cause z clear (wait.RingFull low tail) s d = record {
-    clear = is_clear_by clear z.key.setting s [] (d.known ∙ sym (append-nil r.known)) s.seen (let a = d.later in let c = d.seen in omega arith);
+    clear = is_clear_by clear z.key.setting s [] (d.known ∙ sym (append-nil r.known)) s.seen
+        (let a = d.later in let c = d.seen in omega arith);
     list = d.list;
     reads = d.reads ∙ ap (λ (l : List Read). l ++ (Taken 0 (slot.List d.list) ∷ Hold 0 low ∷ [])) reads_j;
     seen = d.seen;

@@ -1,7 +1,7 @@
 -- An attempt that is dropped since its commit would complete a race.
 use Rattle.gl_txn.specs.Changing.{look_in}
 use Rattle.gl_txn.proofs.Changes.{look_found}
-use Rattle.std.proofs.Common.{◌≡◌, ◌≢◌, ℕ, zero, suc, ◌+◌, ◌<◌, ◌≤◌, ◌==◌, List, [], ◌∷◌, ◌++◌, map, true, false, refl, sym, ap, ◌∙◌, subst, arith, Some, None}
+use Rattle.std.proofs.Common.{◌≡◌, ℕ, zero, suc, ◌<◌, ◌==◌, List, [], ◌∷◌, map, true, false, refl, sym, ap, ◌∙◌, subst, arith, Some, None}
 use Rattle.std.specs.Prelude.{Contains, slice_get}
 use native.Mathlib.Decide.{ℕ_discrete}
 use Rattle.gl_model.specs.declared.event.Stamp.{Stamp}

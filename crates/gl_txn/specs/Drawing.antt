@@ -27,7 +27,8 @@ numbered numbers = map (λ n. n.var) numbers
 abbrev pub drew_on : PassView → List ℕ → ℕ → Option Draw
 drew_on p ys y = if is_in y ys then Some (draw p.own.id (block_of p.own.mine) Open) else None
 
--- the pass holds these rows, as they were taken, and perhaps the list; its thread runs, it owes nothing, and at most one number of a variable waits
+-- the pass holds these rows, as they were taken, and perhaps the list; its thread runs, it owes nothing, and at most one number of a
+-- variable waits
 pub record MayNumber (p : PassView) (rows : List TakenRow) : Type 0 where
   pub list : Option Held
   pub tails : List ℕ
@@ -37,7 +38,8 @@ pub record MayNumber (p : PassView) (rows : List TakenRow) : Type 0 where
   pub runs : life_of p.own.mine ≡ Running
   pub each : (y : ℕ) → count_on y p.own.drawn ≤ 1
 
--- the pass, which was p and is q, drew these numbers, each in one step, and did nothing else; each is above those of its variable that waited before
+-- the pass, which was p and is q, drew these numbers, each in one step, and did nothing else; each is above those of its variable that
+-- waited before
 pub record HasDrawn (p q : PassView) (list : Option Held) (rows : List TakenRow) (tails : List ℕ) (numbers : List Number) : Type 0 where
   pub is : q ≡ record p {
     own = record p.own { held = q.own.held; drawn = p.own.drawn ++ map end_of numbers };

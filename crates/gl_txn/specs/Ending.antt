@@ -60,8 +60,8 @@ AreUnchanged a rows = (l : Look) (r : TakenRow) → Contains a.looks l → Conta
 abbrev pub asked : ℕ → Attempting → ℕ → Question
 asked t a y = record { thread = t; write = is_in y (map (λ w. w.var) a.writes); commit = Some (variables_in a.looks a.writes); held = [] }
 
--- over each list of n events that the pass of these entries, which knows these events, cannot tell from the table's, and in which the rows' Infos
--- stand for accesses
+-- over each list of n events that the pass of these entries, which knows these events, cannot tell from the table's, and in which the
+-- rows' Infos stand for accesses
 abbrev pub OverEach : Setting → Shelf → ℕ → List (ℕ × Stamp) → List TakenRow → (List Stamp → Type 0) → Type 0
 OverEach setting s n known rows P = (l : List Stamp) → IsFitting setting s n known l
     → ((r : TakenRow) → Contains rows r → InfosStand setting l r.row) → P l
@@ -74,8 +74,8 @@ RacesAt t a l r = SomeFails l r.row (asked t a r.var)
 abbrev pub AreWithin : List TakenRow → ℕ → Type 0
 AreWithin rows tail = (r : TakenRow) → Contains rows r → IsWithin r.row tail
 
--- no word was changed, and the commit completes no race, judged up to a tail that is at most the limit and not below what was seen before the call, with
--- each row's Infos within it: s is the pass's list before, and from what it had seen then
+-- no word was changed, and the commit completes no race, judged up to a tail that is at most the limit and not below what was seen before
+-- the call, with each row's Infos within it: s is the pass's list before, and from what it had seen then
 pub record IsClear (setting : Setting) (a : Attempting) (s : Shelf) (from limit : ℕ) (rows : List TakenRow) (q : PassView) : Type 0 where
   pub unchanged : AreUnchanged a rows
   pub upto : ℕ
@@ -88,8 +88,8 @@ pub record IsClear (setting : Setting) (a : Attempting) (s : Shelf) (from limit 
 abbrev pub HasRoomAt : TableView → ℕ → ℕ → Type 0
 HasRoomAt z low tail = tail < low * z.key.cells + capacity z.key
 
--- why the attempt was committed: nothing speaks against it, up to a tail at or before its own position, and the list was free and had room. It stands
--- at the tail that was loaded then. What was read before is what its rows' turns gave
+-- why the attempt was committed: nothing speaks against it, up to a tail at or before its own position, and the list was free and had
+-- room. It stands at the tail that was loaded then. What was read before is what its rows' turns gave
 pub record WasDone (z : TableView) (a : Attempting) (at : ℕ) (s : Shelf) (from : ℕ) (before : List Read) (rows : List TakenRow)
     (q : PassView) : Type 0 where
   pub clear : IsClear z.key.setting a s from at rows q
@@ -115,8 +115,8 @@ pub record WasChanged (a : Attempting) (var : ℕ) (read found : ℤ) (before : 
   pub other : read ≢ found
   pub least : AreUnchangedBelow var a rows
 
--- why it was dropped as racy: no word was changed, and at the least such variable the commit completes a race, judged up to what is seen afterwards,
--- with each row's Infos within it
+-- why it was dropped as racy: no word was changed, and at the least such variable the commit completes a race, judged up to what is seen
+-- afterwards, with each row's Infos within it
 pub record WasRaised (setting : Setting) (a : Attempting) (var : ℕ) (s : Shelf) (from : ℕ) (before : List Read) (rows : List TakenRow)
     (q : PassView) : Type 0 where
   pub reads : q.reads ≡ before

@@ -47,7 +47,8 @@ pub record HasReached (z : TableView) (p : PassView) (l : ListView) (q : PassVie
 
 -- the list's turn was held by another pass, or there was no room, and the list was put back
 abbrev pub IsReachStop : TableView → TxWait → PassView → PassView → Type 0
-IsReachStop z (wait.Busy by) p q = (by < THREADS) × (by ≢ p.own.id) × (q ≡ record p { reads = p.reads ++ Busy 0 by ∷ []; moves = moved 1 p.moves })
+IsReachStop z (wait.Busy by) p q = (by < THREADS) × (by ≢ p.own.id)
+    × (q ≡ record p { reads = p.reads ++ Busy 0 by ∷ []; moves = moved 1 p.moves })
 IsReachStop z (wait.RingFull low tail) p q = (l : ListView) × (p.seen ≤ tail) × (HasRoomAt z low tail → ⊥)
     × (q ≡ after (with_room p l low tail) (left (view_of (with_room p l low tail)) 0 false))
 

@@ -72,8 +72,8 @@ pub record IsFirstRace (q : PassView) (base : Question) (writes : List Pair) (ro
 abbrev pub asked_of : ℕ → Tx → ℕ → Question
 asked_of t tx y = record { thread = t; write = is_in y (map (λ w. w.var) tx.writes); commit = Some (variables_of tx); held = [] }
 
--- the pass holds just the rows of the variables of tx, and has seen this tail since; over each list up to it the commit completes a race on x and on no
--- variable below
+-- the pass holds just the rows of the variables of tx, and has seen this tail since; over each list up to it the commit completes a race
+-- on x and on no variable below
 pub record RacesOn (p : PassView) (rows : List TakenRow) (tx : Tx) (x : ℕ) : Type 0 where
   pub of : vars_of rows ≡ variables_of tx
   pub held : AreHeld p.own.held None rows (p.seen ∷ []) undrawn

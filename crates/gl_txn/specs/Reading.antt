@@ -12,8 +12,8 @@ use Rattle.gl_txn.specs.Trying.{Draws}
 use Rattle.gl_txn.specs.declared.stops.TxStop.{TxStop}
 use Rattle.gl_txn.specs.declared.stops.TxStop.TheVariants.{Busy, TooLarge}
 
--- the attempt's own write, else its earlier look, else a new look, for which a number waits from then on; b and u are the attempt and what the
--- pass has of its own afterwards
+-- the attempt's own write, else its earlier look, else a new look, for which a number waits from then on; b and u are the attempt and
+-- what the pass has of its own afterwards
 abbrev pub ReadBy : Option Pair → Option Look → ℕ → ℤ → Attempting → Own → Attempting → Own → Type 0
 ReadBy (Some w) look x value a o b u = (value ≡ w.value) × (b ≡ a) × (u ≡ o)
 ReadBy None (Some l) x value a o b u = (value ≡ l.value) × (b ≡ a) × (u ≡ o)

@@ -58,9 +58,9 @@ impl Txn {
         })
     }
 
-    /// Reads a variable inside the attempt: its own write, else the word that it looked at before, else the variable's word, which is a look. A look
-    /// draws a number. TooLarge comes exactly where the variable is not in the attempt and that has no room for another, Busy only where this
-    /// call read the row's turn as held by another pass.
+    /// Reads a variable inside the attempt: its own write, else the word that it looked at before, else the variable's word, which is a
+    /// look. A look draws a number. TooLarge comes exactly where the variable is not in the attempt and that has no room for another,
+    /// Busy only where this call read the row's turn as held by another pass.
     pub fn read(&mut self, shared: &Shared, pass: &mut Pass, var: u16) -> Result<i64, TxStop>
         requires may { MayTry shared.now pass.old self.old }
         requires there { var < VARIABLES }

@@ -1,5 +1,5 @@
 // Whether a word that the attempt looked at was changed.
-ghost use Rattle.std.specs.Prelude.{◌≡◌, MatchOption};
+ghost use Rattle.std.specs.Prelude.{MatchOption};
 ghost use Rattle.gl_txn.specs.Changing.{IsChangeOf, AreUnchangedIn, IsFirstChange};
 
 use crate::taken::TakenRow;

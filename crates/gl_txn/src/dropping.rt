@@ -1,5 +1,5 @@
 // Dropping an attempt: its numbers are drawn, its entry is stored, and its rows go back.
-ghost use Rattle.std.specs.Prelude.{◌≡◌, ℕ, ◌+◌, ◌*◌, ◌<◌, ◌≤◌, ◌++◌, ◌∷◌, [], List, Option, None, length, map};
+ghost use Rattle.std.specs.Prelude.{◌≡◌, ℕ, ◌+◌, ◌*◌, ◌<◌, ◌++◌, ◌∷◌, [], List, Option, None, length, map};
 ghost use Rattle.gl_model.specs.declared.tx.Why.TheVariants.{Changed, Raised};
 ghost use Rattle.gl_model.specs.declared.limits.TheConstants.{VARIABLES, TX_VARIABLES};
 ghost use Rattle.gl_model.specs.Rising.{Rises};

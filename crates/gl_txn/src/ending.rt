@@ -178,9 +178,10 @@ fn end_attempt(
 }
 
 impl Txn {
-    /// Ends the attempt: with `keep` its looks and its writes are committed, else its looks alone. All its rows are taken. Where a word that it looked
-    /// at was changed, it is dropped as Changed; else, where its commit would complete a race, it is dropped as Raised, at the least such variable;
-    /// else it is committed. It waits, and is as it was, where this call read a turn as held by another pass, or where the ring had no room.
+    /// Ends the attempt: with `keep` its looks and its writes are committed, else its looks alone. All its rows are taken. Where a word
+    /// that it looked at was changed, it is dropped as Changed; else, where its commit would complete a race, it is dropped as Raised, at
+    /// the least such variable; else it is committed. It waits, and is as it was, where this call read a turn as held by another pass, or
+    /// where the ring had no room.
     pub fn commit(
         self,
         shared: &Shared,

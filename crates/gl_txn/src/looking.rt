@@ -1,5 +1,5 @@
 // A look: the word of a variable, under its row's turn, with a number.
-ghost use Rattle.std.specs.Prelude.{◌≡◌, ◌≢◌, ◌<◌, ◌≤◌, ◌^◌, suc, [], IfOk, IfErr};
+ghost use Rattle.std.specs.Prelude.{◌≡◌, ◌≢◌, ◌<◌, ◌^◌, suc, [], IfOk, IfErr};
 ghost use Rattle.gl_model.specs.declared.limits.TheConstants.{VARIABLES, THREADS};
 ghost use Rattle.gl_draws.specs.Ties.{counted};
 ghost use Rattle.gl_rule.specs.Lives.{Running, life_of};

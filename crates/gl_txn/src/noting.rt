@@ -1,5 +1,5 @@
 // The rows after a commit.
-ghost use Rattle.std.specs.Prelude.{◌≡◌, ◌<◌, ◌+◌, ◌*◌, ◌≤◌, length, [], vec_len, vec_capacity};
+ghost use Rattle.std.specs.Prelude.{◌≡◌, ◌<◌, ◌+◌, ◌*◌, length, [], vec_len};
 ghost use Rattle.gl_model.specs.declared.limits.TheConstants.{THREADS};
 ghost use Rattle.gl_txn.specs.Costs.{EndCosts};
 ghost use Rattle.gl_txn.specs.Noting.{IsNotedRow, AreCommitted};

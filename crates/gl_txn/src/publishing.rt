@@ -1,5 +1,5 @@
 // Publishing the commit of an attempt.
-ghost use Rattle.std.specs.Prelude.{◌≡◌, ◌+◌, ◌*◌, ◌<◌, ◌≤◌, length, IfOk, IfErr, OnOk, OnErr, []};
+ghost use Rattle.std.specs.Prelude.{◌≡◌, ◌+◌, ◌*◌, ◌<◌, length, IfOk, IfErr, OnOk, OnErr, []};
 ghost use Rattle.gl_rule.specs.Taken.{StateTold};
 ghost use Rattle.gl_table.specs.PassView.{view_of};
 ghost use Rattle.gl_table.specs.Putting.{DoesNotHold};

@@ -1,9 +1,8 @@
-ghost use Rattle.std.specs.Prelude.{◌≡◌, ◌<◌, ◌≤◌, [], IfSome, OnSome};
+ghost use Rattle.std.specs.Prelude.{◌≡◌, ◌<◌, [], IfSome, OnSome};
 ghost use Rattle.gl_segments.specs.Rings.{IsRing};
 ghost use Rattle.gl_model.specs.declared.limits.TheConstants.{VARIABLES};
 ghost use Rattle.gl_events.specs.Answers.{MayCall};
 ghost use Rattle.gl_events.specs.declared.call.Call.TheVariants as call;
-ghost use Rattle.gl_rule.specs.Objects.{capacity};
 ghost use Rattle.gl_txn.specs.Attempts.{nothing};
 ghost use Rattle.gl_txn.specs.Trying.{MayTry};
 
@@ -175,8 +174,8 @@ fn whole_attempt(
     Some((before, after, end, now))
 }
 
-// Thread 0 begins at position 0. Its attempt reads the first word of a variable, writes it, reads what it wrote, and is committed at position 1; the
-// row has the word that was written.
+// Thread 0 begins at position 0. Its attempt reads the first word of a variable, writes it, reads what it wrote, and is committed at
+// position 1; the row has the word that was written.
 #[test]
 fn an_attempt_is_committed(rt: HostRuntime) -> Result<(), Fail> {
     let Some((shared, mut zero)) = first_pass(rt.alloc()) else {

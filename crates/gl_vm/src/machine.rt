@@ -1,4 +1,4 @@
-ghost use Rattle.std.specs.Prelude.{◌≡◌, ℕ, ◌+◌, ◌-◌, ◌<◌, ◌≤◌, [], ◌∷◌, ◌++◌, ◌^◌, EachIndex, length, drop, take, slice_set, slice_index, IfOk, IfSome, is_some, nat_lt, position, Some, None, IsTrue};
+ghost use Rattle.std.specs.Prelude.{◌≡◌, ◌+◌, ◌-◌, ◌<◌, ◌≤◌, [], ◌∷◌, ◌^◌, EachIndex, length, drop, slice_set, slice_index, IfOk, IfSome, is_some, nat_lt, position, Some, None, IsTrue};
 ghost use Rattle.gl_model.specs.declared.limits.TheConstants.{MONITORS};
 ghost use Rattle.gl_bytecode.specs.declared.limits.TheConstants.{CALLERS, LOCALS, OPERANDS};
 ghost use Rattle.gl_bytecode.specs.Machine.{answers, held_monitor};
@@ -45,7 +45,7 @@ impl Model for Machine {
 }
 
 impl Machine {
-    ghost use Rattle.gl_bytecode.specs.Machine.{Config, again, ask_of, attempt_after, dropped, failed, failing, is_refused, begun, called, ending_with, done, answered, entered, finished, fresh, levels_after, next, raised, returned, settled, started, takes};
+    ghost use Rattle.gl_bytecode.specs.Machine.{Config, again, ask_of, attempt_after, dropped, failed, failing, is_refused, begun, called, ending_with, done, answered, fresh, levels_after, next, raised, returned, settled, started, takes};
     ghost use Rattle.gl_bytecode.specs.Attending.{Attends, runs_after};
     ghost use Rattle.gl_bytecode.specs.Fits.{Fits, NamesMonitor, StartsRight};
     ghost use Rattle.gl_vm.specs.Asking.{AsksInRange};

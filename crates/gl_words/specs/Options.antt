@@ -99,8 +99,8 @@ name_and_number text = elim (position is_equals text) [ None ↦ (text, None) | 
 abbrev pub named : Word → Option (Word × Option Word)
 named word = if bytes_eq (take 2 word) (codes "--") then Some (name_and_number (drop 2 word)) else None
 
--- what the words give behind what is given: `--NAME=NUMBER` in one word or `--NAME NUMBER` in two, or the name alone of the option without a number;
--- each option at most once, in any order
+-- what the words give behind what is given: `--NAME=NUMBER` in one word or `--NAME NUMBER` in two, or the name alone of the option
+-- without a number; each option at most once, in any order
 abbrev pub read_options : Given → List Word → Option Given
 read_options g [] = Some g
 read_options g (word ∷ []) = option_and_then (λ p. elim p.1 [ Some number ↦ give_named g p.0 number | None ↦ give_alone g p.0 ])

@@ -10,7 +10,8 @@ abbrev pub number_in : NumberOption → Option Word → Option (Option ℕ)
 number_in o None = Some None
 number_in o (Some text) = option_map (λ n. Some n) (number_of o text)
 
-abbrev pub given_numbers : Option (Option ℕ) → Option (Option ℕ) → Option (Option ℕ) → Option (Option ℕ) → Option (Option ℕ) → Bool → Option Given
+abbrev pub given_numbers : Option (Option ℕ) → Option (Option ℕ) → Option (Option ℕ) → Option (Option ℕ) → Option (Option ℕ) → Bool
+    → Option Given
 given_numbers workers steps segments cells size journal = option_and_then (λ a. option_and_then (λ b. option_and_then (λ c.
     option_and_then (λ d. option_map (λ e. record {
       workers = a;
@@ -23,5 +24,6 @@ given_numbers workers steps segments cells size journal = option_and_then (λ a.
 
 -- the numbers in these texts, where each is one
 abbrev pub given_texts : (NumberOption → Option Word) → Bool → Option Given
-given_texts text journal = given_numbers (number_in Workers (text Workers)) (number_in Steps (text Steps)) (number_in Segments (text Segments))
+given_texts text journal = given_numbers (number_in Workers (text Workers)) (number_in Steps (text Steps))
+    (number_in Segments (text Segments))
     (number_in Cells (text Cells)) (number_in Size (text Size)) journal

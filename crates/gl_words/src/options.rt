@@ -1,5 +1,5 @@
 // The options, and the numbers that they take.
-ghost use Rattle.std.specs.Prelude.{◌≡◌, ◌≤◌, IfSome, Some, unwrap_or};
+ghost use Rattle.std.specs.Prelude.{◌≡◌, IfSome, Some, unwrap_or};
 ghost use Rattle.gl_words.specs.App.{name_of};
 ghost use Rattle.gl_words.specs.Options.{AreWithin, IsWithin, given_for, limits_of, number_of, within};
 

@@ -5,7 +5,7 @@ use gl_io::{ReaderSource, WriterSink};
 use gl_run::goldi_without_trace;
 use gl_shortcut::{Cuts, ShortCut, Sure, both_commits, same_thread, shared_monitor, two_threads};
 use gl_threads::Open;
-use std::alloc::{AllocError, Global};
+use std::alloc::{AllocError};
 use std::env::FillError;
 use std::process::ExitCode;
 use std::rt::Env;
@@ -13,8 +13,8 @@ use std::rt::Env;
 // Room for a word of the command line. A longer one is no word of a command.
 const WORD_BYTES: usize = 256;
 
-// The words of the command line; none where one of them is no text, or longer than a word of a command. The program's name, which comes first,
-// is not looked at. What they need of memory may be wanting.
+// The words of the command line; none where one of them is no text, or longer than a word of a command. The program's name, which comes
+// first, is not looked at. What they need of memory may be wanting.
 fn words_given(rt: &(impl Env + AllocGlobal)) -> Result<Vec<String>, AllocError> {
     let mut words = Vec::new(rt.alloc());
     words.push(String::new(rt.alloc()))?;

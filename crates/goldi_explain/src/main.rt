@@ -15,8 +15,8 @@ const USAGE: &[u8] = b"usage: explain [--picture] < TRACE, or explain --run < PR
 // The status of other words.
 const NO_FORM: u8 = 1;
 
-// The statuses are those of `goldi check`, and of a run those of `goldi audit`: 1 for other words, 2 where a read failed, 3 where a write failed,
-// 4 for bad input, 5 where memory ran out, 6 where there is a race, 8 where the record of a run is not lawful, else 0.
+// The statuses are those of `goldi check`, and of a run those of `goldi audit`: 1 for other words, 2 where a read failed, 3 where a write
+// failed, 4 for bad input, 5 where memory ran out, 6 where there is a race, 8 where the record of a run is not lawful, else 0.
 fn main(rt: HostRuntime) -> ExitCode {
     let mut sink = WriterSink::new(rt.stdout());
     let mut source = ReaderSource::new(rt.stdin());

@@ -34,6 +34,7 @@ loop-i-preserved c =
     ∙ ap (λ x. Some (seen x)) (sym c.index-list-i.is) in
     let more = taken (map seen list) i (seen c.index-list-i.result) there in
     let before = c.loop-i.invariant in record {
-      depths = subst (λ l. AreDepths l c.take_entry.new.depths) (sym more) (c.take_entry.ensures.depths (take i (map seen list)) before.depths);
+      depths = subst (λ l. AreDepths l c.take_entry.new.depths) (sym more)
+          (c.take_entry.ensures.depths (take i (map seen list)) before.depths);
       within = c.take_entry.ensures.within i before.within;
     }

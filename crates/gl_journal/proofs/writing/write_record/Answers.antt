@@ -1,4 +1,4 @@
-use Rattle.std.proofs.Common.{◌≡◌, ◌≤◌, ◌++◌, codes, string_bytes, ap, sym, subst, ◌∙◌, refl, rules, arith, append-nil}
+use Rattle.std.proofs.Common.{◌≡◌, ◌++◌, codes, string_bytes, ap, sym, subst, ◌∙◌, refl, rules, arith, append-nil}
 use Rattle.gl_model.specs.declared.limits.TheConstants.{THREADS}
 use Rattle.gl_journal.specs.Meaning.{IsRecordText}
 use Rattle.gl_journal.specs.Rows.{header_row, row_text}

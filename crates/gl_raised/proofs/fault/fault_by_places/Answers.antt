@@ -1,4 +1,4 @@
-use Rattle.std.proofs.Common.{◌≡◌, ◌<◌, ◌^◌, ◌∙◌, All, ap, length, subst, sym, arith}
+use Rattle.std.proofs.Common.{◌<◌, ◌^◌, ◌∙◌, All, ap, length, subst, sym, arith}
 use Rattle.gl_model.specs.Lists.{lists_of}
 use Rattle.gl_raised.specs.Accesses.{IsWithin}
 use Rattle.gl_raised.proofs.Faulting.{all_within, finish}

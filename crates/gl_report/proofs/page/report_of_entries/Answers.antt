@@ -1,4 +1,4 @@
-use Rattle.std.proofs.Common.{◌≡◌, ◌∙◌, ◌++◌, ℕ, List, Bor, ap, length, subst, rules}
+use Rattle.std.proofs.Common.{◌≡◌, ◌∙◌, ℕ, List, Bor, ap, length, subst, rules}
 use Rattle.std.specs.Prelude.{string_bytes}
 use Rattle.std.specs.List.{flat_map}
 use Rattle.gl_model.specs.Entries.{Entry, seen}

@@ -1,4 +1,4 @@
-use Rattle.std.proofs.Common.{◌≡◌, ◌∙◌, sym, subst, ℕ, ap}
+use Rattle.std.proofs.Common.{◌∙◌, sym, subst, ℕ, ap}
 use Rattle.gl_table.specs.PassView.{Own, PassView}
 use Rattle.gl_riders.specs.Riding.{Rides}
 use Rattle.gl_threads.specs.Aboard.{IsFinished}

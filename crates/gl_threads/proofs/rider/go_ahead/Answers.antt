@@ -1,4 +1,4 @@
-use Rattle.std.proofs.Common.{◌≡◌, sym, subst, Bool, false}
+use Rattle.std.proofs.Common.{sym, subst, Bool, false}
 use Rattle.gl_table.specs.PassView.{Own}
 use Rattle.gl_riders.specs.Owing.{AreKept}
 use Rattle.gl_riders.specs.Riding.{Rides}

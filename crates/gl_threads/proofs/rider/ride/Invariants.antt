@@ -1,6 +1,5 @@
-use Rattle.std.proofs.Common.{◌≡◌, ◌≢◌}
+use Rattle.std.proofs.Common.{◌≡◌}
 use Rattle.gl_threads.specs.Aboard.{IsAboard, rider_id}
-use Rattle.gl_threads.specs.declared.rider.Pace.TheVariants.{Stopped}
 use Rattle.gl_threads.proofs.rider.ride.Given as goal
 
 abbrev pub invariant-loop : goal.invariant-loop

@@ -4,7 +4,8 @@ use Rattle.gl_table.proofs.shared.Shared.TheSendSync.{the_sync as shared_sync}
 use Rattle.gl_threads.proofs.roll.RollCall.TheSendSync.{the_sync as roll_sync}
 use Rattle.gl_threads.proofs.working.run_crews.Goals as goal
 
--- what the closure refers to may cross to a worker: the runtime, the table, the program, the gate and the roll call; of the rest the tactics see it
+-- what the closure refers to may cross to a worker: the runtime, the table, the program, the gate and the roll call; of the rest the
+-- tactics see it
 pub for_each_mut-requires-sync-F : goal.for_each_mut-requires-sync-F
 for_each_mut-requires-sync-F g c κs within = record {
   shared = λ x b o κ.

@@ -1,4 +1,4 @@
-use Rattle.std.proofs.Common.{◌≡◌, ◌∙◌, sym, ap, length}
+use Rattle.std.proofs.Common.{◌∙◌, sym, ap, length}
 use Rattle.gl_threads.proofs.Boarding.{fresh_long, fresh_new}
 use Rattle.gl_threads.proofs.Closing.{back_done, back_runs, back_spared, crews_through}
 use Rattle.gl_threads.proofs.working.work.Goals as goal

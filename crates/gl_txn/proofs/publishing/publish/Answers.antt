@@ -1,4 +1,4 @@
-use Rattle.std.proofs.Common.{◌≡◌, ◌<◌, ◌≤◌, ◌+◌, sym, ap, ◌∙◌, subst, refl, List, [], ◌∷◌, Some}
+use Rattle.std.proofs.Common.{◌≡◌, ◌<◌, sym, ap, ◌∙◌, subst, refl, List, [], ◌∷◌, Some}
 use Rattle.std.specs.Prelude.{ℕ}
 use Rattle.gl_model.specs.declared.tx.Tx.{Tx}
 use Rattle.gl_model.specs.Records.{variables_of}

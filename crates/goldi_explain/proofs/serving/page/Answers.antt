@@ -1,4 +1,4 @@
-use Rattle.std.proofs.Common.{◌≡◌, ◌<◌, length, inr, subst, ap, Err}
+use Rattle.std.proofs.Common.{◌<◌, length, inr, subst, ap, Err}
 use Rattle.goldi_explain.specs.Answers.{most_of}
 use Rattle.goldi_explain.proofs.Limits.{too_long}
 use Rattle.goldi_explain.proofs.serving.page.Goals as goal
