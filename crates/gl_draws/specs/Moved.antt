@@ -22,7 +22,8 @@ pub record IsMoved (h : List Stamp) (old new : Info) : Type 0 where
 abbrev pub AreMoved : List Stamp → Option Info → Option Info → Type 0
 AreMoved h None None = Unit {0}
 AreMoved h (Some old) (Some new) = IsMoved h old new
-AreMoved h _ _ = ⊥
+AreMoved h None (Some new) = ⊥
+AreMoved h (Some old) None = ⊥
 
 -- each Info of the row was walked on, or stayed
 pub record IsRowMoved (h : List Stamp) (old new : Row) : Type 0 where

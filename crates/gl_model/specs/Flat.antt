@@ -14,7 +14,9 @@ abbrev pub IsLaidOut : Entry → Type 0
 IsLaidOut (Sync at act value) = Unit {0}
 IsLaidOut (Commit at tx) = Unit {0}
 IsLaidOut (Plain var nth cached write value raised) = raised ≡ false
-IsLaidOut _ = ⊥
+IsLaidOut (Abort tx why) = ⊥
+IsLaidOut (Trim low) = ⊥
+IsLaidOut (Over ending) = ⊥
 
 -- by block, and within a block in the order of the thread
 pub record InFlatOrder (R : Lists) (c d : Place) : Type 0 where
@@ -53,7 +55,9 @@ IsStep setting old t (Plain var nth cached true value raised) new =
     (old.state.threads t ≡ Running) × (new ≡ record old { words = with_at old.words var value })
 IsStep setting old t (Plain var nth cached false value raised) new =
     (old.state.threads t ≡ Running) × (value ≡ old.words var) × (new ≡ old)
-IsStep setting old t _ new = ⊥
+IsStep setting old t (Abort tx why) new = ⊥
+IsStep setting old t (Trim low) new = ⊥
+IsStep setting old t (Over ending) new = ⊥
 
 -- the entries at these places, one after another, are a run of the machine
 abbrev pub IsRun : Setting → Lists → Memory → List Place → Memory → Type 0
@@ -65,7 +69,10 @@ IsRun setting R old (c ∷ cs) new =
 abbrev pub WritesValue : Entry → ℕ → ℤ → Type 0
 WritesValue (Plain var nth cached write value raised) x v = (raised ≡ false) × (var ≡ x) × (write ≡ true) × (value ≡ v)
 WritesValue (Commit at tx) x v = Contains tx.writes (record { var = x; value = v })
-WritesValue _ x v = ⊥
+WritesValue (Sync at act value) x v = ⊥
+WritesValue (Abort tx why) x v = ⊥
+WritesValue (Trim low) x v = ⊥
+WritesValue (Over ending) x v = ⊥
 
 -- a performed write of x has this number and this value
 abbrev pub IsWritten : Lists → ℕ → ℕ → ℤ → Type 0

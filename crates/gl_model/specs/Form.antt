@@ -16,14 +16,19 @@ pub use Rattle.gl_model.specs.Records.{At}
 abbrev pub LookDraws : Entry → ℕ → ℕ → Type 0
 LookDraws (Commit at tx) x k = (value : ℤ) × Contains tx.looks (record { var = x; value = value; nth = k })
 LookDraws (Abort tx why) x k = (value : ℤ) × Contains tx.looks (record { var = x; value = value; nth = k })
-LookDraws _ x k = ⊥
+LookDraws (Sync at act value) x k = ⊥
+LookDraws (Plain var nth cached write value raised) x k = ⊥
+LookDraws (Trim low) x k = ⊥
+LookDraws (Over ending) x k = ⊥
 
 -- the entry drew this number on x for itself
 abbrev pub NumberDraws : Entry → ℕ → ℕ → Type 0
 NumberDraws (Plain var nth cached write value raised) x k = (cached ≡ false) × (var ≡ x) × (nth ≡ k)
 NumberDraws (Commit at tx) x k = Contains tx.numbers (record { var = x; nth = k })
 NumberDraws (Abort tx why) x k = Contains tx.numbers (record { var = x; nth = k })
-NumberDraws _ x k = ⊥
+NumberDraws (Sync at act value) x k = ⊥
+NumberDraws (Trim low) x k = ⊥
+NumberDraws (Over ending) x k = ⊥
 
 -- the entry drew this number on x
 abbrev pub Draws : Entry → ℕ → ℕ → Type 0
@@ -62,7 +67,8 @@ EntryForm t (Plain var nth cached write value false) = Unit {0}
 EntryForm t (Abort tx (Raised var)) = NumbersName tx (variables_of tx)
 EntryForm t (Abort tx (Changed var read found)) =
     NumbersName tx (var ∷ []) × ((nth : ℕ) × Contains tx.looks (record { var = var; value = read; nth = nth })) × (read ≢ found)
-EntryForm t _ = Unit {0}
+EntryForm t (Trim low) = Unit {0}
+EntryForm t (Over ending) = Unit {0}
 
 -- a note of how far the list was trimmed
 abbrev pub IsTrim : Entry → Type 0
@@ -88,7 +94,11 @@ IsOver _ = ⊥
 abbrev pub GivesRight : Entry → ℕ → ℕ → Bool → Type 0
 GivesRight (Plain var nth cached write value raised) x k w =
     (cached ≡ false) × (raised ≡ false) × (var ≡ x) × (nth ≡ k) × (write ≡ w)
-GivesRight _ x k w = ⊥
+GivesRight (Sync at act value) x k w = ⊥
+GivesRight (Commit at tx) x k w = ⊥
+GivesRight (Abort tx why) x k w = ⊥
+GivesRight (Trim low) x k w = ⊥
+GivesRight (Over ending) x k w = ⊥
 
 -- in the block of the entry at i, before it, the latest numbered performed entry on x has this number
 pub record HasRight (es : List Entry) (i x k : ℕ) (write : Bool) : Type 0 where
@@ -139,7 +149,11 @@ Listed R = (h : List Stamp) × IsEventList h R
 -- the value that an event's entry carries
 abbrev pub value_of : Entry → ℤ
 value_of (Sync at act value) = value
-value_of _ = pos 0
+value_of (Commit at tx) = pos 0
+value_of (Plain var nth cached write value raised) = pos 0
+value_of (Abort tx why) = pos 0
+value_of (Trim low) = pos 0
+value_of (Over ending) = pos 0
 
 -- the events of the record, in the order of their positions, are steps of the machine; each forked thread has a list; and at the end each
 -- thread that was forked, and thread 0, has ended
@@ -155,7 +169,9 @@ abbrev pub EndsRights : Entry → Type 0
 EndsRights (Sync at act value) = Unit {0}
 EndsRights (Commit at tx) = Unit {0}
 EndsRights (Abort tx why) = Unit {0}
-EndsRights _ = ⊥
+EndsRights (Plain var nth cached write value raised) = ⊥
+EndsRights (Trim low) = ⊥
+EndsRights (Over ending) = ⊥
 
 -- sparing: a plain entry is cached exactly where an earlier one of its block, with no event and no abort between, gives the right to it
 abbrev pub Sparing : Lists → Type 0

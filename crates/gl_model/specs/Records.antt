@@ -4,9 +4,9 @@ use Rattle.gl_model.specs.declared.event.Event.{Event}
 use Rattle.gl_model.specs.declared.event.Event.TheVariants.{Act as Does, Commit as Commits}
 use Rattle.gl_model.specs.declared.event.Stamp.{Stamp}
 use Rattle.gl_model.specs.Entries.{Entry}
-use Rattle.gl_model.specs.Entries.{Sync, Commit, Plain, Abort}
+use Rattle.gl_model.specs.Entries.{Sync, Commit, Plain, Abort, Trim, Over}
 use Rattle.gl_model.specs.declared.tx.Tx.{Tx}
-use Rattle.gl_model.specs.declared.tx.Why.TheVariants.{Raised}
+use Rattle.gl_model.specs.declared.tx.Why.TheVariants.{Changed, Raised}
 use Rattle.gl_model.specs.Edges.{EventAt}
 use Rattle.gl_model.specs.Rising.{with_all}
 
@@ -39,13 +39,19 @@ variables_of tx = with_all (map (λ w. w.var) tx.writes) (map (λ l. l.var) tx.l
 abbrev pub position_of : Entry → Option ℕ
 position_of (Sync at act value) = Some at
 position_of (Commit at tx) = Some at
-position_of _ = None
+position_of (Plain var nth cached write value raised) = None
+position_of (Abort tx why) = None
+position_of (Trim low) = None
+position_of (Over ending) = None
 
 -- the event that an entry is
 abbrev pub event_of : Entry → Option Event
 event_of (Sync at act value) = Some (Does act)
 event_of (Commit at tx) = Some (Commits (variables_of tx))
-event_of _ = None
+event_of (Plain var nth cached write value raised) = None
+event_of (Abort tx why) = None
+event_of (Trim low) = None
+event_of (Over ending) = None
 
 -- the entry there is the event s at position p
 pub record IsEventAt (R : Lists) (c : Place) (p : ℕ) (s : Stamp) : Type 0 where
@@ -78,7 +84,10 @@ abbrev pub NumberOn : Entry → ℕ → ℕ → Type 0
 NumberOn (Plain var nth cached write value raised) x k = (var ≡ x) × (nth ≡ k)
 NumberOn (Commit at tx) x k = Contains tx.numbers (record { var = x; nth = k })
 NumberOn (Abort tx (Raised var)) x k = Contains tx.numbers (record { var = x; nth = k })
-NumberOn _ x k = ⊥
+NumberOn (Sync at act value) x k = ⊥
+NumberOn (Abort tx (Changed var read found)) x k = ⊥
+NumberOn (Trim low) x k = ⊥
+NumberOn (Over ending) x k = ⊥
 
 -- the order on a variable: the access at c is before the one at d on x, by number, and for one number by program order.
 -- Only an access and its own repeats have one number.
@@ -97,7 +106,10 @@ pub record InVariableOrder (R : Lists) (x : ℕ) (c d : Place) : Type 0 where
 abbrev pub IsPerformed : Entry → Type 0
 IsPerformed (Plain var nth cached write value raised) = raised ≡ false
 IsPerformed (Commit at tx) = Unit {0}
-IsPerformed _ = ⊥
+IsPerformed (Sync at act value) = ⊥
+IsPerformed (Abort tx why) = ⊥
+IsPerformed (Trim low) = ⊥
+IsPerformed (Over ending) = ⊥
 
 -- a plain access
 abbrev pub IsPlain : Entry → Type 0
@@ -109,7 +121,10 @@ abbrev pub Writes : Entry → ℕ → Type 0
 Writes (Plain var nth cached write value raised) x = (var ≡ x) × (write ≡ true)
 Writes (Commit at tx) x = Contains (map (λ w. w.var) tx.writes) x
 Writes (Abort tx (Raised var)) x = Contains (map (λ w. w.var) tx.writes) x
-Writes _ x = ⊥
+Writes (Sync at act value) x = ⊥
+Writes (Abort tx (Changed var read found)) x = ⊥
+Writes (Trim low) x = ⊥
+Writes (Over ending) x = ⊥
 
 -- two accesses of x conflict: one writes it (the Java Language Specification, 17.4.1), and they are not both commits, or attempts
 -- at one (this project's own, after Goldilocks)

@@ -49,7 +49,8 @@ act_forks u _ = false
 -- the item forks the thread u
 abbrev pub item_forks : ℕ → Item → Bool
 item_forks u (Acts act) = act_forks u act
-item_forks u _ = false
+item_forks u (Access x write) = false
+item_forks u (Commits reads writes) = false
 
 -- the act joins the thread u, which has ended by that
 abbrev pub act_joins : ℕ → Act → Bool
@@ -59,7 +60,8 @@ act_joins u _ = false
 -- the item joins the thread u
 abbrev pub item_joins : ℕ → Item → Bool
 item_joins u (Acts act) = act_joins u act
-item_joins u _ = false
+item_joins u (Access x write) = false
+item_joins u (Commits reads writes) = false
 
 -- thread u is there: it is thread 0, or was forked
 abbrev pub is_started : List Step → ℕ → Bool
@@ -120,7 +122,8 @@ is_held_by t (Some (owner, depth)) = t == owner
 -- a commit of more variables than a transaction may have
 abbrev pub is_too_wide : Item → Bool
 is_too_wide (Commits reads writes) = nat_lt TX_VARIABLES (length (with_all writes reads))
-is_too_wide _ = false
+is_too_wide (Acts act) = false
+is_too_wide (Access x write) = false
 
 -- the fault of an act of a running thread t
 abbrev pub act_fault : List Step → ℕ → Act → Option StepFault

@@ -1,7 +1,7 @@
 -- The view of a pass with all that it has stored: what it added since its last step, the next step records.
 use Rattle.std.specs.Prelude.{ℕ, List, [], ◌∷◌, length, drop, Option, Some, None}
 use Rattle.gl_model.specs.declared.tx.Why.TheVariants.{Changed, Raised}
-use Rattle.gl_model.specs.Entries.{Entry, Plain, Abort, Over}
+use Rattle.gl_model.specs.Entries.{Entry, Sync, Commit, Plain, Abort, Trim, Over}
 use Rattle.gl_model.specs.Records.{variables_of}
 use Rattle.gl_draws.specs.Draws.{draw, Looked, Entered}
 use Rattle.gl_draws.specs.Ties.{last_position}
@@ -32,7 +32,9 @@ adds_one v t l (Abort tx (Raised var)) = dropped v t l (Abort tx (Raised var)) (
     (draw t (block_of l) (Entered (Abort tx (Raised var))))
 adds_one v t l (Plain x k cached write value raised) = cached_in v t l x k write value
 adds_one v t l (Over ending) = stored v t l (Over ending)
-adds_one v t l _ = v
+adds_one v t l (Sync at act value) = v
+adds_one v t l (Commit at tx) = v
+adds_one v t l (Trim low) = v
 
 abbrev pub adds_to : View → Entry → View
 adds_to v e = adds_one v (first_thread v.shelves) (first_marked v.shelves) e
