@@ -4,57 +4,26 @@ use Rattle.std.specs.Option.{IfSome, option_and_then}
 use Rattle.gl_bytecode.specs.declared.fault.ProgFault.{ProgFault}
 use Rattle.gl_bytecode.specs.declared.fault.TheConstants.{BAD_JUMP, BAD_FUNCTION, BAD_CLASS, BAD_LOCAL}
 use Rattle.gl_bytecode.specs.declared.instr.Instr.{Instr}
-use Rattle.gl_bytecode.specs.declared.instr.Instr.TheVariants.{Push, Pop, Dup, Swap, Load, Store, Inc, Add, Sub, Mul, Div, Rem, Neg, Eq, Lt, Le, Not, And, Or, Xor, Jump, Jz, Jnz, Call, Ret, Halt, Throw, Nop, New, Get, Put, Vget, Vput, Enter, Exit, Fork, Join, SelfId, Txbegin, Commit, Print, Input}
-use Rattle.gl_bytecode.specs.Faults.{IsFirstIn, IsFirstOfFunctions, IsKind, catch_fault, fault_at, has_args, instr_fault, unless}
+use Rattle.gl_bytecode.specs.Faults.{IsFirstIn, IsFirstOfFunctions, IsKind, catch_fault, fault_at, has_args, instr_fault, named_fault, unless}
+use Rattle.gl_bytecode.specs.Instructions.{Named, Nothing, Local, Place, Called, Forked, Class, Thrown, named_by}
 use Rattle.gl_bytecode.specs.Programs.{Bytecode, Function, function_at}
 
 of_unless : (b : Bool) (kind : ℕ) → IsKind kind → IfSome (unless b kind) IsKind
 of_unless true kind is = tt
 of_unless false kind is = is
 
+-- the fault of what is named is of a kind
+of_named : (P : Bytecode) (F : Function) (n : Named) → IfSome (named_fault P F n) IsKind
+of_named P F Nothing = tt
+of_named P F (Local k) = of_unless (nat_lt k F.locals) BAD_LOCAL (omega arith, omega arith)
+of_named P F (Place to) = of_unless (nat_lt to (length F.code)) BAD_JUMP (omega arith, omega arith)
+of_named P F (Called f) = of_unless (nat_lt f (length P.functions)) BAD_FUNCTION (omega arith, omega arith)
+of_named P F (Forked f) = of_unless (has_args 1 (function_at P f)) BAD_FUNCTION (omega arith, omega arith)
+of_named P F (Class c) = of_unless (nat_lt c (length P.classes)) BAD_CLASS (omega arith, omega arith)
+of_named P F (Thrown code) = tt
+
 of_instr : (P : Bytecode) (F : Function) (i : Instr) → IfSome (instr_fault P F i) IsKind
-of_instr P F (Push n) = tt
-of_instr P F Pop = tt
-of_instr P F Dup = tt
-of_instr P F Swap = tt
-of_instr P F (Load k) = of_unless (nat_lt k F.locals) BAD_LOCAL (omega arith, omega arith)
-of_instr P F (Store k) = of_unless (nat_lt k F.locals) BAD_LOCAL (omega arith, omega arith)
-of_instr P F (Inc k n) = of_unless (nat_lt k F.locals) BAD_LOCAL (omega arith, omega arith)
-of_instr P F Add = tt
-of_instr P F Sub = tt
-of_instr P F Mul = tt
-of_instr P F Div = tt
-of_instr P F Rem = tt
-of_instr P F Neg = tt
-of_instr P F Eq = tt
-of_instr P F Lt = tt
-of_instr P F Le = tt
-of_instr P F Not = tt
-of_instr P F And = tt
-of_instr P F Or = tt
-of_instr P F Xor = tt
-of_instr P F (Jump to) = of_unless (nat_lt to (length F.code)) BAD_JUMP (omega arith, omega arith)
-of_instr P F (Jz to) = of_unless (nat_lt to (length F.code)) BAD_JUMP (omega arith, omega arith)
-of_instr P F (Jnz to) = of_unless (nat_lt to (length F.code)) BAD_JUMP (omega arith, omega arith)
-of_instr P F (Call f) = of_unless (nat_lt f (length P.functions)) BAD_FUNCTION (omega arith, omega arith)
-of_instr P F Ret = tt
-of_instr P F Halt = tt
-of_instr P F (Throw code) = tt
-of_instr P F Nop = tt
-of_instr P F (New c) = of_unless (nat_lt c (length P.classes)) BAD_CLASS (omega arith, omega arith)
-of_instr P F (Get k) = tt
-of_instr P F (Put k) = tt
-of_instr P F (Vget k) = tt
-of_instr P F (Vput k) = tt
-of_instr P F Enter = tt
-of_instr P F Exit = tt
-of_instr P F (Fork f) = of_unless (has_args 1 (function_at P f)) BAD_FUNCTION (omega arith, omega arith)
-of_instr P F Join = tt
-of_instr P F SelfId = tt
-of_instr P F Txbegin = tt
-of_instr P F Commit = tt
-of_instr P F Print = tt
-of_instr P F Input = tt
+of_instr P F i = of_named P F (named_by i)
 
 of_option : {X : Type 0} (f : X → Option ℕ) (o : Option X) → ((x : X) → IfSome (f x) IsKind) → IfSome (option_and_then f o) IsKind
 of_option f None all = tt

@@ -9,13 +9,13 @@ use Rattle.gl_bytecode.specs.declared.instr.Catch.{Catch}
 use Rattle.gl_bytecode.specs.declared.instr.Flow.{Flow}
 use Rattle.gl_bytecode.specs.declared.instr.Flow.TheVariants.{Leaves, Next, Always, Either}
 use Rattle.gl_bytecode.specs.declared.instr.Instr.{Instr}
-use Rattle.gl_bytecode.specs.declared.instr.Instr.TheVariants.{Load, Store, Inc, Jump, Jz, Jnz, Call, Ret, Halt, Throw, New, Fork}
+use Rattle.gl_bytecode.specs.declared.instr.Instr.TheVariants.{Jump, Jz, Jnz, Ret, Halt, Throw}
 use Rattle.gl_bytecode.specs.declared.limits.TheConstants.{CODE, LOCALS, OPERANDS}
 use Rattle.gl_model.specs.declared.limits.TheConstants.{CLASSES, FUNCTIONS}
-use Rattle.gl_bytecode.specs.Faults.{AreDepths, HasDepths, IsFaultless, IsRight, catch_fault, closes, fault_at, falls_off, has_args, instr_fault, is_closed, is_long_function, is_too_long, unless}
-use Rattle.gl_bytecode.specs.Instructions.{flow, gives, needs, places_after, successors}
+use Rattle.gl_bytecode.specs.Faults.{AreDepths, HasDepths, IsFaultless, IsRight, catch_fault, closes, fault_at, falls_off, has_args, instr_fault, is_closed, is_long_function, is_too_long, named_fault, unless}
+use Rattle.gl_bytecode.specs.Instructions.{Named, Nothing, Local, Place, Called, Forked, Class, Thrown, flow, gives, named_by, needs, places_after, successors}
 use Rattle.gl_bytecode.specs.Programs.{Bytecode, Function, function_at}
-use Rattle.gl_bytecode.specs.Validity.{Depths, Goes, IsValid, NamesWhatIs}
+use Rattle.gl_bytecode.specs.Validity.{Depths, Goes, IsThere, IsValid, NamesWhatIs}
 
 -- ## Tests
 
@@ -66,17 +66,22 @@ there_below (x ∷ xs) (suc k) less = there_below xs k (omega arith)
 
 -- ## What is named
 
-pub names_right : (P : Bytecode) (F : Function) (i : Instr) → instr_fault P F i ≡ None → NamesWhatIs P F i
-names_right P F (Load k) none = less k F.locals (holds (nat_lt k F.locals) _ none)
-names_right P F (Store k) none = less k F.locals (holds (nat_lt k F.locals) _ none)
-names_right P F (Inc k n) none = less k F.locals (holds (nat_lt k F.locals) _ none)
-names_right P F (Call f) none = less f (length P.functions) (holds (nat_lt f (length P.functions)) _ none)
-names_right P F (New c) none = less c (length P.classes) (holds (nat_lt c (length P.classes)) _ none)
-names_right P F (Fork f) none = with_args 1 (function_at P f) (holds (has_args 1 (function_at P f)) _ none) where
+-- what has no fault is there
+named_right : (P : Bytecode) (F : Function) (n : Named) → named_fault P F n ≡ None → IsThere P F n
+named_right P F Nothing none = tt
+named_right P F (Local k) none = less k F.locals (holds (nat_lt k F.locals) _ none)
+named_right P F (Place to) none = tt
+named_right P F (Called f) none = less f (length P.functions) (holds (nat_lt f (length P.functions)) _ none)
+named_right P F (Forked f) none = with_args 1 (function_at P f) (holds (has_args 1 (function_at P f)) _ none) where
   with_args : (n : ℕ) (o : Option Function) → has_args n o ≡ true → (G : Function) × (o ≡ Some G) × (G.args ≡ n)
   with_args n None is = cc
   with_args n (Some G) is = (G, refl, grind (arith, nat_tests))
-names_right P F _ none = tt
+named_right P F (Class c) none = less c (length P.classes) (holds (nat_lt c (length P.classes)) _ none)
+named_right P F (Thrown code) none = tt
+
+-- an instruction without a fault names what is there
+pub names_right : (P : Bytecode) (F : Function) (i : Instr) → instr_fault P F i ≡ None → NamesWhatIs P F i
+names_right P F i none = named_right P F (named_by i) none
 
 -- the instruction that a jump names is there
 abbrev TargetIsThere : Function → Flow → Type 0
