@@ -19,7 +19,7 @@ pub enum Operand {
     Class(u16),
 }
 
-/// An instruction for each word, with any operands.
+/// An instruction for each word, with any operands. The law `no_word_is_left_out` says that none is left out.
 pub const INSTRUCTIONS: [Instr; 42] = [
     Instr::Push(0),
     Instr::Pop,
