@@ -18,7 +18,7 @@ pub data Region : Type 0 where
   Outside : Region
   Inside : Region
 
--- what an instruction names: a local, an instruction of its function, a function, one with one argument, a class, or the code that it throws
+-- what an instruction names: a local, a place of its function, a function, one with one argument, a class, or the code that it throws
 pub data Named : Type 0 where
   Nothing : Named
   Local : (k : ℕ) → Named
