@@ -1,3 +1,4 @@
+pub mod AllWords
 pub mod IndexLemmas
 pub mod ListedLengths
 pub mod ListedLimits

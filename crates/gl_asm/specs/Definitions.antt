@@ -7,7 +7,7 @@ use Rattle.gl_asm.specs.declared.definitions.Scope.{Scope}
 use Rattle.gl_asm.specs.declared.definitions.Scope.TheVariants.{Classes, Functions, Labels}
 use Rattle.gl_asm.specs.declared.forms.Counts.{Counts}
 use Rattle.gl_asm.specs.declared.forms.Form.{Form}
-use Rattle.gl_asm.specs.declared.forms.Form.TheVariants.{Class, Function, Label}
+use Rattle.gl_asm.specs.declared.forms.Form.TheVariants.{Blank, Class, Function, Label, Catch, Inputs, Instruction}
 use Rattle.gl_asm.specs.Forms.{counted, form_of, none_yet}
 use Rattle.gl_asm.specs.Names.{is_name, label_of}
 
@@ -22,19 +22,33 @@ abbrev pub defined_word : Option Form → List (List ℕ) → Option (List ℕ)
 defined_word (Some Class) ws = slice_get ws 1
 defined_word (Some Function) ws = slice_get ws 1
 defined_word (Some Label) ws = option_and_then label_of (slice_get ws 0)
-defined_word _ ws = None
+defined_word (Some Blank) ws = None
+defined_word (Some Catch) ws = None
+defined_word (Some Inputs) ws = None
+defined_word (Some (Instruction i)) ws = None
+defined_word None ws = None
 
 -- the scope of the name that a line of this form defines: labels belong to the last function
 abbrev pub scope_of : Counts → Option Form → Scope
 scope_of c (Some Class) = Classes
 scope_of c (Some Function) = Functions
-scope_of c _ = Labels c.functions
+scope_of c (Some Label) = Labels c.functions
+scope_of c (Some Blank) = Labels c.functions
+scope_of c (Some Catch) = Labels c.functions
+scope_of c (Some Inputs) = Labels c.functions
+scope_of c (Some (Instruction i)) = Labels c.functions
+scope_of c None = Labels c.functions
 
 -- what the name stands for: a class's or a function's number, or the place of a label
 abbrev pub number_of : Counts → Option Form → ℕ
 number_of c (Some Class) = c.classes
 number_of c (Some Function) = c.functions
-number_of c _ = c.places
+number_of c (Some Label) = c.places
+number_of c (Some Blank) = c.places
+number_of c (Some Catch) = c.places
+number_of c (Some Inputs) = c.places
+number_of c (Some (Instruction i)) = c.places
+number_of c None = c.places
 
 abbrev pub named : Scope → ℕ → ℕ → Option (List ℕ) → Option Definition
 named scope line number None = None

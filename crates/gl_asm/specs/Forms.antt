@@ -45,4 +45,9 @@ counted c (Some (Instruction i)) = record c { places = more c.places }
 -- the code that its instruction throws, if any, is in range
 abbrev pub ThrowsForm : Form → Type 0
 ThrowsForm (Instruction i) = ThrowsInRange i
-ThrowsForm _ = Unit {0}
+ThrowsForm Blank = Unit {0}
+ThrowsForm Class = Unit {0}
+ThrowsForm Function = Unit {0}
+ThrowsForm Label = Unit {0}
+ThrowsForm Catch = Unit {0}
+ThrowsForm Inputs = Unit {0}

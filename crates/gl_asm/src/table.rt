@@ -19,7 +19,7 @@ pub enum Operand {
     Class(u16),
 }
 
-/// An instruction for each word, with any operands.
+/// An instruction for each word, with any operands. The law `no_word_is_left_out` says that none is left out.
 pub const INSTRUCTIONS: [Instr; 42] = [
     Instr::Push(0),
     Instr::Pop,
@@ -65,7 +65,7 @@ pub const INSTRUCTIONS: [Instr; 42] = [
     Instr::Input,
 ];
 
-/// The word of an instruction.
+/// The word of an instruction: a table, with a row for each.
 pub fn word_of(instr: Instr) -> &'static str
     ensures { result.now ≡ word_of instr }
 {
@@ -115,7 +115,7 @@ pub fn word_of(instr: Instr) -> &'static str
     }
 }
 
-/// What stands behind the word of an instruction.
+/// What stands behind the word of an instruction: a table of the kinds of operands.
 pub fn operand_of(instr: Instr) -> Operand
     ensures { result ≡ operand_of instr }
 {
@@ -162,7 +162,7 @@ pub fn operand_of(instr: Instr) -> Operand
     }
 }
 
-/// The instruction of the same word with these operands, of which it takes those that it has.
+/// The instruction of the same word with these operands, of which it takes those that it has: a table, with a row for each that has any.
 pub fn filled(instr: Instr, index: u16, value: i64) -> Instr
     ensures value { result ≡ filled instr index value }
     ensures thrown { ThrowsInRange instr → ThrowsInRange result }

@@ -4,62 +4,35 @@ use Rattle.std.specs.Option.{IfSome, option_and_then}
 use Rattle.gl_bytecode.specs.declared.fault.ProgFault.{ProgFault}
 use Rattle.gl_bytecode.specs.declared.fault.TheConstants.{BAD_JUMP, BAD_FUNCTION, BAD_CLASS, BAD_LOCAL}
 use Rattle.gl_bytecode.specs.declared.instr.Instr.{Instr}
-use Rattle.gl_bytecode.specs.declared.instr.Instr.TheVariants.{Push, Pop, Dup, Swap, Load, Store, Inc, Add, Sub, Mul, Div, Rem, Neg, Eq, Lt, Le, Not, And, Or, Xor, Jump, Jz, Jnz, Call, Ret, Halt, Throw, Nop, New, Get, Put, Vget, Vput, Enter, Exit, Fork, Join, SelfId, Txbegin, Commit, Print, Input}
-use Rattle.gl_bytecode.specs.Faults.{IsFirstIn, IsFirstOfFunctions, IsKind, catch_fault, fault_at, has_args, instr_fault, unless}
+use Rattle.gl_bytecode.specs.Faults.{IsFirstIn, IsFirstOfFunctions, IsKind, catch_fault, fault_at, has_args, instr_fault, named_fault, unless}
+use Rattle.gl_bytecode.specs.Instructions.{Named, Nothing, Local, Place, Called, Forked, Class, Thrown, named_by}
 use Rattle.gl_bytecode.specs.Programs.{Bytecode, Function, function_at}
 
+-- a fault for want of a test is of its kind
 of_unless : (b : Bool) (kind : ℕ) → IsKind kind → IfSome (unless b kind) IsKind
 of_unless true kind is = tt
 of_unless false kind is = is
 
-of_instr : (P : Bytecode) (F : Function) (i : Instr) → IfSome (instr_fault P F i) IsKind
-of_instr P F (Push n) = tt
-of_instr P F Pop = tt
-of_instr P F Dup = tt
-of_instr P F Swap = tt
-of_instr P F (Load k) = of_unless (nat_lt k F.locals) BAD_LOCAL (omega arith, omega arith)
-of_instr P F (Store k) = of_unless (nat_lt k F.locals) BAD_LOCAL (omega arith, omega arith)
-of_instr P F (Inc k n) = of_unless (nat_lt k F.locals) BAD_LOCAL (omega arith, omega arith)
-of_instr P F Add = tt
-of_instr P F Sub = tt
-of_instr P F Mul = tt
-of_instr P F Div = tt
-of_instr P F Rem = tt
-of_instr P F Neg = tt
-of_instr P F Eq = tt
-of_instr P F Lt = tt
-of_instr P F Le = tt
-of_instr P F Not = tt
-of_instr P F And = tt
-of_instr P F Or = tt
-of_instr P F Xor = tt
-of_instr P F (Jump to) = of_unless (nat_lt to (length F.code)) BAD_JUMP (omega arith, omega arith)
-of_instr P F (Jz to) = of_unless (nat_lt to (length F.code)) BAD_JUMP (omega arith, omega arith)
-of_instr P F (Jnz to) = of_unless (nat_lt to (length F.code)) BAD_JUMP (omega arith, omega arith)
-of_instr P F (Call f) = of_unless (nat_lt f (length P.functions)) BAD_FUNCTION (omega arith, omega arith)
-of_instr P F Ret = tt
-of_instr P F Halt = tt
-of_instr P F (Throw code) = tt
-of_instr P F Nop = tt
-of_instr P F (New c) = of_unless (nat_lt c (length P.classes)) BAD_CLASS (omega arith, omega arith)
-of_instr P F (Get k) = tt
-of_instr P F (Put k) = tt
-of_instr P F (Vget k) = tt
-of_instr P F (Vput k) = tt
-of_instr P F Enter = tt
-of_instr P F Exit = tt
-of_instr P F (Fork f) = of_unless (has_args 1 (function_at P f)) BAD_FUNCTION (omega arith, omega arith)
-of_instr P F Join = tt
-of_instr P F SelfId = tt
-of_instr P F Txbegin = tt
-of_instr P F Commit = tt
-of_instr P F Print = tt
-of_instr P F Input = tt
+-- the fault of what is named is of a kind
+of_named : (P : Bytecode) (F : Function) (n : Named) → IfSome (named_fault P F n) IsKind
+of_named P F Nothing = tt
+of_named P F (Local k) = of_unless (nat_lt k F.locals) BAD_LOCAL (omega arith, omega arith)
+of_named P F (Place to) = of_unless (nat_lt to (length F.code)) BAD_JUMP (omega arith, omega arith)
+of_named P F (Called f) = of_unless (nat_lt f (length P.functions)) BAD_FUNCTION (omega arith, omega arith)
+of_named P F (Forked f) = of_unless (has_args 1 (function_at P f)) BAD_FUNCTION (omega arith, omega arith)
+of_named P F (Class c) = of_unless (nat_lt c (length P.classes)) BAD_CLASS (omega arith, omega arith)
+of_named P F (Thrown code) = tt
 
+-- and so is that of an instruction
+of_instr : (P : Bytecode) (F : Function) (i : Instr) → IfSome (instr_fault P F i) IsKind
+of_instr P F i = of_named P F (named_by i)
+
+-- a fault of what may be there is of a kind, where each one is
 of_option : {X : Type 0} (f : X → Option ℕ) (o : Option X) → ((x : X) → IfSome (f x) IsKind) → IfSome (option_and_then f o) IsKind
 of_option f None all = tt
 of_option f (Some x) all = all x
 
+-- the fault at a place of a function is of a kind
 of_place : (P : Bytecode) (F : Function) (at : ℕ) → IfSome (fault_at P F at) IsKind
 of_place P F at = by_test (nat_lt at (length F.code)) where
   by_test :
@@ -74,14 +47,17 @@ of_place P F at = by_test (nat_lt at (length F.code)) where
       (λ c. of_unless (nat_lt c.target (length F.code) && nat_le c.from c.to && nat_le c.to (length F.code)) BAD_JUMP
       (omega arith, omega arith))
 
+-- what is found is of a kind
 of_some : (o : Option ℕ) (kind : ℕ) → o ≡ Some kind → IfSome o IsKind → IsKind kind
 of_some None kind e is = cc
 of_some (Some k) kind e is = (let same : k ≡ kind = cc in rw (sym same) is)
 
+-- the first fault of a function is of a kind
 of_function : (P : Bytecode) (F : Function) (kind at : ℕ) → IsFirstIn P F kind at → IsKind kind
 of_function P F kind at (inl x) = of_some (fault_at P F at) kind x.wrong (of_place P F at)
 of_function P F kind at (inr (inl x)) = rw x.kind_is (omega arith, omega arith)
 of_function P F kind at (inr (inr x)) = rw x.kind_is (omega arith, omega arith)
 
+-- and so is that of all functions
 pub of_functions : (P : Bytecode) (x : ProgFault) → IsFirstOfFunctions P x → IsKind x.kind
 of_functions P x r = of_function P r.function x.kind x.at r.first

@@ -9,56 +9,66 @@ use Rattle.gl_bytecode.specs.declared.instr.Catch.{Catch}
 use Rattle.gl_bytecode.specs.declared.instr.Flow.{Flow}
 use Rattle.gl_bytecode.specs.declared.instr.Flow.TheVariants.{Leaves, Next, Always, Either}
 use Rattle.gl_bytecode.specs.declared.instr.Instr.{Instr}
-use Rattle.gl_bytecode.specs.declared.instr.Instr.TheVariants.{Load, Store, Inc, Jump, Jz, Jnz, Call, Ret, Halt, Throw, New, Fork}
+use Rattle.gl_bytecode.specs.declared.instr.Instr.TheVariants.{Jump, Jz, Jnz, Ret, Halt, Throw}
 use Rattle.gl_bytecode.specs.declared.limits.TheConstants.{CODE, LOCALS, OPERANDS}
 use Rattle.gl_model.specs.declared.limits.TheConstants.{CLASSES, FUNCTIONS}
-use Rattle.gl_bytecode.specs.Faults.{AreDepths, HasDepths, IsFaultless, IsRight, catch_fault, closes, fault_at, falls_off, has_args, instr_fault, is_closed, is_long_function, is_too_long, unless}
-use Rattle.gl_bytecode.specs.Instructions.{flow, gives, needs, places_after, successors}
+use Rattle.gl_bytecode.specs.Faults.{AreDepths, HasDepths, IsFaultless, IsRight, catch_fault, closes, fault_at, falls_off, has_args, instr_fault, is_closed, is_long_function, is_too_long, named_fault, unless}
+use Rattle.gl_bytecode.specs.Instructions.{Named, Nothing, Local, Place, Called, Forked, Class, Thrown, flow, gives, named_by, needs, places_after, successors}
 use Rattle.gl_bytecode.specs.Programs.{Bytecode, Function, function_at}
-use Rattle.gl_bytecode.specs.Validity.{Depths, Goes, IsValid, NamesWhatIs}
+use Rattle.gl_bytecode.specs.Validity.{Depths, Goes, IsThere, IsValid, NamesWhatIs}
 
 -- ## Tests
 
+-- neither of two tests holds, where not one of them does
 neither : (a b : Bool) → (a || b) ≡ false → (a ≡ false) × (b ≡ false)
 neither true b is = cc
 neither false b is = (refl, is)
 
+-- both tests hold, where they hold together
 both : (a b : Bool) → (a && b) ≡ true → (a ≡ true) × (b ≡ true)
 both true b is = (refl, is)
 both false b is = cc
 
+-- a test holds, where there is no fault for want of it
 pub holds : (b : Bool) (kind : ℕ) → unless b kind ≡ None → b ≡ true
 holds true kind is = refl
 holds false kind is = cc
 
+-- the test of less is right where it holds
 less : (a b : ℕ) → nat_lt a b ≡ true → a < b
 less a b is = grind (arith, nat_tests)
 
+-- and where it fails
 not_more : (a b : ℕ) → nat_lt a b ≡ false → b ≤ a
 not_more a b is = grind (arith, nat_tests)
 
 -- ## Lists
 
+-- a test that no element passes fails at each place
 none_at : {X : Type 0} (p : X → Bool) (xs : List X) (k : ℕ) (x : X) → list_any p xs ≡ false → slice_get xs k ≡ Some x → p x ≡ false
 none_at p [] k x none is = cc
 none_at p (y ∷ xs) zero x none is = (let same : y ≡ x = cc in rw (sym same) (neither (p y) (list_any p xs) none).0)
 none_at p (y ∷ xs) (suc k) x none is = none_at p xs k x (neither (p y) (list_any p xs) none).1 is
 
+-- no element is more than the sum
 at_most_sum : {X : Type 0} (f : X → ℕ) (xs : List X) (k : ℕ) (x : X) → slice_get xs k ≡ Some x → f x ≤ sum_by f xs
 at_most_sum f [] k x is = cc
 at_most_sum f (y ∷ xs) zero x is =
     (let same : y ≡ x = cc in let sum = sum_by-cons f y xs in let same' : f y ≡ f x = ap f same in omega arith)
 at_most_sum f (y ∷ xs) (suc k) x is = (let sum = sum_by-cons f y xs in let more = at_most_sum f xs k x is in omega arith)
 
+-- what holds at each place holds of all elements
 pub all_from : {X : Type 0} (Q : X → Type 0) (xs : List X) → ((k : ℕ) (x : X) → slice_get xs k ≡ Some x → Q x) → AllByRecursion Q xs
 all_from Q [] each = tt
 all_from Q (x ∷ xs) each = (each 0 x refl, all_from Q xs (λ k y is. each (suc k) y is))
 
+-- two things that hold of all elements, joined
 pub all_with : {X : Type 0} (Q R S : X → Type 0) (xs : List X) → ((x : X) → Q x → R x → S x) → AllByRecursion Q xs → AllByRecursion R xs
     → AllByRecursion S xs
 all_with Q R S [] join q r = tt
 all_with Q R S (x ∷ xs) join q r = (join x q.0 r.0, all_with Q R S xs join q.1 r.1)
 
+-- below the length of a list there is an element
 there_below : {X : Type 0} (xs : List X) (k : ℕ) → k < length xs → (x : X) × (slice_get xs k ≡ Some x)
 there_below [] k less = absurd (omega arith)
 there_below (x ∷ xs) zero less = (x, refl)
@@ -66,17 +76,22 @@ there_below (x ∷ xs) (suc k) less = there_below xs k (omega arith)
 
 -- ## What is named
 
-pub names_right : (P : Bytecode) (F : Function) (i : Instr) → instr_fault P F i ≡ None → NamesWhatIs P F i
-names_right P F (Load k) none = less k F.locals (holds (nat_lt k F.locals) _ none)
-names_right P F (Store k) none = less k F.locals (holds (nat_lt k F.locals) _ none)
-names_right P F (Inc k n) none = less k F.locals (holds (nat_lt k F.locals) _ none)
-names_right P F (Call f) none = less f (length P.functions) (holds (nat_lt f (length P.functions)) _ none)
-names_right P F (New c) none = less c (length P.classes) (holds (nat_lt c (length P.classes)) _ none)
-names_right P F (Fork f) none = with_args 1 (function_at P f) (holds (has_args 1 (function_at P f)) _ none) where
+-- what has no fault is there
+named_right : (P : Bytecode) (F : Function) (n : Named) → named_fault P F n ≡ None → IsThere P F n
+named_right P F Nothing none = tt
+named_right P F (Local k) none = less k F.locals (holds (nat_lt k F.locals) _ none)
+named_right P F (Place to) none = tt
+named_right P F (Called f) none = less f (length P.functions) (holds (nat_lt f (length P.functions)) _ none)
+named_right P F (Forked f) none = with_args 1 (function_at P f) (holds (has_args 1 (function_at P f)) _ none) where
   with_args : (n : ℕ) (o : Option Function) → has_args n o ≡ true → (G : Function) × (o ≡ Some G) × (G.args ≡ n)
   with_args n None is = cc
   with_args n (Some G) is = (G, refl, grind (arith, nat_tests))
-names_right P F _ none = tt
+named_right P F (Class c) none = less c (length P.classes) (holds (nat_lt c (length P.classes)) _ none)
+named_right P F (Thrown code) none = tt
+
+-- an instruction without a fault names what is there
+pub names_right : (P : Bytecode) (F : Function) (i : Instr) → instr_fault P F i ≡ None → NamesWhatIs P F i
+names_right P F i none = named_right P F (named_by i) none
 
 -- the instruction that a jump names is there
 abbrev TargetIsThere : Function → Flow → Type 0
@@ -85,6 +100,7 @@ TargetIsThere F Next = Unit {0}
 TargetIsThere F (Always to) = to < length F.code
 TargetIsThere F (Either to) = to < length F.code
 
+-- a jump without a fault goes to an instruction that is there
 target_there : (P : Bytecode) (F : Function) (i : Instr) → instr_fault P F i ≡ None → TargetIsThere F (flow i)
 target_there P F (Jump to) none = less to (length F.code) (holds (nat_lt to (length F.code)) _ none)
 target_there P F (Jz to) none = less to (length F.code) (holds (nat_lt to (length F.code)) _ none)
@@ -105,6 +121,7 @@ next_there F at i is ended goes_on = by_test (nat_lt (at + 1) (length F.code)) r
       let falls : falls_off F ≡ true = rw (last, is, goes_on) refl in
       cc
 
+-- the places after an instruction are there, where its target is and it does not fall off
 successors_there :
     (F : Function) (at : ℕ) (fl : Flow) → TargetIsThere F fl → (is_closed fl ≡ false → at + 1 < length F.code) →
     AllByRecursion (λ to. to < length F.code) (places_after fl at)
@@ -119,6 +136,7 @@ successors_there F at (Either to) target next = (target, (next refl, tt))
 abbrev pub IsNamed : Bytecode → Function → Type 0
 IsNamed P F = (at : ℕ) → fault_at P F at ≡ None
 
+-- each instruction of a function whose names are right has no fault
 pub instr_right : (P : Bytecode) (F : Function) → IsNamed P F → (at : ℕ) (i : Instr) → slice_get F.code at ≡ Some i → instr_fault P F i
     ≡ None
 instr_right P F named at i is =
@@ -126,6 +144,7 @@ instr_right P F named at i is =
     let passes : nat_lt at (length F.code) ≡ true = grind (arith, nat_tests) in
     (rw (passes, is) at (named at))
 
+-- nor has each catch
 pub catch_named : (P : Bytecode) (F : Function) → IsNamed P F → (k : ℕ) (c : Catch) → slice_get F.catches k ≡ Some c → catch_fault F c
     ≡ None
 catch_named P F named k c is =
@@ -133,6 +152,7 @@ catch_named P F named k c is =
     let back : (length F.code + k) - length F.code ≡ k = omega arith in
     (rw (past, back, is) at (named (length F.code + k)))
 
+-- the target of each catch is there
 pub catch_right : (P : Bytecode) (F : Function) → IsNamed P F → (k : ℕ) (c : Catch) → slice_get F.catches k ≡ Some c
     → c.target < length F.code
 catch_right P F named k c is =
@@ -140,12 +160,14 @@ catch_right P F named k c is =
     let target = (both _ _ (both _ _ all).0).0 in
     less c.target (length F.code) target
 
+-- the successors of each instruction are there
 pub successors_of :
     (P : Bytecode) (F : Function) → IsNamed P F → falls_off F ≡ false → (at : ℕ) (i : Instr) → slice_get F.code at ≡ Some i →
     AllByRecursion (λ to. to < length F.code) (successors i at)
 successors_of P F named ended at i is =
     successors_there F at (flow i) (target_there P F i (instr_right P F named at i is)) (next_there F at i is ended)
 
+-- a function that does not fall off has a first instruction
 pub starts_there : (F : Function) → falls_off F ≡ false → 0 < length F.code
 starts_there F ended = by_code F.code ended where
   by_code : (code : List Instr) → not (closes (slice_get code (length code - 1))) ≡ false → 0 < length code
@@ -156,9 +178,11 @@ starts_there F ended = by_code F.code ended where
 abbrev clipped : Function → (ℕ → Option ℕ) → ℕ → Option ℕ
 clipped F depth at = if nat_lt at (length F.code) then depth at else None
 
+-- within the code the clipped depths are the depths
 clipped_there : (F : Function) (depth : ℕ → Option ℕ) (at : ℕ) → at < length F.code → clipped F depth at ≡ depth at
 clipped_there F depth at within = (let passes : nat_lt at (length F.code) ≡ true = grind (arith, nat_tests) in rw passes refl)
 
+-- a clipped depth is that of a place in the code
 within_clip : (F : Function) (depth : ℕ → Option ℕ) (at n : ℕ) → clipped F depth at ≡ Some n → (at < length F.code) × (depth at ≡ Some n)
 within_clip F depth at n is = by_test (nat_lt at (length F.code)) refl is where
   by_test : (b : Bool) → nat_lt at (length F.code) ≡ b → (if b then depth at else None) ≡ Some n → (at < length F.code)
@@ -181,6 +205,7 @@ room_after P F depth are m to within is =
     let there = there_below F.code to within in
     (are.leads to m there.0 there.1 is).within
 
+-- what an instruction leaves on the stack has room there, however it goes on
 room_of :
     (P : Bytecode) (F : Function) (depth : ℕ → Option ℕ) → AreDepths P F depth → (i : Instr) (at n m : ℕ) (fl : Flow) → flow i ≡ fl →
     n ≤ OPERANDS → m ≡ (n - needs P i) + gives i → AllByRecursion (λ to. to < length F.code) (places_after fl at) →
@@ -203,6 +228,7 @@ record DepthsOf (P : Bytecode) (D : Depths) (f : ℕ) (F : Function) : Type 0 wh
   are : AreDepths P F depth
   same : (at : ℕ) → D f at ≡ clipped F depth at
 
+-- the depths of all functions are those of each
 depths_of :
     (P : Bytecode) (Fs : List Function) (all : AllByRecursion (HasDepths P) Fs) (f : ℕ) (F : Function) → slice_get Fs f ≡ Some F →
     DepthsOf P (all_depths P Fs all) f F
@@ -238,6 +264,7 @@ goes_from P D f F right d at n is =
           (λ to within has. d.same to ∙ clipped_there F d.depth to within ∙ has) there leads.onward;
     }
 
+-- main is there, with so many arguments
 main_there : (n : ℕ) (o : Option Function) → has_args n o ≡ true → (F : Function) × (o ≡ Some F) × (F.args ≡ n)
 main_there n None is = cc
 main_there n (Some F) is = (F, refl, grind (arith, nat_tests))
@@ -249,6 +276,7 @@ Limits P =
     (nat_lt CODE (sum_by (λ F. length F.code) P.functions) ≡ false) × (nat_lt FUNCTIONS (length P.functions) ≡ false)
     × (nat_lt CLASSES (length P.classes) ≡ false) × (list_any is_long_function P.functions ≡ false)
 
+-- no limit is passed, each taken alone
 limits_of : (P : Bytecode) → is_too_long P ≡ false → Limits P
 limits_of P short =
     let a = neither _ _ short in
@@ -257,12 +285,14 @@ limits_of P short =
     let d = neither _ _ c.0 in
     (d.0, d.1, c.1, b.1)
 
+-- no function is longer than a program may be
 short_of : (P : Bytecode) → IsFaultless P → (f : ℕ) (F : Function) → function_at P f ≡ Some F → length F.code ≤ CODE
 short_of P ok f F is =
     let all = not_more CODE (sum_by (λ G. length G.code) P.functions) (limits_of P ok.short).0 in
     let one = at_most_sum (λ (G : Function). length G.code) P.functions f F is in
     omega arith
 
+-- each function has its arguments among its locals, and no more locals than a frame
 locals_of : (P : Bytecode) → IsFaultless P → (f : ℕ) (F : Function) → function_at P f ≡ Some F → (F.args ≤ F.locals) × (F.locals ≤ LOCALS)
 locals_of P ok f F is =
     let none = none_at is_long_function P.functions f F (limits_of P ok.short).3 is in
@@ -270,6 +300,7 @@ locals_of P ok f F is =
     let b = neither _ _ a.0 in
     (not_more F.locals F.args b.1, not_more LOCALS F.locals a.1)
 
+-- a program without a fault is valid, by the depths of its functions
 pub faultless_is_sound : (P : Bytecode) → IsFaultless P → IsValid P
 faultless_is_sound P ok =
     let all = all_from (HasDepths P) P.functions (λ f F is. (ok.right f F is).depths) in

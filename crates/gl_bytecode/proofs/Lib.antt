@@ -1,6 +1,5 @@
 pub mod Agreement
 pub mod Answers
-pub mod Attempts
 pub mod AttemptWords
 pub mod Attending
 pub mod DepthSearch
@@ -10,8 +9,9 @@ pub mod FaultKinds
 pub mod Faultless
 pub mod Growth
 pub mod OneMeaning
-pub mod Rows
+pub mod RunExamples
 pub mod RunningAttempts
+pub mod Searching
 pub mod Soundness
 pub mod ValidExample
 pub mod Validation

@@ -11,10 +11,9 @@ use Rattle.gl_bytecode.specs.declared.instr.Catch.{Catch}
 use Rattle.gl_bytecode.specs.declared.instr.Flow.{Flow}
 use Rattle.gl_bytecode.specs.declared.instr.Flow.TheVariants.{Leaves, Next, Always, Either}
 use Rattle.gl_bytecode.specs.declared.instr.Instr.{Instr}
-use Rattle.gl_bytecode.specs.declared.instr.Instr.TheVariants.{Push, Pop, Dup, Swap, Load, Store, Inc, Add, Sub, Mul, Div, Rem, Neg, Eq, Lt, Le, Not, And, Or, Xor, Jump, Jz, Jnz, Call, Ret, Halt, Throw, Nop, New, Get, Put, Vget, Vput, Enter, Exit, Fork, Join, SelfId, Txbegin, Commit, Print, Input}
 use Rattle.gl_bytecode.specs.declared.limits.TheConstants.{CATCHES, CODE, LEAST_THROWN, LOCALS, MOST_THROWN, OPERANDS}
 use Rattle.gl_bytecode.specs.declared.object.Fields.{Fields}
-use Rattle.gl_bytecode.specs.Instructions.{flow, gives, needs, successors}
+use Rattle.gl_bytecode.specs.Instructions.{Named, Nothing, Local, Place, Called, Forked, Class, Thrown, flow, gives, named_by, needs, successors}
 use Rattle.gl_bytecode.specs.Programs.{Bytecode, Draft, Function, function_at}
 
 -- ## The instructions and catches of one function
@@ -28,50 +27,18 @@ abbrev pub has_args : ℕ → Option Function → Bool
 has_args n None = false
 has_args n (Some F) = F.args == n
 
--- what is wrong with an instruction of function F: the place, function, class or local that it names is not there
+-- what is wrong with what is named in function F: the local, place, function or class is not there
+abbrev pub named_fault : Bytecode → Function → Named → Option ℕ
+named_fault P F Nothing = None
+named_fault P F (Local k) = unless (nat_lt k F.locals) BAD_LOCAL
+named_fault P F (Place to) = unless (nat_lt to (length F.code)) BAD_JUMP
+named_fault P F (Called f) = unless (nat_lt f (length P.functions)) BAD_FUNCTION
+named_fault P F (Forked f) = unless (has_args 1 (function_at P f)) BAD_FUNCTION
+named_fault P F (Class c) = unless (nat_lt c (length P.classes)) BAD_CLASS
+named_fault P F (Thrown code) = None
+
 abbrev pub instr_fault : Bytecode → Function → Instr → Option ℕ
-instr_fault P F (Push n) = None
-instr_fault P F Pop = None
-instr_fault P F Dup = None
-instr_fault P F Swap = None
-instr_fault P F (Load k) = unless (nat_lt k F.locals) BAD_LOCAL
-instr_fault P F (Store k) = unless (nat_lt k F.locals) BAD_LOCAL
-instr_fault P F (Inc k n) = unless (nat_lt k F.locals) BAD_LOCAL
-instr_fault P F Add = None
-instr_fault P F Sub = None
-instr_fault P F Mul = None
-instr_fault P F Div = None
-instr_fault P F Rem = None
-instr_fault P F Neg = None
-instr_fault P F Eq = None
-instr_fault P F Lt = None
-instr_fault P F Le = None
-instr_fault P F Not = None
-instr_fault P F And = None
-instr_fault P F Or = None
-instr_fault P F Xor = None
-instr_fault P F (Jump to) = unless (nat_lt to (length F.code)) BAD_JUMP
-instr_fault P F (Jz to) = unless (nat_lt to (length F.code)) BAD_JUMP
-instr_fault P F (Jnz to) = unless (nat_lt to (length F.code)) BAD_JUMP
-instr_fault P F (Call f) = unless (nat_lt f (length P.functions)) BAD_FUNCTION
-instr_fault P F Ret = None
-instr_fault P F Halt = None
-instr_fault P F (Throw code) = None
-instr_fault P F Nop = None
-instr_fault P F (New c) = unless (nat_lt c (length P.classes)) BAD_CLASS
-instr_fault P F (Get k) = None
-instr_fault P F (Put k) = None
-instr_fault P F (Vget k) = None
-instr_fault P F (Vput k) = None
-instr_fault P F Enter = None
-instr_fault P F Exit = None
-instr_fault P F (Fork f) = unless (has_args 1 (function_at P f)) BAD_FUNCTION
-instr_fault P F Join = None
-instr_fault P F SelfId = None
-instr_fault P F Txbegin = None
-instr_fault P F Commit = None
-instr_fault P F Print = None
-instr_fault P F Input = None
+instr_fault P F i = named_fault P F (named_by i)
 
 -- what is wrong with a catch of function F: its target is no instruction, or its ends are not in order within the code
 abbrev pub catch_fault : Function → Catch → Option ℕ
@@ -214,9 +181,17 @@ TellsFirst D (Memory error) = Unit {0}
 
 -- ## Codes that are thrown
 
+abbrev pub IsThrowable : Named → Type 0
+IsThrowable (Thrown code) = (LEAST_THROWN ≤ code) × (code ≤ MOST_THROWN)
+IsThrowable Nothing = Unit {0}
+IsThrowable (Local k) = Unit {0}
+IsThrowable (Place to) = Unit {0}
+IsThrowable (Called f) = Unit {0}
+IsThrowable (Forked f) = Unit {0}
+IsThrowable (Class c) = Unit {0}
+
 abbrev pub ThrowsInRange : Instr → Type 0
-ThrowsInRange (Throw code) = (LEAST_THROWN ≤ code) × (code ≤ MOST_THROWN)
-ThrowsInRange _ = Unit {0}
+ThrowsInRange i = IsThrowable (named_by i)
 
 abbrev pub AllThrowInRange : List Function → Type 0
 AllThrowInRange Fs = AllByRecursion (λ F. AllByRecursion ThrowsInRange F.code) Fs

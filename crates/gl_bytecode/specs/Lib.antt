@@ -1,5 +1,6 @@
 pub mod Attending
 pub mod Catches
+pub mod Examples
 pub mod Faults
 pub mod Forced
 pub mod Fits

@@ -2,59 +2,26 @@
 use Rattle.std.specs.Prelude.{◌≡◌, ℕ, ◌+◌, ◌-◌, ◌<◌, ◌≤◌, length, slice_get, Option, Some}
 use Rattle.std.specs.List.{AllByRecursion}
 use Rattle.gl_bytecode.specs.declared.instr.Instr.{Instr}
-use Rattle.gl_bytecode.specs.declared.instr.Instr.TheVariants.{Push, Pop, Dup, Swap, Load, Store, Inc, Add, Sub, Mul, Div, Rem, Neg, Eq, Lt, Le, Not, And, Or, Xor, Jump, Jz, Jnz, Call, Ret, Halt, Throw, Nop, New, Get, Put, Vget, Vput, Enter, Exit, Fork, Join, SelfId, Txbegin, Commit, Print, Input}
 use Rattle.gl_bytecode.specs.declared.limits.TheConstants.{CODE, LOCALS, OPERANDS}
-use Rattle.gl_bytecode.specs.Instructions.{needs, gives, successors}
+use Rattle.gl_bytecode.specs.Instructions.{Named, Nothing, Local, Place, Called, Forked, Class, Thrown, gives, named_by, needs, successors}
 use Rattle.gl_bytecode.specs.Programs.{Bytecode, Function, function_at}
 
 -- the depth of the stack before the instruction of function f at a place, for those that are reached
 abbrev pub Depths : Type 0
 Depths = ℕ → ℕ → Option ℕ
 
--- the local, function or class that an instruction of function F names is there
+-- the local, function or class that is named in function F is there; that a place is there follows from the depths
+abbrev pub IsThere : Bytecode → Function → Named → Type 0
+IsThere P F Nothing = Unit {0}
+IsThere P F (Local k) = k < F.locals
+IsThere P F (Place to) = Unit {0}
+IsThere P F (Called f) = f < length P.functions
+IsThere P F (Forked f) = (G : Function) × (function_at P f ≡ Some G) × (G.args ≡ 1)
+IsThere P F (Class c) = c < length P.classes
+IsThere P F (Thrown code) = Unit {0}
+
 abbrev pub NamesWhatIs : Bytecode → Function → Instr → Type 0
-NamesWhatIs P F (Push n) = Unit {0}
-NamesWhatIs P F Pop = Unit {0}
-NamesWhatIs P F Dup = Unit {0}
-NamesWhatIs P F Swap = Unit {0}
-NamesWhatIs P F (Load k) = k < F.locals
-NamesWhatIs P F (Store k) = k < F.locals
-NamesWhatIs P F (Inc k n) = k < F.locals
-NamesWhatIs P F Add = Unit {0}
-NamesWhatIs P F Sub = Unit {0}
-NamesWhatIs P F Mul = Unit {0}
-NamesWhatIs P F Div = Unit {0}
-NamesWhatIs P F Rem = Unit {0}
-NamesWhatIs P F Neg = Unit {0}
-NamesWhatIs P F Eq = Unit {0}
-NamesWhatIs P F Lt = Unit {0}
-NamesWhatIs P F Le = Unit {0}
-NamesWhatIs P F Not = Unit {0}
-NamesWhatIs P F And = Unit {0}
-NamesWhatIs P F Or = Unit {0}
-NamesWhatIs P F Xor = Unit {0}
-NamesWhatIs P F (Jump to) = Unit {0}
-NamesWhatIs P F (Jz to) = Unit {0}
-NamesWhatIs P F (Jnz to) = Unit {0}
-NamesWhatIs P F (Call f) = f < length P.functions
-NamesWhatIs P F Ret = Unit {0}
-NamesWhatIs P F Halt = Unit {0}
-NamesWhatIs P F (Throw code) = Unit {0}
-NamesWhatIs P F Nop = Unit {0}
-NamesWhatIs P F (New c) = c < length P.classes
-NamesWhatIs P F (Get k) = Unit {0}
-NamesWhatIs P F (Put k) = Unit {0}
-NamesWhatIs P F (Vget k) = Unit {0}
-NamesWhatIs P F (Vput k) = Unit {0}
-NamesWhatIs P F Enter = Unit {0}
-NamesWhatIs P F Exit = Unit {0}
-NamesWhatIs P F (Fork f) = (G : Function) × (function_at P f ≡ Some G) × (G.args ≡ 1)
-NamesWhatIs P F Join = Unit {0}
-NamesWhatIs P F SelfId = Unit {0}
-NamesWhatIs P F Txbegin = Unit {0}
-NamesWhatIs P F Commit = Unit {0}
-NamesWhatIs P F Print = Unit {0}
-NamesWhatIs P F Input = Unit {0}
+NamesWhatIs P F i = IsThere P F (named_by i)
 
 -- the instruction at a place that is reached at depth d
 pub record Goes (P : Bytecode) (D : Depths) (f : ℕ) (F : Function) (at d : ℕ) : Type 0 where

@@ -24,7 +24,9 @@ pub use fault::{
     STACK_DEPTH, TOO_LONG,
 };
 pub use instr::{Catch, Flow, Instr};
-pub use laws::{exchanges_are_forced, one_meaning, references_are_read_back};
+pub use laws::{
+    definitions_can_be_met, exchanges_are_forced, one_meaning, references_are_read_back,
+};
 pub use limits::{
     BAD_THREAD, CALLERS, CATCHES, CODE, DEPTH, DIVIDE, HEAP_FULL, INPUT_END, LEAST_THROWN, LOCALS,
     MOST_THROWN, NO_FIELD, NOT_OWNER, NULL, OPERANDS, RACE, THREADS_FULL, TX_STATE, TX_TOO_LARGE,

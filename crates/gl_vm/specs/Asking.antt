@@ -68,9 +68,38 @@ state_at main (IsOver ending) = Ended
 abbrev pub state_told : Ask → ThreadState → ThreadState
 state_told Begin state = Running
 state_told End state = Ended
-state_told _ state = state
+state_told Go state = state
+state_told (Over ending) state = state
+state_told (Read x) state = state
+state_told (Write x a) state = state
+state_told (VRead v) state = state
+state_told (VWrite v a) state = state
+state_told (Enter o) state = state
+state_told (Exit o) state = state
+state_told (Fork f a) state = state
+state_told (Join u) state = state
+state_told (Alloc c) state = state
+state_told (Print a) state = state
+state_told Input state = state
+state_told TxBegin state = state
+state_told (TxEnd keep) state = state
 
 -- the ask does not begin an attempt
 abbrev pub BeginsNone : Ask → Type 0
 BeginsNone TxBegin = ⊥
-BeginsNone _ = Unit {0}
+BeginsNone Go = Unit {0}
+BeginsNone Begin = Unit {0}
+BeginsNone End = Unit {0}
+BeginsNone (Over ending) = Unit {0}
+BeginsNone (Read x) = Unit {0}
+BeginsNone (Write x a) = Unit {0}
+BeginsNone (VRead v) = Unit {0}
+BeginsNone (VWrite v a) = Unit {0}
+BeginsNone (Enter o) = Unit {0}
+BeginsNone (Exit o) = Unit {0}
+BeginsNone (Fork f a) = Unit {0}
+BeginsNone (Join u) = Unit {0}
+BeginsNone (Alloc c) = Unit {0}
+BeginsNone (Print a) = Unit {0}
+BeginsNone Input = Unit {0}
+BeginsNone (TxEnd keep) = Unit {0}

@@ -32,7 +32,22 @@ IsAskedBy i (TxEnd keep) = i ≡ Commit
 -- an attempt that is asked to end runs
 abbrev pub EndsWhatRuns : Ask → Option Attempt → Type 0
 EndsWhatRuns (TxEnd keep) attempt = is_some attempt ≡ true
-EndsWhatRuns _ attempt = Unit {0}
+EndsWhatRuns Go attempt = Unit {0}
+EndsWhatRuns Begin attempt = Unit {0}
+EndsWhatRuns End attempt = Unit {0}
+EndsWhatRuns (Over ending) attempt = Unit {0}
+EndsWhatRuns (Read x) attempt = Unit {0}
+EndsWhatRuns (Write x a) attempt = Unit {0}
+EndsWhatRuns (VRead v) attempt = Unit {0}
+EndsWhatRuns (VWrite v a) attempt = Unit {0}
+EndsWhatRuns (AskEnter o) attempt = Unit {0}
+EndsWhatRuns (AskExit o) attempt = Unit {0}
+EndsWhatRuns (AskFork f a) attempt = Unit {0}
+EndsWhatRuns (AskJoin u) attempt = Unit {0}
+EndsWhatRuns (Alloc c) attempt = Unit {0}
+EndsWhatRuns (AskPrint a) attempt = Unit {0}
+EndsWhatRuns AskInput attempt = Unit {0}
+EndsWhatRuns TxBegin attempt = Unit {0}
 
 -- the monitor is there and was entered
 pub record IsEntered (levels : List ℕ) (o : ℕ) : Type 0 where
