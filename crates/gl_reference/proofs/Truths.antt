@@ -5,7 +5,7 @@ use Rattle.std.proofs.lemmas.Bool.{eqb-true, ltb-true, lt-ltb}
 use Rattle.gl_model.specs.declared.event.Act.TheVariants.{Begin, End, Fork, Join}
 use Rattle.gl_model.specs.declared.event.Event.TheVariants.{Act as Does, Commit}
 use Rattle.gl_model.specs.declared.event.Stamp.{Stamp}
-use Rattle.gl_model.specs.Edges.{SynchronizesWith, unlock_lock, write_read, fork_begin, end_join, commits, Unlocks, Locks, WritesVolatile, ReadsVolatile}
+use Rattle.gl_model.specs.Edges.{SynchronizesWith, release_acquire, fork_begin, end_join, commits, monitor, volatile, released, acquired}
 
 -- two numbers are one, and one is below the other
 pub eq_test : (a b : ℕ) → IsTrue (a == b) ↔ (a ≡ b)
@@ -56,30 +56,32 @@ shared a b P Q t p q test = (
 -- the five cases
 Cases : Stamp → Stamp → Type 0
 Cases e f =
-    (((((o : ℕ) × Unlocks e.event o × Locks f.event o) ⊎ ((x : ℕ) × WritesVolatile e.event x × ReadsVolatile f.event x)) ⊎
+    (((((o : ℕ) × (released e.event ≡ Some (monitor o)) × (acquired f.event ≡ Some (monitor o))) ⊎
+    ((x : ℕ) × (released e.event ≡ Some (volatile x)) × (acquired f.event ≡ Some (volatile x)))) ⊎
     (((h : ℕ) × (e.event ≡ Does (Fork f.thread h))) × ((h : ℕ) × (f.event ≡ Does (Begin h))))) ⊎
     ((e.event ≡ Does End) × (f.event ≡ Does (Join e.thread)))) ⊎
     ((x : ℕ) × (xs : List ℕ) × (ys : List ℕ) × (e.event ≡ Commit xs) × (f.event ≡ Commit ys) × Contains xs x × Contains ys x)
 
 from_case : (e f : Stamp) → Cases e f → SynchronizesWith e f
 unfolding Cases
-from_case e f (inl (inl (inl (inl (o, u, l))))) = unlock_lock o u l
-from_case e f (inl (inl (inl (inr (x, w, r))))) = write_read x w r
+from_case e f (inl (inl (inl (inl (o, u, l))))) = release_acquire (monitor o) u l
+from_case e f (inl (inl (inl (inr (x, w, r))))) = release_acquire (volatile x) w r
 from_case e f (inl (inl (inr ((g, forked), (k, begun))))) = fork_begin g k forked begun
 from_case e f (inl (inr (ended, joined))) = end_join ended joined
 from_case e f (inr (x, xs, ys, first, second, one, other)) = commits x xs ys first second one other
 
 to_case : (e f : Stamp) → SynchronizesWith e f → Cases e f
 unfolding Cases
-to_case e f (unlock_lock o u l) = inl (inl (inl (inl (o, u, l))))
-to_case e f (write_read x w r) = inl (inl (inl (inr (x, w, r))))
+to_case e f (release_acquire (monitor o) u l) = inl (inl (inl (inl (o, u, l))))
+to_case e f (release_acquire (volatile x) w r) = inl (inl (inl (inr (x, w, r))))
 to_case e f (fork_begin g k forked begun) = inl (inl (inr ((g, forked), (k, begun))))
 to_case e f (end_join ended joined) = inl (inr (ended, joined))
 to_case e f (commits x xs ys first second one other) = inr (x, xs, ys, first, second, one, other)
 
 pub synchronizes_by :
     (e f : Stamp) (m v k g n j c : Bool) →
-    IsTrue m ↔ ((o : ℕ) × Unlocks e.event o × Locks f.event o) → IsTrue v ↔ ((x : ℕ) × WritesVolatile e.event x × ReadsVolatile f.event x) →
+    IsTrue m ↔ ((o : ℕ) × (released e.event ≡ Some (monitor o)) × (acquired f.event ≡ Some (monitor o))) →
+    IsTrue v ↔ ((x : ℕ) × (released e.event ≡ Some (volatile x)) × (acquired f.event ≡ Some (volatile x))) →
     IsTrue k ↔ ((h : ℕ) × (e.event ≡ Does (Fork f.thread h))) → IsTrue g ↔ ((h : ℕ) × (f.event ≡ Does (Begin h))) →
     IsTrue n ↔ (e.event ≡ Does End) → IsTrue j ↔ (f.event ≡ Does (Join e.thread)) →
     IsTrue c ↔ ((x : ℕ) × (xs : List ℕ) × (ys : List ℕ) × (e.event ≡ Commit xs) × (f.event ≡ Commit ys) × Contains xs x × Contains ys x) →

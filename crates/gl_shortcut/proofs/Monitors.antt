@@ -1,12 +1,12 @@
 -- What an event does to the monitors, and who owned one earlier.
-use Rattle.std.proofs.Common.{◌≡◌, ℕ, zero, suc, ◌+◌, ◌==◌, List, [], ◌∷◌, take, drop, refl, sym, ◌∙◌, ap, subst, arith, inl, inr, true, false, Bool}
+use Rattle.std.proofs.Common.{◌≡◌, ℕ, zero, suc, ◌+◌, ◌==◌, List, [], ◌∷◌, take, drop, refl, sym, ◌∙◌, ap, subst, arith, inl, inr, Some, true, false, Bool}
 use Rattle.std.specs.Prelude.{◌⊎◌, ℤ, if◌then◌else◌}
 use native.Mathlib.Decide.{ℕ_discrete}
 use Rattle.gl_model.specs.declared.event.Act.TheVariants.{Begin, End, Acq, Rel, VRead, VWrite, Fork, Join, Alloc, Print, Input, Fail}
 use Rattle.gl_model.specs.declared.event.Event.{Event}
 use Rattle.gl_model.specs.declared.event.Event.TheVariants.{Act as Does, Commit}
 use Rattle.gl_model.specs.declared.event.Stamp.{Stamp}
-use Rattle.gl_model.specs.Edges.{Locks, Unlocks}
+use Rattle.gl_model.specs.Edges.{monitor, released, acquired}
 use Rattle.gl_model.specs.Machine.{Setting, State, MonitorState, Free, Owned, Run, Entered, Effect, left_once, with_at}
 use Rattle.gl_draws.proofs.DrawTies.{with_here, with_else}
 
@@ -57,7 +57,7 @@ left_not t u depth d apart z = here (depth == 0) z
 
 -- after its own event an owner t still owns, or it left, and u does not own
 pub own_step : (o t u : ℕ) (e : Event) (f g : ℕ → MonitorState) → (t ≡ u → ⊥) → MonitorStep t e f g → IsOwner t (f o) → IsOwner t (g o)
-    ⊎ (Unlocks e o × (IsOwner u (g o) → ⊥))
+    ⊎ ((released e ≡ Some (monitor o)) × (IsOwner u (g o) → ⊥))
 own_step o t u e f g apart (enters p m is en eq) own = elim (ℕ_discrete o p) [
   | yes same ↦
       (let at : f p ≡ Owned t own.0 = ap f (sym same) ∙ own.1 in
@@ -68,16 +68,16 @@ own_step o t u e f g apart (enters p m is en eq) own = elim (ℕ_discrete o p) [
 own_step o t u e f g apart (leaves p depth is old eq) own = elim (ℕ_discrete o p) [
   | yes same ↦
       (let at : g o ≡ left_once t depth = ap g same ∙ ap (λ k. k p) eq ∙ with_here f p (left_once t depth) in
-      inr (subst (λ k. Unlocks k o) (sym is) (sym same), λ w. left_not t u depth w.0 apart (sym at ∙ w.1)))
+      inr (subst (λ k. released k ≡ Some (monitor o)) (sym is) (ap (λ q. Some (monitor q)) (sym same)), λ w. left_not t u depth w.0 apart (sym at ∙ w.1)))
   | no other ↦ inl (own.0, ap (λ k. k o) eq ∙ with_else f p o (left_once t depth) other ∙ own.1)
 ]
 own_step o t u e f g apart (keeps na nr eq) own = inl (own.0, ap (λ k. k o) eq ∙ own.1)
 
 -- where u did not own it, it does not after its own event, or it entered
 pub take_step : (o u : ℕ) (e : Event) (f g : ℕ → MonitorState) → MonitorStep u e f g → (IsOwner u (f o) → ⊥) → (IsOwner u (g o) → ⊥)
-    ⊎ Locks e o
+    ⊎ (acquired e ≡ Some (monitor o))
 take_step o u e f g (enters p m is en eq) none = elim (ℕ_discrete o p) [
-  | yes same ↦ inr (subst (λ k. Locks k o) (sym is) (sym same))
+  | yes same ↦ inr (subst (λ k. acquired k ≡ Some (monitor o)) (sym is) (ap (λ q. Some (monitor q)) (sym same)))
   | no other ↦ inl (λ w. none (w.0, sym (ap (λ k. k o) eq ∙ with_else f p o m other) ∙ w.1))
 ]
 take_step o u e f g (leaves p depth is old eq) none = elim (ℕ_discrete o p) [

@@ -5,7 +5,7 @@ use native.Mathlib.Decide.{ℕ_discrete}
 use Rattle.gl_model.specs.declared.event.Stamp.{Stamp}
 use Rattle.gl_model.specs.declared.row.Info.{Info}
 use Rattle.gl_model.specs.declared.row.Question.{Question}
-use Rattle.gl_model.specs.Edges.{EventAt, Locks, Unlocks, unlock_lock}
+use Rattle.gl_model.specs.Edges.{EventAt, monitor, released, acquired, release_acquire}
 use Rattle.gl_model.specs.Infos.{InfoFor}
 use Rattle.gl_model.specs.Locksets.{Access}
 use Rattle.gl_model.specs.Machine.{Setting, State, Owned, Owns, Step, Run, start}
@@ -31,7 +31,7 @@ module _ (setting : Setting) (o : ℕ) where
     pub event : Stamp
     pub here : EventAt xs place event
     pub own : event.thread ≡ u
-    pub locks : Locks event.event o
+    pub locks : acquired event.event ≡ Some (monitor o)
 
   abbrev later_entering : (x : Stamp) (xs : List Stamp) (u : ℕ) → Entering xs u → Entering (x ∷ xs) u
   later_entering x xs u k = record { place = suc k.place; event = k.event; here = k.here; own = k.own; locks = k.locks }
@@ -53,7 +53,7 @@ module _ (setting : Setting) (o : ℕ) where
     pub leaving : Stamp
     pub there : EventAt xs left leaving
     pub owner : leaving.thread ≡ t
-    pub unlocks : Unlocks leaving.event o
+    pub unlocks : released leaving.event ≡ Some (monitor o)
     pub entering : Entering xs u
     pub rises : left < entering.place
 
@@ -122,6 +122,6 @@ shared_orders setting h i a write q stands next o kept keeps = elim (ℕ_discret
       let at' = got (a.block + 1) h g.entering.place g.entering.event g.entering.here in
       let rises = g.rises in
       let reached = edge_on g.leaving g.entering.event (own_later g.leaving at (omega arith) g.owner) at at' (omega arith)
-      (unlock_lock o g.unlocks g.entering.locks) in
+      (release_acquire (monitor o) g.unlocks g.entering.locks) in
       ∣ inl (by_thread h a q.thread q.commit (inr (a.block + 1 + g.entering.place, (g.entering.event, at', g.entering.own, reached)))) ∣₁)
 ]
