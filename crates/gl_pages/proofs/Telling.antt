@@ -27,9 +27,6 @@ at_more [] e d (suc i) there = absurd (cc)
 at_more (a ∷ es) e d zero there = inl there
 at_more (a ∷ es) e d (suc i) there = at_more es e d i there
 
-pub none_told : (run : LawfulRun) → AreTold run [] []
-none_told run = record { of = refl; each = λ i e there. absurd (cc) }
-
 pub one_told : (run : LawfulRun) (causes : List Cause) (n : ℕ) (c : Cause) (es : List Explanation) (e : Explanation)
     → slice_get causes n ≡ Some c → cause_of e ≡ c → IsExplained run e → AreTold run (take n causes) es
     → AreTold run (take (n + 1) causes) (es ++ e ∷ [])
