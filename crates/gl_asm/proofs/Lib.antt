@@ -1,7 +1,6 @@
 pub mod IndexLemmas
 pub mod ListedLengths
 pub mod ListedLimits
-pub mod ListedLines
 pub mod ListedNames
 pub mod ListedNumbers
 pub mod ListedProgram

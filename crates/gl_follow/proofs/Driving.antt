@@ -12,15 +12,18 @@ use Rattle.gl_vm.specs.Orderly.{IsOrderly}
 use Rattle.gl_vm.proofs.Work.{step_falls}
 use Rattle.gl_follow.specs.Steps.{HasRoomFor}
 
+-- a reply that is quiet is told as it is
 pub told_quietly : (P : Bytecode) (p q : Progress) (reply : Reply) → is_quiet p.config.attempt p (ask_of p.config.stage) reply ≡ true
     → replied P p (Some reply) ≡ Some q → told_one P (Quiet reply) p ≡ Some q
 told_quietly P p q reply quiet told = ap (λ b. replied P p (when b reply)) quiet ∙ told
 
+-- a word that is neither written nor looked at is not known
 unknown : (w l : Option ℤ) → (is_some w || is_some l) ≡ false → known_word w l ≡ None
 unknown (Some a) l is = cc
 unknown None (Some b) is = cc
 unknown None None is = refl
 
+-- a test that it is below the limit
 below : (n : ℕ) → nat_lt n TX_VARIABLES ≡ true → n < TX_VARIABLES
 below n is = search (rules, is)
 
@@ -49,6 +52,7 @@ quiet_room p ask reply quiet = record { look = look; write = write } where
         ap (λ o. is_quiet o p ask reply) some ∙ ap (λ k. is_quiet (Some b) p k reply) asks ∙ ap (is_quiet (Some b) p (Write x a)) is in
         sym same ∙ quiet
 
+-- a reply that is taken leaves the machine orderly
 pub orderly_next : (P : Bytecode) (p : Progress) (reply : Reply) → IsOrderly P p.config → takes p.config reply ≡ true
     → IsOrderly P (next P p.config reply)
 orderly_next P p reply orderly taken = (step_falls P p.config reply orderly taken).orderly

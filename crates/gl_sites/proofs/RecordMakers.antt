@@ -18,14 +18,17 @@ pub record AreMadeBelow (P : Bytecode) (steps : ℕ) (R : Lists) (n : ℕ) (make
   pub count : length makers ≡ n
   pub each : (t : ℕ) → t < n → AreMakers P steps t (R t) (slice_index_or makers t [])
 
+-- beyond the end of a list is the default
 none_at : {A : Type 0} (xs : List A) (d : A) (n : ℕ) → length xs ≤ n → d ≡ slice_index_or xs n d
 none_at [] d n past = refl
 none_at (a ∷ xs) d zero past = absurd (omega arith)
 none_at (a ∷ xs) d (suc n) past = none_at xs d n (omega arith)
 
+-- of no threads
 pub none_below : (P : Bytecode) (steps : ℕ) (R : Lists) → AreMadeBelow P steps R 0 []
 none_below P steps R = record { count = refl; each = λ t less. absurd (omega (arith, less)) }
 
+-- of all threads that there are
 pub all_below : (P : Bytecode) (steps : ℕ) (made : List (ℕ × List Entry)) (makers : List (List Maker)) → AllByRecursion IsListKept made
     → AreMadeBelow P steps (lists_of made) THREADS makers → AreMakersOf P steps (lists_of made) makers
 all_below P steps made makers kept below t = elim (cases_lt t THREADS) [

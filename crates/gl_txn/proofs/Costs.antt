@@ -15,6 +15,7 @@ costs_steps steps p q known is =
     let o = ap (λ (m : Moves). m.others) is in
     record { words = omega arith; stores = omega arith; others = omega arith }
 
+-- two parts, one after the other
 pub costs_both : (a b c s t u : ℕ) (p q r : PassView) → EndCosts s a p q → EndCosts t b q r → s + t ≡ u → a + b ≤ c → EndCosts u c p r
 costs_both a b c s t u p q r x y e le =
     let l = x.words in
