@@ -72,7 +72,9 @@ own_step o t u e f g apart (enters p m is en eq) own = elim (ℕ_discrete o p) [
 own_step o t u e f g apart (leaves p depth is old eq) own = elim (ℕ_discrete o p) [
   | yes same ↦
       (let at : g o ≡ left_once t depth = ap g same ∙ ap (λ k. k p) eq ∙ with_here f p (left_once t depth) in
-      inr (subst (λ k. released k ≡ Some (monitor o)) (sym is) (ap (λ q. Some (monitor q)) (sym same)), λ w. left_not t u depth w.0 apart (sym at ∙ w.1)))
+      let left : released e ≡ Some (monitor o) =
+      subst (λ k. released k ≡ Some (monitor o)) (sym is) (ap (λ q. Some (monitor q)) (sym same)) in
+      inr (left, λ w. left_not t u depth w.0 apart (sym at ∙ w.1)))
   | no other ↦ inl (own.0, ap (λ k. k o) eq ∙ with_else f p o (left_once t depth) other ∙ own.1)
 ]
 own_step o t u e f g apart (keeps na nr eq) own = inl (own.0, ap (λ k. k o) eq ∙ own.1)
