@@ -2,7 +2,6 @@ pub mod AllWords
 pub mod IndexLemmas
 pub mod ListedLengths
 pub mod ListedLimits
-pub mod ListedLines
 pub mod ListedNames
 pub mod ListedNumbers
 pub mod ListedProgram

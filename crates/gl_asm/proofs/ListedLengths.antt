@@ -10,7 +10,7 @@ use Rattle.gl_asm.specs.declared.table.Operand.{Operand}
 use Rattle.gl_asm.specs.declared.table.Operand.TheVariants.{Nothing, Value, Index, IndexAndValue, Code, Label, Function, Class}
 use Rattle.gl_asm.specs.Listing.{function_name, label_name}
 use Rattle.gl_asm.specs.Words.{operand_of, word_of}
-use Rattle.gl_asm.proofs.ListedLines.{indented, spaced}
+use Rattle.gl_text.proofs.WordLines.{indented, spaced}
 use Rattle.gl_asm.proofs.ListedNames.{class_name, of_function}
 use Rattle.gl_asm.specs.Listable.{IsValue}
 use Rattle.gl_asm.proofs.ListedNumbers.{few_digits, few_digits_below}

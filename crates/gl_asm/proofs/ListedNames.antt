@@ -12,7 +12,7 @@ use Rattle.gl_asm.specs.declared.limits.TheConstants.{MOST_INDEX, NAME_TAIL}
 use Rattle.gl_asm.specs.Listing.{function_name, label_name}
 use Rattle.gl_asm.specs.declared.names.TheConstants.{COLON}
 use Rattle.gl_asm.specs.Names.{is_name, is_name_byte, label_of}
-use Rattle.gl_asm.proofs.ListedLines.{IsWord, IsWordByte, all_append}
+use Rattle.gl_text.proofs.WordLines.{IsWord, IsWordByte, all_append}
 use Rattle.gl_asm.proofs.ListedNumbers.{IsDigit, decimal_digits, word_decimal}
 
 abbrev pub class_name : ℕ → List ℕ

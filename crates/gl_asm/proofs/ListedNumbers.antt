@@ -14,7 +14,7 @@ use Rattle.gl_text.specs.Number.{digits_value, magnitude_of, number_of, signed_o
 use Rattle.gl_asm.specs.Listable.{IsValue}
 use Rattle.gl_asm.specs.declared.limits.TheConstants.{LEAST_VALUE, MOST_VALUE}
 use Rattle.gl_asm.specs.Additions.{count_of, found, natural, value_of}
-use Rattle.gl_asm.proofs.ListedLines.{IsWord, IsWordByte, all_map}
+use Rattle.gl_text.proofs.WordLines.{IsWord, IsWordByte, all_map}
 
 -- ## Digits
 

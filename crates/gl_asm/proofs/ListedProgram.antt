@@ -17,7 +17,7 @@ use Rattle.gl_asm.specs.Listable.{OperandsAreTyped}
 use Rattle.gl_asm.specs.Listing.{listing}
 use Rattle.gl_asm.specs.Texts.{IsText, LineFault, lines_read, text_read}
 use Rattle.gl_asm.proofs.ListedLimits.{has_main, limits_of, listable, short_classes}
-use Rattle.gl_asm.proofs.ListedLines.{lines_of_ended}
+use Rattle.gl_text.proofs.WordLines.{lines_of_ended}
 use Rattle.gl_asm.proofs.ListedNames.{main_is}
 use Rattle.gl_asm.proofs.ListedRows.{functions_rows, listing_is, rows}
 use Rattle.gl_asm.proofs.ListedSize.{rows_fit}

@@ -6,7 +6,7 @@ use Rattle.gl_bytecode.specs.declared.instr.Instr.{Instr}
 use Rattle.gl_bytecode.specs.declared.object.Fields.{Fields}
 use Rattle.gl_bytecode.specs.Programs.{Bytecode, Function}
 use Rattle.gl_asm.specs.Listing.{body, catch_line, class_line, code_line, each_from, function_text, header, instr_line, is_named, label_line, listing}
-use Rattle.gl_asm.proofs.ListedLines.{ended, indented, spaced}
+use Rattle.gl_text.proofs.WordLines.{ended, indented, spaced}
 use Rattle.gl_asm.proofs.ListedWords.{catch_line_is, catch_words, class_line_is, class_words, header_is, header_words, instr_line_is, instr_words, label_line_is, label_words}
 
 -- ## One row

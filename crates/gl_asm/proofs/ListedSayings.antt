@@ -28,7 +28,7 @@ use Rattle.gl_asm.specs.Forms.{form_of}
 use Rattle.gl_asm.specs.Listing.{function_name, label_name}
 use Rattle.gl_asm.specs.Sayings.{form_says, is_placed, said, words_say}
 use Rattle.gl_asm.specs.Words.{filled, operand_of}
-use Rattle.gl_asm.proofs.ListedLines.{IsPlain, indented, not_bad, plain_indented, plain_spaced, spaced, words_indented, words_spaced}
+use Rattle.gl_text.proofs.WordLines.{IsPlain, indented, not_bad, plain_indented, plain_spaced, spaced, words_indented, words_spaced}
 use Rattle.gl_asm.proofs.ListedNames.{class_name, label_of_colon}
 use Rattle.gl_asm.specs.Listable.{IsValue}
 use Rattle.gl_asm.proofs.ListedNumbers.{count_decimal, value_decimal}

@@ -28,7 +28,7 @@ use Rattle.gl_asm.specs.Listing.{function_name, label_name}
 use Rattle.gl_asm.specs.Sayings.{said}
 use Rattle.gl_asm.specs.Texts.{LineFault, added, inputs_in}
 use Rattle.gl_asm.specs.Words.{operand_of}
-use Rattle.gl_asm.proofs.ListedLines.{words_indented, words_spaced}
+use Rattle.gl_text.proofs.WordLines.{words_indented, words_spaced}
 use Rattle.gl_asm.proofs.ListedNames.{class_name, is_class_name, is_function_name, is_label_name, label_of_colon}
 use Rattle.gl_asm.proofs.ListedRows.{catch_row, catch_rows, class_row, class_rows, code_rows, function_rows, functions_rows, header_row, instr_row, label_row, label_rows, names_of}
 use Rattle.gl_asm.proofs.ListedTable.{AreFree, Stands, counts, definition, found_next, free_class, free_function, free_label, free_place, is_defined, is_new, means, more_is, stands_on}

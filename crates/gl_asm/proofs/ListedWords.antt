@@ -16,7 +16,7 @@ use Rattle.gl_asm.specs.declared.table.Operand.TheVariants.{Nothing, Value, Inde
 use Rattle.gl_asm.specs.Forms.{form_of, word_form}
 use Rattle.gl_asm.specs.Listing.{catch_line, class_line, function_name, header, instr_line, label_line, label_name, operand_text}
 use Rattle.gl_asm.specs.Words.{filled, operand_of, word_of}
-use Rattle.gl_asm.proofs.ListedLines.{AreWords, IsWord, IsWordByte, ended, indented, spaced}
+use Rattle.gl_text.proofs.WordLines.{AreWords, IsWord, IsWordByte, ended, indented, spaced}
 use Rattle.gl_asm.proofs.ListedNames.{class_name, colon, label_of_colon, word_class, word_colon, word_function, word_label}
 use Rattle.gl_asm.specs.Listable.{IsValue}
 use Rattle.gl_asm.proofs.ListedNumbers.{word_decimal, word_signed}

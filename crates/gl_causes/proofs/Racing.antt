@@ -107,14 +107,6 @@ same_block R t i j b e f there no_event no_later here less between block = recor
   last = λ l q s made le. block.last l q s made (omega arith);
 }
 
-plain_position : (e : Entry) → IsPlain e → position_of e ≡ None
-plain_position (Plain var nth cached write value raised) p = refl
-plain_position (Sync at act value) p = absurd p
-plain_position (Commit at tx) p = absurd p
-plain_position (Abort tx why) p = absurd p
-plain_position (Trim low) p = absurd p
-plain_position (Over ending) p = absurd p
-
 module _ (setting : Setting) (R : Lists) (h : List Stamp) (now : State) (rows : List (List ℕ)) (stands : List Stand)
     (L : Laid setting R h now rows stands) (sd : Stand) (isd : IsStand R sd) (r : Refusal) (a : Asked)
     (refused : refusal_of sd.entry ≡ Some r) (asked : IsAsked rows stands sd r a) where

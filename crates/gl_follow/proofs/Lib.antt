@@ -6,5 +6,4 @@ pub mod Quiet
 pub mod Stopping
 pub mod Threads
 pub mod Turning
-pub mod Unions
 pub mod WordLemmas

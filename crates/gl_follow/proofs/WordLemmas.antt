@@ -13,7 +13,7 @@ use Rattle.gl_model.specs.Kept.{AreVariables}
 use Rattle.gl_model.specs.Rising.{with_all, with_one, with_part}
 use Rattle.gl_bytecode.specs.Runs.{Progress, is_its_end, known_word, same_words, with_word, word_of}
 use Rattle.gl_follow.specs.Words.{Touched, look_word, pair_var, pair_word, size_of}
-use Rattle.gl_follow.proofs.Unions.{all_grow, all_left, all_one, all_right, in_next, keys_with, one_all, one_fits}
+use Rattle.gl_model.proofs.PutParts.{all_grow, all_left, all_one, all_right, in_next, keys_with, one_all, one_fits}
 
 pub word_pairs : (ws : List Pair) (x : ℕ) → word_of (map pair_word ws) x ≡ option_map (λ w. w.value) (find (λ p. p.var == x) ws)
 word_pairs [] x = refl

@@ -9,7 +9,7 @@ use Rattle.std.proofs.lemmas.Int.{ints}
 use Rattle.gl_asm.specs.declared.limits.TheConstants.{LONGEST}
 use Rattle.gl_asm.specs.Listable.{IsValue}
 use Rattle.gl_asm.specs.Texts.{IsText, lines_read, text_read}
-use Rattle.gl_asm.proofs.ListedLines.{AreWords, IsPlain, IsWordByte, all_append, all_map, ended, lines_of_ended, not_bad, plain_indented, words_indented}
+use Rattle.gl_text.proofs.WordLines.{AreWords, IsPlain, IsWordByte, all_append, all_map, ended, lines_of_ended, not_bad, plain_indented, words_indented}
 use Rattle.gl_asm.proofs.ListedNumbers.{value_decimal, word_decimal}
 use Rattle.gl_gen.specs.Bank.{bank_program}
 use Rattle.gl_gen.specs.BankText.{Line, bank_lines, bank_text, main_lines, transfer_lines}

@@ -27,7 +27,7 @@ use Rattle.gl_journal.specs.Rows.{entry_row, tx_words}
 use Rattle.gl_journal.specs.SyncKinds.{act_of, arg_of, kind_in, kind_of, most_of, word_of}
 use Rattle.gl_journal.specs.Written.{IsActTyped, IsEntryStamped, IsEntryTyped, IsTxStamped, IsTxTyped, IsValue, NamesFew, TxNamesFew}
 use Rattle.gl_journal.proofs.BackLists.{tx_are_words, tx_back}
-use Rattle.gl_journal.proofs.WrittenLines.{AreWords, IsWord, IsWordByte}
+use Rattle.gl_text.proofs.WordLines.{AreWords, IsWord, IsWordByte}
 use Rattle.gl_journal.proofs.WrittenNumbers.{natural_back, numeral_decimal, numeral_is_word, numeral_signed, value_back_in}
 
 -- ## Words of small letters

@@ -25,7 +25,7 @@ use Rattle.gl_journal.specs.Parts.{is_byte, is_set, list_in, list_pieces, look_i
 use Rattle.gl_journal.specs.Rows.{list_word, look_word, number_word, pair_word, tx_words}
 use Rattle.gl_journal.specs.Transactions.{lists_of, names_few, tx_in, tx_of, vars_of}
 use Rattle.gl_journal.specs.Written.{IsTxStamped, IsTxTyped, IsValue, TxNamesFew}
-use Rattle.gl_journal.proofs.WrittenLines.{IsWord, IsWordByte, all_append, all_map}
+use Rattle.gl_text.proofs.WordLines.{IsWord, IsWordByte, all_append, all_map}
 use Rattle.gl_journal.proofs.WrittenNumbers.{IsNumeral, IsNumeralByte, begins_with_digit, natural_back, numeral_decimal, numeral_is_word, numeral_signed, value_back_in}
 
 -- ## Bytes of numbers

@@ -21,7 +21,8 @@ use Rattle.gl_journal.specs.Meaning.{AreClean, IsRecordText, body_read, fault_of
 use Rattle.gl_journal.specs.Rows.{Row, entry_row, entry_rows, header_row, list_rows, record_rows, record_text, thread_row}
 use Rattle.gl_journal.specs.Written.{AllEntries, CanBeSaid, IsEntryStamped, IsEntryTyped, NamesFew}
 use Rattle.gl_journal.proofs.BackEntries.{count_is, decimal_word, entry_are_words, entry_back, form_for, form_is, keyword, some_words}
-use Rattle.gl_journal.proofs.WrittenLines.{AreWords, IsWord, lines_of_rows, not_bad, plain_spaced, spaced, words_spaced}
+use Rattle.gl_text.proofs.WordLines.{AreWords, IsWord, not_bad, plain_spaced, spaced, words_spaced}
+use Rattle.gl_journal.proofs.WrittenLines.{lines_of_rows}
 use Rattle.gl_journal.proofs.WrittenNumbers.{natural_back}
 
 -- ## Rows, one after another

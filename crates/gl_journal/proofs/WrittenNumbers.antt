@@ -14,7 +14,7 @@ use Rattle.gl_text.specs.Number.{digits_value, magnitude_of, number_of, signed_o
 use Rattle.gl_journal.specs.Fields.{found, natural_in, not_negative, value_in}
 use Rattle.gl_journal.specs.Written.{IsValue}
 use Rattle.gl_journal.specs.declared.limits.TheConstants.{LEAST_VALUE, MOST_VALUE}
-use Rattle.gl_journal.proofs.WrittenLines.{IsWord, IsWordByte, all_map}
+use Rattle.gl_text.proofs.WordLines.{IsWord, IsWordByte, all_map}
 
 -- ## Digits
 

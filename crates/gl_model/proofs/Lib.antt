@@ -6,5 +6,5 @@ pub mod RisingLists
 pub mod ListsOf
 pub mod Pushed
 pub mod Parts
-pub mod Reported
+pub mod PutParts
 pub mod Unions

@@ -1,40 +1,9 @@
 -- The variables of two lists, put together one by one.
-use Rattle.std.proofs.Common.{◌≡◌, ◌+◌, ◌<◌, ◌≤◌, ℕ, List, [], ◌∷◌, nat_lt, ◌==◌, length, drop, get_or, Contains, suc, inl, inr, refl, ap, sym, ◌∙◌, arith}
-use Rattle.std.proofs.lemmas.Bool.{cases_Bool, eqb-true}
+use Rattle.std.proofs.Common.{◌≡◌, ◌<◌, ℕ, List, ◌∷◌, length, drop, get_or, Contains, suc, ap, sym, ◌∙◌, arith}
 use Rattle.std.proofs.Math.Seq.{drop-cons}
 use Rattle.gl_model.specs.declared.limits.TheConstants.{TX_VARIABLES}
 use Rattle.gl_model.specs.Rising.{with_one, with_all}
-
--- with one more, or many, a list is no shorter
-one_grows : (x : ℕ) (ys : List ℕ) → length ys ≤ length (with_one x ys)
-one_grows x [] = omega arith
-one_grows x (y ∷ ys) =
-    elim (cases_Bool (x == y)) [
-      | inl e ↦ rw e (omega arith)
-      | inr e ↦
-          elim (cases_Bool (nat_lt x y)) [
-            | inl f ↦ rw (e, f) (omega arith)
-            | inr f ↦ let more = one_grows x ys in rw (e, f) (omega arith)
-          ]
-    ]
-
-all_grow : (xs ys : List ℕ) → length ys ≤ length (with_all xs ys)
-all_grow [] ys = omega arith
-all_grow (x ∷ xs) ys = let one = one_grows x ys in let rest = all_grow xs (with_one x ys) in omega arith
-
--- a number that is not there is one more
-one_new : (x : ℕ) (ys : List ℕ) → (Contains ys x → ⊥) → length (with_one x ys) ≡ length ys + 1
-one_new x [] none = refl
-one_new x (y ∷ ys) none =
-    elim (cases_Bool (x == y)) [
-      | inl e ↦ absurd (none (0, omega arith, sym (eqb-true x y e)))
-      | inr e ↦
-          elim (cases_Bool (nat_lt x y)) [
-            | inl f ↦ rw (e, f) (omega arith)
-            | inr f ↦ let more : length (with_one x ys) ≡ length ys + 1 = one_new x ys (λ h. none (suc h.0, omega (arith, h.1), h.2))
-                in rw (e, f) (omega arith)
-          ]
-    ]
+use Rattle.gl_model.proofs.PutParts.{one_new, all_grow}
 
 -- there is no room for one of them, so there are more than may be
 pub too_wide : (items writes reads all : List ℕ) (i : ℕ) → items ≡ writes → i < length items → with_all (drop i writes) all

@@ -1,7 +1,7 @@
 -- Synchronizes-with: which event of the list releases to which later one (the Java Language Specification, 17.4.4). Monitors and
--- volatiles go through what an event unlocks, locks, writes and reads, one row for each kind of event. The edge between two
--- commits is this project's own, after Goldilocks.
-use Rattle.std.specs.Prelude.{◌≡◌, ℕ, List, Contains, slice_get, Some}
+-- volatiles go through two tables, what an event releases and what it acquires, with one row for each kind of event. The edge
+-- between two commits is this project's own, after Goldilocks.
+use Rattle.std.specs.Prelude.{◌≡◌, ℕ, List, Contains, slice_get, Option, Some, None}
 use Rattle.gl_model.specs.declared.event.Act.TheVariants.{Begin, End, Acq, Rel, VRead, VWrite, Fork, Join, Alloc, Print, Input, Fail}
 use Rattle.gl_model.specs.declared.event.Event.{Event}
 use Rattle.gl_model.specs.declared.event.Event.TheVariants.{Act as Does, Commit}
@@ -11,76 +11,47 @@ use Rattle.gl_model.specs.declared.event.Stamp.{Stamp}
 abbrev pub EventAt : List Stamp → ℕ → Stamp → Type 0
 EventAt h p e = slice_get h p ≡ Some e
 
--- the event leaves the monitor o, once
-abbrev pub Unlocks : Event → ℕ → Type 0
-Unlocks (Does (Begin f)) o = ⊥
-Unlocks (Does End) o = ⊥
-Unlocks (Does (Acq p)) o = ⊥
-Unlocks (Does (Rel p)) o = p ≡ o
-Unlocks (Does (VRead w)) o = ⊥
-Unlocks (Does (VWrite w)) o = ⊥
-Unlocks (Does (Fork u f)) o = ⊥
-Unlocks (Does (Join u)) o = ⊥
-Unlocks (Does (Alloc c)) o = ⊥
-Unlocks (Does Print) o = ⊥
-Unlocks (Does Input) o = ⊥
-Unlocks (Does (Fail k)) o = ⊥
-Unlocks (Commit xs) o = ⊥
+-- what threads synchronize on: a monitor, or a volatile
+pub data SynchronizationObject : Type 0 where
+  monitor : ℕ → SynchronizationObject
+  volatile : ℕ → SynchronizationObject
 
--- the event enters the monitor o, once
-abbrev pub Locks : Event → ℕ → Type 0
-Locks (Does (Begin f)) o = ⊥
-Locks (Does End) o = ⊥
-Locks (Does (Acq p)) o = p ≡ o
-Locks (Does (Rel p)) o = ⊥
-Locks (Does (VRead w)) o = ⊥
-Locks (Does (VWrite w)) o = ⊥
-Locks (Does (Fork u f)) o = ⊥
-Locks (Does (Join u)) o = ⊥
-Locks (Does (Alloc c)) o = ⊥
-Locks (Does Print) o = ⊥
-Locks (Does Input) o = ⊥
-Locks (Does (Fail k)) o = ⊥
-Locks (Commit xs) o = ⊥
+-- what the event releases: the monitor that it leaves, once, or the volatile that it writes
+abbrev pub released : Event → Option SynchronizationObject
+released (Does (Begin f)) = None
+released (Does End) = None
+released (Does (Acq o)) = None
+released (Does (Rel o)) = Some (monitor o)
+released (Does (VRead v)) = None
+released (Does (VWrite v)) = Some (volatile v)
+released (Does (Fork u f)) = None
+released (Does (Join u)) = None
+released (Does (Alloc c)) = None
+released (Does Print) = None
+released (Does Input) = None
+released (Does (Fail k)) = None
+released (Commit xs) = None
 
--- the event writes the volatile v
-abbrev pub WritesVolatile : Event → ℕ → Type 0
-WritesVolatile (Does (Begin f)) v = ⊥
-WritesVolatile (Does End) v = ⊥
-WritesVolatile (Does (Acq p)) v = ⊥
-WritesVolatile (Does (Rel p)) v = ⊥
-WritesVolatile (Does (VRead w)) v = ⊥
-WritesVolatile (Does (VWrite w)) v = w ≡ v
-WritesVolatile (Does (Fork u f)) v = ⊥
-WritesVolatile (Does (Join u)) v = ⊥
-WritesVolatile (Does (Alloc c)) v = ⊥
-WritesVolatile (Does Print) v = ⊥
-WritesVolatile (Does Input) v = ⊥
-WritesVolatile (Does (Fail k)) v = ⊥
-WritesVolatile (Commit xs) v = ⊥
-
--- the event reads the volatile v
-abbrev pub ReadsVolatile : Event → ℕ → Type 0
-ReadsVolatile (Does (Begin f)) v = ⊥
-ReadsVolatile (Does End) v = ⊥
-ReadsVolatile (Does (Acq p)) v = ⊥
-ReadsVolatile (Does (Rel p)) v = ⊥
-ReadsVolatile (Does (VRead w)) v = w ≡ v
-ReadsVolatile (Does (VWrite w)) v = ⊥
-ReadsVolatile (Does (Fork u f)) v = ⊥
-ReadsVolatile (Does (Join u)) v = ⊥
-ReadsVolatile (Does (Alloc c)) v = ⊥
-ReadsVolatile (Does Print) v = ⊥
-ReadsVolatile (Does Input) v = ⊥
-ReadsVolatile (Does (Fail k)) v = ⊥
-ReadsVolatile (Commit xs) v = ⊥
+-- what the event acquires: the monitor that it enters, once, or the volatile that it reads
+abbrev pub acquired : Event → Option SynchronizationObject
+acquired (Does (Begin f)) = None
+acquired (Does End) = None
+acquired (Does (Acq o)) = Some (monitor o)
+acquired (Does (Rel o)) = None
+acquired (Does (VRead v)) = Some (volatile v)
+acquired (Does (VWrite v)) = None
+acquired (Does (Fork u f)) = None
+acquired (Does (Join u)) = None
+acquired (Does (Alloc c)) = None
+acquired (Does Print) = None
+acquired (Does Input) = None
+acquired (Does (Fail k)) = None
+acquired (Commit xs) = None
 
 -- The event e synchronizes with the event f, which comes later in the list.
 pub data SynchronizesWith (e f : Stamp) : Type 0 where
-  -- an unlock of a monitor with each later lock of it, an inner one too
-  unlock_lock : (o : ℕ) → Unlocks e.event o → Locks f.event o → SynchronizesWith e f
-  -- a write of a volatile with each later read of it
-  write_read : (v : ℕ) → WritesVolatile e.event v → ReadsVolatile f.event v → SynchronizesWith e f
+  -- an unlock of a monitor with each later lock of it, an inner one too, and a write of a volatile with each later read of it
+  release_acquire : (x : SynchronizationObject) → released e.event ≡ Some x → acquired f.event ≡ Some x → SynchronizesWith e f
   -- the fork of a thread with its first event
   fork_begin : (g k : ℕ) → e.event ≡ Does (Fork f.thread g) → f.event ≡ Does (Begin k) → SynchronizesWith e f
   -- the last event of a thread with the join of it

@@ -5,12 +5,13 @@ use Rattle.std.proofs.lemmas.Bool.{eqb-true, ltb-true, lt-ltb}
 use Rattle.gl_model.specs.declared.event.Act.TheVariants.{Begin, End, Fork, Join}
 use Rattle.gl_model.specs.declared.event.Event.TheVariants.{Act as Does, Commit}
 use Rattle.gl_model.specs.declared.event.Stamp.{Stamp}
-use Rattle.gl_model.specs.Edges.{SynchronizesWith, unlock_lock, write_read, fork_begin, end_join, commits, Unlocks, Locks, WritesVolatile, ReadsVolatile}
+use Rattle.gl_model.specs.Edges.{SynchronizesWith, release_acquire, fork_begin, end_join, commits, monitor, volatile, released, acquired}
 
 -- two numbers are one, and one is below the other
 pub eq_test : (a b : ℕ) → IsTrue (a == b) ↔ (a ≡ b)
 eq_test a b = (λ t. eqb-true a b t, λ e. eq-eqb a b e)
 
+-- one number is below the other
 pub lt_test : (a b : ℕ) → IsTrue (nat_lt a b) ↔ (a < b)
 lt_test a b = (λ t. ltb-true a b t, λ l. lt-ltb a b l)
 
@@ -19,9 +20,11 @@ pub negated : (b : Bool) (P : Type 0) → IsTrue b ↔ P → IsTrue (not b) ↔ 
 negated true P p = (λ t. absurd (cc), λ w. absurd (w (p.0 refl)))
 negated false P p = (λ _ x. (let yes = p.1 x in cc), λ _. refl)
 
+-- a test is its own fact
 pub truth : (b : Bool) → IsTrue b ↔ (b ≡ true)
 truth b = (λ t. t, λ t. t)
 
+-- a test that there is nothing
 pub none_test : {A : Type 0} (o : Option A) (b : Bool) → is_some o ≡ not b → IsTrue b ↔ (o ≡ None)
 none_test None true is = (λ _. refl, λ _. refl)
 none_test None false is = absurd (cc)
@@ -33,6 +36,7 @@ pub either : (a b : Bool) (P Q : Type 0) → IsTrue a ↔ P → IsTrue b ↔ Q �
 either true b P Q p q = (λ _. inl (p.0 refl), λ _. refl)
 either false b P Q p q = (λ t. inr (q.0 t), λ w. elim w [ inl x ↦ absurd (let n = p.1 x in cc) | inr y ↦ q.1 y ])
 
+-- both of two tests
 pub both : (a b : Bool) (P Q : Type 0) → IsTrue a ↔ P → IsTrue b ↔ Q → IsTrue (a && b) ↔ (P × Q)
 both true b P Q p q = (λ t. (p.0 refl, q.0 t), λ w. q.1 w.1)
 both false b P Q p q = (λ t. absurd (cc), λ w. absurd (let n = p.1 w.0 in cc))
@@ -41,6 +45,7 @@ both false b P Q p q = (λ t. absurd (cc), λ w. absurd (let n = p.1 w.0 in cc))
 pub first_holds : (a b : Bool) (P Q : Type 0) → a ≡ true → IsTrue a ↔ P → IsTrue b ↔ Q → IsTrue b ↔ (P × Q)
 first_holds a b P Q e p q = (λ t. (p.0 e, q.0 t), λ w. q.1 w.1)
 
+-- and where the first fails, so do both
 pub first_fails : (a : Bool) (P Q : Type 0) → a ≡ false → IsTrue a ↔ P → IsTrue false ↔ (P × Q)
 first_fails a P Q e p = (λ t. absurd (cc), λ w. absurd (let n = p.1 w.0 in cc))
 
@@ -56,30 +61,35 @@ shared a b P Q t p q test = (
 -- the five cases
 Cases : Stamp → Stamp → Type 0
 Cases e f =
-    (((((o : ℕ) × Unlocks e.event o × Locks f.event o) ⊎ ((x : ℕ) × WritesVolatile e.event x × ReadsVolatile f.event x)) ⊎
+    (((((o : ℕ) × (released e.event ≡ Some (monitor o)) × (acquired f.event ≡ Some (monitor o))) ⊎
+    ((x : ℕ) × (released e.event ≡ Some (volatile x)) × (acquired f.event ≡ Some (volatile x)))) ⊎
     (((h : ℕ) × (e.event ≡ Does (Fork f.thread h))) × ((h : ℕ) × (f.event ≡ Does (Begin h))))) ⊎
     ((e.event ≡ Does End) × (f.event ≡ Does (Join e.thread)))) ⊎
     ((x : ℕ) × (xs : List ℕ) × (ys : List ℕ) × (e.event ≡ Commit xs) × (f.event ≡ Commit ys) × Contains xs x × Contains ys x)
 
+-- each of them is a case of the definition
 from_case : (e f : Stamp) → Cases e f → SynchronizesWith e f
 unfolding Cases
-from_case e f (inl (inl (inl (inl (o, u, l))))) = unlock_lock o u l
-from_case e f (inl (inl (inl (inr (x, w, r))))) = write_read x w r
+from_case e f (inl (inl (inl (inl (o, u, l))))) = release_acquire (monitor o) u l
+from_case e f (inl (inl (inl (inr (x, w, r))))) = release_acquire (volatile x) w r
 from_case e f (inl (inl (inr ((g, forked), (k, begun))))) = fork_begin g k forked begun
 from_case e f (inl (inr (ended, joined))) = end_join ended joined
 from_case e f (inr (x, xs, ys, first, second, one, other)) = commits x xs ys first second one other
 
+-- and there are no others
 to_case : (e f : Stamp) → SynchronizesWith e f → Cases e f
 unfolding Cases
-to_case e f (unlock_lock o u l) = inl (inl (inl (inl (o, u, l))))
-to_case e f (write_read x w r) = inl (inl (inl (inr (x, w, r))))
+to_case e f (release_acquire (monitor o) u l) = inl (inl (inl (inl (o, u, l))))
+to_case e f (release_acquire (volatile x) w r) = inl (inl (inl (inr (x, w, r))))
 to_case e f (fork_begin g k forked begun) = inl (inl (inr ((g, forked), (k, begun))))
 to_case e f (end_join ended joined) = inl (inr (ended, joined))
 to_case e f (commits x xs ys first second one other) = inr (x, xs, ys, first, second, one, other)
 
+-- so five tests, put together, decide it
 pub synchronizes_by :
     (e f : Stamp) (m v k g n j c : Bool) →
-    IsTrue m ↔ ((o : ℕ) × Unlocks e.event o × Locks f.event o) → IsTrue v ↔ ((x : ℕ) × WritesVolatile e.event x × ReadsVolatile f.event x) →
+    IsTrue m ↔ ((o : ℕ) × (released e.event ≡ Some (monitor o)) × (acquired f.event ≡ Some (monitor o))) →
+    IsTrue v ↔ ((x : ℕ) × (released e.event ≡ Some (volatile x)) × (acquired f.event ≡ Some (volatile x))) →
     IsTrue k ↔ ((h : ℕ) × (e.event ≡ Does (Fork f.thread h))) → IsTrue g ↔ ((h : ℕ) × (f.event ≡ Does (Begin h))) →
     IsTrue n ↔ (e.event ≡ Does End) → IsTrue j ↔ (f.event ≡ Does (Join e.thread)) →
     IsTrue c ↔ ((x : ℕ) × (xs : List ℕ) × (ys : List ℕ) × (e.event ≡ Commit xs) × (f.event ≡ Commit ys) × Contains xs x × Contains ys x) →

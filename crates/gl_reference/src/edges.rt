@@ -1,5 +1,5 @@
 ghost use Rattle.std.specs.Prelude.{◌≡◌, ◌↔◌, ℕ, IsTrue, Contains, Option, Some, None, List};
-ghost use Rattle.gl_model.specs.Edges.{SynchronizesWith, Unlocks, Locks, WritesVolatile, ReadsVolatile};
+ghost use Rattle.gl_model.specs.Edges.{SynchronizesWith, monitor, volatile, released, acquired};
 ghost use Rattle.gl_model.specs.declared.event.Act.TheVariants.{Begin, End, Fork, Join};
 ghost use Rattle.gl_model.specs.declared.event.Event.TheVariants.{Act as Does, Commit};
 
@@ -7,7 +7,7 @@ use gl_model::{Act, Event, Stamp};
 
 // The monitor that the event leaves.
 fn unlocked(event: &Event) -> Option<u16>
-    ensures { (o : ℕ) → Unlocks event.now o ↔ (result ≡ Some o) }
+    ensures { (o : ℕ) → (released event.now ≡ Some (monitor o)) ↔ (result ≡ Some o) }
 {
     match event {
         Event::Act(Act::Rel(o)) => Some(*o),
@@ -17,7 +17,7 @@ fn unlocked(event: &Event) -> Option<u16>
 
 // The monitor that the event enters.
 fn locked(event: &Event) -> Option<u16>
-    ensures { (o : ℕ) → Locks event.now o ↔ (result ≡ Some o) }
+    ensures { (o : ℕ) → (acquired event.now ≡ Some (monitor o)) ↔ (result ≡ Some o) }
 {
     match event {
         Event::Act(Act::Acq(o)) => Some(*o),
@@ -27,7 +27,7 @@ fn locked(event: &Event) -> Option<u16>
 
 // The volatile that the event writes.
 fn written(event: &Event) -> Option<u16>
-    ensures { (v : ℕ) → WritesVolatile event.now v ↔ (result ≡ Some v) }
+    ensures { (v : ℕ) → (released event.now ≡ Some (volatile v)) ↔ (result ≡ Some v) }
 {
     match event {
         Event::Act(Act::VWrite(v)) => Some(*v),
@@ -37,7 +37,7 @@ fn written(event: &Event) -> Option<u16>
 
 // The volatile that the event reads.
 fn read(event: &Event) -> Option<u16>
-    ensures { (v : ℕ) → ReadsVolatile event.now v ↔ (result ≡ Some v) }
+    ensures { (v : ℕ) → (acquired event.now ≡ Some (volatile v)) ↔ (result ≡ Some v) }
 {
     match event {
         Event::Act(Act::VRead(v)) => Some(*v),

@@ -1,6 +1,7 @@
 -- A pass that loads events.
 use Rattle.std.specs.Prelude.{◌≡◌, ◌≢◌, ◌⊎◌, ℕ, suc, ◌+◌, ◌*◌, ◌<◌, List, [], ◌∷◌, ◌++◌, length, Contains}
 use Rattle.gl_model.specs.declared.event.Stamp.{Stamp}
+use Rattle.gl_model.specs.declared.limits.TheConstants.{THREADS}
 use Rattle.gl_model.specs.declared.row.Info.{Info}
 use Rattle.gl_model.specs.declared.row.Row.{Row}
 use Rattle.gl_rule.specs.declared.slot.Slot.TheVariants as slot
@@ -36,7 +37,7 @@ HasWalked row p q = HasWalkedTo row p.seen p q
 
 -- the pass read the turn of x's row as held by this one, which is another, and did nothing else
 pub record ReadBusy (x by : ℕ) (p q : PassView) : Type 0 where
-  pub near : by < 16
+  pub near : by < THREADS
   pub other : by ≢ p.own.id
   pub reads : q.reads ≡ p.reads ++ Busy (suc x) by ∷ []
   pub own : q.own ≡ p.own

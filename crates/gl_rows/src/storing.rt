@@ -1,6 +1,6 @@
 // A private word that is stored in its row.
 ghost use Rattle.std.specs.Prelude.{◌≡◌, ◌≢◌, ◌<◌, [], Contains, OnOk, OnErr, IfErr};
-ghost use Rattle.gl_model.specs.declared.limits.TheConstants.{VARIABLES};
+ghost use Rattle.gl_model.specs.declared.limits.TheConstants.{THREADS, VARIABLES};
 ghost use Rattle.gl_rule.specs.View.{moved};
 ghost use Rattle.gl_rows.specs.WritingBack.{IsWrittenBack, read_busy, without_owed};
 
@@ -17,7 +17,7 @@ pub fn write_back(shared: &Shared, pass: &mut Pass, var: u16, value: i64) -> Res
     ensures own { OnOk result (pass.new.own ≡ record pass.old.own { owed = without_owed var pass.old.own.owed }) }
     ensures cost { OnOk result (pass.new.moves ≡ moved 4 pass.old.moves) }
     ensures kept { OnErr result (pass.new.own ≡ pass.old.own) }
-    ensures busy { IfErr result (λ b. (b.by < 16) × (pass.new ≡ read_busy pass.old var b.by)) }
+    ensures busy { IfErr result (λ b. (b.by < THREADS) × (pass.new ≡ read_busy pass.old var b.by)) }
     ensures other { IfErr result (λ b. b.by ≢ pass.old.own.id) }
 {
     let mut kept = shared.take_row(pass, var)?;

@@ -1,5 +1,5 @@
 -- The positions, numbers and low marks of a closed table's record are bounded.
-use Rattle.std.proofs.Common.{◌≡◌, ℕ, ◌+◌, ◌*◌, ◌<◌, ◌≤◌, length, refl, subst, arith, inl, inr, Some, true, false, Bool}
+use Rattle.std.proofs.Common.{◌≡◌, ℕ, ◌*◌, ◌<◌, ◌≤◌, length, refl, subst, arith, inl, inr, Some, true, false, Bool}
 use Rattle.std.specs.Prelude.{ℤ, ◌^◌}
 use Rattle.std.proofs.lemmas.Option.{slice_get_within}
 use Rattle.std.proofs.Math.Nat.{le-mul_of_pos_right}
@@ -16,7 +16,7 @@ use Rattle.gl_draws.proofs.DrawPlaces.{draw_below, event_there}
 use Rattle.gl_draws.proofs.Forming.{log_bound}
 use Rattle.gl_draws.proofs.Origins.{gives_is}
 use Rattle.gl_rule.specs.declared.slot.Slot.{Slot}
-use Rattle.gl_rule.specs.Bounded.{IsBounded, most_stamp}
+use Rattle.gl_rule.specs.Bounded.{IsBounded, most_stamp, most_events, most_draws}
 use Rattle.gl_rule.specs.Closed.{IsClosed, lists_in}
 use Rattle.gl_rule.specs.Laws.{HasAll}
 use Rattle.gl_rule.specs.Objects.{Key, board, capacity}
@@ -31,14 +31,14 @@ module _ (setting : Setting) (low : ℕ) (R : Lists) (c : IsClosed setting low R
       let ev = event_there e n is in
       let event = (c.events p.thread).listed p.index n e ev.0 at is ev.1 in
       let near = slice_get_within c.log n (record { thread = p.thread; event = ev.0 }) event in
-      let few : length c.log ≤ 2 ^ 54 = c.few_events in omega arith
+      let few : length c.log ≤ most_events = c.few_events in omega arith
 
   -- a number that was drawn is one of its variable's draws
   drawn : (p : Place) (e : Entry) (x k : ℕ) → EntryAt R p e → Draws e x k → k < most_stamp
   drawn p e x k at is =
       let m = (c.tied.at p.thread).made x k p.index e at is in
       let near : k < length (c.draws x) = draw_below (c.draws x) k m.0 m.1 in
-      let few : length (c.draws x) ≤ 2 ^ 55 + 32 = c.few_draws x in omega arith
+      let few : length (c.draws x) ≤ most_draws = c.few_draws x in omega arith
 
   -- a repeat has the number of the access that gives the right to it
   repeated : (p : Place) (x k : ℕ) (write : Bool) (value : ℤ) → EntryAt R p (Plain x k true write value false) → k < most_stamp

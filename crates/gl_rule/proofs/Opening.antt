@@ -24,7 +24,8 @@ use Rattle.gl_rule.specs.Knowledge.{AreBelow}
 use Rattle.gl_rule.specs.Machine.{ShelfCarries}
 use Rattle.gl_rule.specs.Refusals.{ShelfRefusals}
 use Rattle.gl_rule.specs.Ring.{ShelfTrims}
-use Rattle.gl_rule.specs.Opened.{empty_row, first_slots, shelves_from, sixteen}
+use Rattle.gl_state.specs.Starting.{empty_row}
+use Rattle.gl_rule.specs.Opened.{first_slots, shelves_from, sixteen}
 use Rattle.gl_rule.specs.Rule.{Fits, Rule}
 use Rattle.gl_rule.proofs.Seats.{blank_fits}
 use Rattle.gl_rule.specs.Tries.{TellsTaken}

@@ -1,5 +1,5 @@
 -- What is known of the lists of all passes when a table is closed, and when a pass is done.
-use Rattle.std.specs.Prelude.{◌≡◌, ◌⊎◌, Bool, ℕ, ℤ, ◌<◌, ◌≤◌, true, false, ◌==◌, ◌+◌, ◌^◌, if◌then◌else◌, List, [], ◌∷◌, length}
+use Rattle.std.specs.Prelude.{◌≡◌, ◌⊎◌, Bool, ℕ, ℤ, ◌<◌, ◌≤◌, true, false, ◌==◌, if◌then◌else◌, List, [], ◌∷◌, length}
 use Rattle.gl_model.specs.declared.event.Stamp.{Stamp}
 use Rattle.gl_model.specs.Entries.{Entry, Plain}
 use Rattle.gl_model.specs.Form.{At, IsOver, ListForm, Numbered, IsMachineRun}
@@ -12,6 +12,7 @@ use Rattle.gl_draws.specs.Events.{AreEvents}
 use Rattle.gl_draws.specs.Ties.{AreTied}
 use Rattle.gl_draws.specs.Verdicts.{DrawsHold}
 use Rattle.gl_draws.specs.Refusals.{RefusalsHold}
+use Rattle.gl_rule.specs.Bounded.{most_events, most_draws}
 use Rattle.gl_rule.specs.Refusals.{ShelfRefusals}
 use Rattle.gl_rule.specs.Ring.{LowHolds, ShelfTrims}
 use Rattle.gl_rule.specs.View.{Shelf, shelf}
@@ -27,9 +28,9 @@ pub record IsClosed (setting : Setting) (low : ℕ) (R : Lists) : Type 0 where
   pub draws : ℕ → List Draw
   pub until : ℕ → ℕ → ℕ
   pub trims : List (ℕ × ℕ)
-  -- so few are made by 16 threads
-  pub few_events : length log ≤ 2 ^ 54
-  pub few_draws : (x : ℕ) → length (draws x) ≤ 2 ^ 55 + 32
+  -- so few are made by all threads together
+  pub few_events : length log ≤ most_events
+  pub few_draws : (x : ℕ) → length (draws x) ≤ most_draws
   pub events : (t : ℕ) → AreEvents log t (R t)
   pub tied : AreTied R draws
   pub hold : (x : ℕ) → DrawsHold log x (draws x)

@@ -1,19 +1,15 @@
 -- What a table begins with.
-use Rattle.std.specs.Prelude.{ℕ, zero, suc, pos, List, [], ◌∷◌, replicate, None}
-use Rattle.gl_model.specs.declared.row.Row.{Row}
+use Rattle.std.specs.Prelude.{ℕ, zero, suc, List, [], ◌∷◌, replicate}
 use Rattle.gl_rule.specs.declared.slot.Slot.{Slot}
 use Rattle.gl_rule.specs.declared.slot.Slot.TheVariants as slot
 use Rattle.gl_state.specs.ListView.{ListView}
+use Rattle.gl_state.specs.Starting.{empty_row}
 use Rattle.gl_rule.specs.Objects.{Key, capacity, word_count}
 use Rattle.gl_rule.specs.View.{Shelf, shelf}
 
 -- the words: all turns are free, no event was made, no number drawn, and no hold raised
 abbrev pub first_words : Key → List ℕ
 first_words key = replicate (word_count (capacity key)) 0
-
--- a row of a variable that nobody has accessed
-abbrev pub empty_row : Row
-empty_row = record { value = pos 0; last_write = None; reads = replicate 16 None }
 
 -- the slots: the list's state, and a row for each variable
 abbrev pub first_slots : ListView → List Slot

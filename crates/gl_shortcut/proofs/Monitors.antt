@@ -1,12 +1,12 @@
 -- What an event does to the monitors, and who owned one earlier.
-use Rattle.std.proofs.Common.{◌≡◌, ℕ, zero, suc, ◌+◌, ◌==◌, List, [], ◌∷◌, take, drop, refl, sym, ◌∙◌, ap, subst, arith, inl, inr, true, false, Bool}
+use Rattle.std.proofs.Common.{◌≡◌, ℕ, zero, suc, ◌+◌, ◌==◌, List, [], ◌∷◌, take, drop, refl, sym, ◌∙◌, ap, subst, arith, inl, inr, Some, true, false, Bool}
 use Rattle.std.specs.Prelude.{◌⊎◌, ℤ, if◌then◌else◌}
 use native.Mathlib.Decide.{ℕ_discrete}
 use Rattle.gl_model.specs.declared.event.Act.TheVariants.{Begin, End, Acq, Rel, VRead, VWrite, Fork, Join, Alloc, Print, Input, Fail}
 use Rattle.gl_model.specs.declared.event.Event.{Event}
 use Rattle.gl_model.specs.declared.event.Event.TheVariants.{Act as Does, Commit}
 use Rattle.gl_model.specs.declared.event.Stamp.{Stamp}
-use Rattle.gl_model.specs.Edges.{Locks, Unlocks}
+use Rattle.gl_model.specs.Edges.{monitor, released, acquired}
 use Rattle.gl_model.specs.Machine.{Setting, State, MonitorState, Free, Owned, Run, Entered, Effect, left_once, with_at}
 use Rattle.gl_draws.proofs.DrawTies.{with_here, with_else}
 
@@ -16,6 +16,7 @@ pub data MonitorStep (t : ℕ) (e : Event) (f g : ℕ → MonitorState) : Type 0
   leaves : (p depth : ℕ) → e ≡ Does (Rel p) → f p ≡ Owned t (depth + 1) → g ≡ with_at f p (left_once t depth) → MonitorStep t e f g
   keeps : ((p : ℕ) → e ≡ Does (Acq p) → ⊥) → ((p : ℕ) → e ≡ Does (Rel p) → ⊥) → g ≡ f → MonitorStep t e f g
 
+-- each event of the machine does one of these
 pub monitor_step : (setting : Setting) (old new : State) (t : ℕ) (e : Event) (value : ℤ) → Effect setting old t e value new
     → MonitorStep t e old.monitors new.monitors
 monitor_step setting old new t (Does (Begin f)) value k = keeps (λ p z. absurd (cc)) (λ p z. absurd (cc)) (ap (λ (s : State). s.monitors) k)
@@ -38,9 +39,11 @@ monitor_step setting old new t (Does (Fail c)) value k =
     keeps (λ p z. absurd (cc)) (λ p z. absurd (cc)) (ap (λ (s : State). s.monitors) k.1)
 monitor_step setting old new t (Commit xs) value k = keeps (λ p z. absurd (cc)) (λ p z. absurd (cc)) (ap (λ (s : State). s.monitors) k)
 
+-- a monitor has one owner
 owned_by : (t u d e : ℕ) → Owned t d ≡ Owned u e → t ≡ u
 owned_by t u d e h = cc
 
+-- and one depth
 owned_deep : (t u d e : ℕ) → Owned t (d + 1) ≡ Owned u (e + 1) → d ≡ e
 owned_deep t u d e h = let k : d + 1 ≡ e + 1 = cc in omega arith
 
@@ -48,6 +51,7 @@ owned_deep t u d e h = let k : d + 1 ≡ e + 1 = cc in omega arith
 abbrev pub IsOwner : ℕ → MonitorState → Type 0
 IsOwner t m = (d : ℕ) × (m ≡ Owned t d)
 
+-- what t has left once, another does not own
 left_not : (t u depth d : ℕ) → (t ≡ u → ⊥) → left_once t depth ≡ Owned u d → ⊥
 left_not t u depth d apart z = here (depth == 0) z
   where
@@ -57,7 +61,7 @@ left_not t u depth d apart z = here (depth == 0) z
 
 -- after its own event an owner t still owns, or it left, and u does not own
 pub own_step : (o t u : ℕ) (e : Event) (f g : ℕ → MonitorState) → (t ≡ u → ⊥) → MonitorStep t e f g → IsOwner t (f o) → IsOwner t (g o)
-    ⊎ (Unlocks e o × (IsOwner u (g o) → ⊥))
+    ⊎ ((released e ≡ Some (monitor o)) × (IsOwner u (g o) → ⊥))
 own_step o t u e f g apart (enters p m is en eq) own = elim (ℕ_discrete o p) [
   | yes same ↦
       (let at : f p ≡ Owned t own.0 = ap f (sym same) ∙ own.1 in
@@ -68,16 +72,18 @@ own_step o t u e f g apart (enters p m is en eq) own = elim (ℕ_discrete o p) [
 own_step o t u e f g apart (leaves p depth is old eq) own = elim (ℕ_discrete o p) [
   | yes same ↦
       (let at : g o ≡ left_once t depth = ap g same ∙ ap (λ k. k p) eq ∙ with_here f p (left_once t depth) in
-      inr (subst (λ k. Unlocks k o) (sym is) (sym same), λ w. left_not t u depth w.0 apart (sym at ∙ w.1)))
+      let left : released e ≡ Some (monitor o) =
+      subst (λ k. released k ≡ Some (monitor o)) (sym is) (ap (λ q. Some (monitor q)) (sym same)) in
+      inr (left, λ w. left_not t u depth w.0 apart (sym at ∙ w.1)))
   | no other ↦ inl (own.0, ap (λ k. k o) eq ∙ with_else f p o (left_once t depth) other ∙ own.1)
 ]
 own_step o t u e f g apart (keeps na nr eq) own = inl (own.0, ap (λ k. k o) eq ∙ own.1)
 
 -- where u did not own it, it does not after its own event, or it entered
 pub take_step : (o u : ℕ) (e : Event) (f g : ℕ → MonitorState) → MonitorStep u e f g → (IsOwner u (f o) → ⊥) → (IsOwner u (g o) → ⊥)
-    ⊎ Locks e o
+    ⊎ (acquired e ≡ Some (monitor o))
 take_step o u e f g (enters p m is en eq) none = elim (ℕ_discrete o p) [
-  | yes same ↦ inr (subst (λ k. Locks k o) (sym is) (sym same))
+  | yes same ↦ inr (subst (λ k. acquired k ≡ Some (monitor o)) (sym is) (ap (λ q. Some (monitor q)) (sym same)))
   | no other ↦ inl (λ w. none (w.0, sym (ap (λ k. k o) eq ∙ with_else f p o m other) ∙ w.1))
 ]
 take_step o u e f g (leaves p depth is old eq) none = elim (ℕ_discrete o p) [
@@ -86,10 +92,12 @@ take_step o u e f g (leaves p depth is old eq) none = elim (ℕ_discrete o p) [
 ]
 take_step o u e f g (keeps na nr eq) none = inl (λ w. none (w.0, sym (ap (λ k. k o) eq) ∙ w.1))
 
+-- entering a monitor has one outcome
 entered_same : (t : ℕ) (s m n : MonitorState) → Entered t s m → Entered t s n → m ≡ n
 entered_same t Free m n a b = a ∙ sym b
 entered_same t (Owned w d) m n a b = a.1 ∙ sym b.1
 
+-- the same change to the same monitors gives the same
 with_same : (f g : ℕ → MonitorState) (p : ℕ) (m n : MonitorState) → ((o : ℕ) → f o ≡ g o) → m ≡ n → (o : ℕ) → with_at f p m o
     ≡ with_at g p n o
 with_same f g p m n same e o = elim (ℕ_discrete o p) [
@@ -124,6 +132,7 @@ pub record Between (setting : Setting) (h : List Stamp) (k : ℕ) (owner now : S
   pub run : Run setting mid (drop k h) now
   pub same : (o : ℕ) → owner.monitors o ≡ mid.monitors o
 
+-- such a state for each number of events
 pub between : (setting : Setting) (k : ℕ) (h : List Stamp) (a b owner now : State) → ((o : ℕ) → a.monitors o ≡ b.monitors o)
     → Run setting a (take k h) owner → Run setting b h now → Between setting h k owner now
 between setting zero [] a b owner now same r s = record { mid = b; run = s; same = λ o. ap (λ (z : State). z.monitors o) r ∙ same o }

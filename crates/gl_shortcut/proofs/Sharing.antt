@@ -5,7 +5,7 @@ use native.Mathlib.Decide.{ℕ_discrete}
 use Rattle.gl_model.specs.declared.event.Stamp.{Stamp}
 use Rattle.gl_model.specs.declared.row.Info.{Info}
 use Rattle.gl_model.specs.declared.row.Question.{Question}
-use Rattle.gl_model.specs.Edges.{EventAt, Locks, Unlocks, unlock_lock}
+use Rattle.gl_model.specs.Edges.{EventAt, monitor, released, acquired, release_acquire}
 use Rattle.gl_model.specs.Infos.{InfoFor}
 use Rattle.gl_model.specs.Locksets.{Access}
 use Rattle.gl_model.specs.Machine.{Setting, State, Owned, Owns, Step, Run, start}
@@ -14,6 +14,7 @@ use Rattle.gl_draws.proofs.Owners.{state_at}
 use Rattle.gl_shortcut.specs.Ordering.{IsOfNext, IsOrderedBefore}
 use Rattle.gl_shortcut.proofs.Monitors.{monitor_step, own_step, take_step, between}
 
+-- among one event of another thread there is none of t
 only_one : (x : Stamp) (t p : ℕ) (s : Stamp) → (x.thread ≡ t → ⊥) → slice_get (x ∷ []) p ≡ Some s → s.thread ≡ t → p < 0
 only_one x t zero s other e own = absurd (other (let k : x ≡ s = cc in ap (λ (z : Stamp). z.thread) k ∙ own))
 only_one x t (suc p) s other e own = absurd (cc)
@@ -26,13 +27,15 @@ module _ (setting : Setting) (o : ℕ) where
       let k = state_at setting old mid (x ∷ []) 0 t (value, mid, step, refl) (λ p s e own. only_one x t p s other e own) in
       subst (λ (s : State). Owns s t o ↔ Owns mid t o) k.run (k.owns o)
 
+  -- thread u enters the monitor at one of the events
   record Entering (xs : List Stamp) (u : ℕ) : Type 0 where
     pub place : ℕ
     pub event : Stamp
     pub here : EventAt xs place event
     pub own : event.thread ≡ u
-    pub locks : Locks event.event o
+    pub locks : acquired event.event ≡ Some (monitor o)
 
+  -- also with one event more in front
   abbrev later_entering : (x : Stamp) (xs : List Stamp) (u : ℕ) → Entering xs u → Entering (x ∷ xs) u
   later_entering x xs u k = record { place = suc k.place; event = k.event; here = k.here; own = k.own; locks = k.locks }
 
@@ -48,15 +51,17 @@ module _ (setting : Setting) (o : ℕ) where
     | no other ↦ later_entering x xs u (entered u xs r.1 now r.3 (λ w. none ((others_keep u old r.1 x r.0 r.2 other).1 w)) owns)
   ]
 
+  -- thread t leaves the monitor and u enters it later
   record Handing (xs : List Stamp) (t u : ℕ) : Type 0 where
     pub left : ℕ
     pub leaving : Stamp
     pub there : EventAt xs left leaving
     pub owner : leaving.thread ≡ t
-    pub unlocks : Unlocks leaving.event o
+    pub unlocks : released leaving.event ≡ Some (monitor o)
     pub entering : Entering xs u
     pub rises : left < entering.place
 
+  -- also with one event more in front
   later_handing : (x : Stamp) (xs : List Stamp) (t u : ℕ) → Handing xs t u → Handing (x ∷ xs) t u
   later_handing x xs t u k = record {
     left = suc k.left;
@@ -92,11 +97,13 @@ module _ (setting : Setting) (o : ℕ) where
     | no other ↦ later_handing x xs t u (handed t u apart xs r.1 now r.3 ((others_keep t old r.1 x r.0 r.2 other).0 owned) owns)
   ]
 
+-- an event of the rest of a list is one of the list
 got : (k : ℕ) (h : List Stamp) (p : ℕ) (s : Stamp) → slice_get (drop k h) p ≡ Some s → slice_get h (k + p) ≡ Some s
 got zero h p s e = let z : p ≡ 0 + p = omega arith in subst (λ j. slice_get h j ≡ Some s) z e
 got (suc k) [] p s e = absurd (cc)
 got (suc k) (x ∷ h) p s e = let z : suc (k + p) ≡ suc k + p = omega arith in subst (λ j. slice_get (x ∷ h) j ≡ Some s) z (got k h p s e)
 
+-- what orders an access before each next one of a thread orders it before a commit of that thread
 by_thread : (h : List Stamp) (a : Access) (u : ℕ) (v : Option (List ℕ)) → (a.thread ≡ u) ⊎ ReachesThread h a u → HappensBeforeNext h a u v
 by_thread h a u None k = k
 by_thread h a u (Some xs) (inl own) = inl own
@@ -122,6 +129,6 @@ shared_orders setting h i a write q stands next o kept keeps = elim (ℕ_discret
       let at' = got (a.block + 1) h g.entering.place g.entering.event g.entering.here in
       let rises = g.rises in
       let reached = edge_on g.leaving g.entering.event (own_later g.leaving at (omega arith) g.owner) at at' (omega arith)
-      (unlock_lock o g.unlocks g.entering.locks) in
+      (release_acquire (monitor o) g.unlocks g.entering.locks) in
       ∣ inl (by_thread h a q.thread q.commit (inr (a.block + 1 + g.entering.place, (g.entering.event, at', g.entering.own, reached)))) ∣₁)
 ]

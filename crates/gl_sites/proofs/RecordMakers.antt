@@ -1,5 +1,5 @@
 -- The makers of a record's entries, thread by thread.
-use Rattle.std.proofs.Common.{◌≡◌, ℕ, zero, suc, ◌+◌, ◌<◌, ◌≤◌, List, [], ◌∷◌, ◌++◌, length, refl, sym, ◌∙◌, ap, subst, inl, inr, arith, slice_index_or}
+use Rattle.std.proofs.Common.{◌≡◌, ℕ, zero, suc, ◌<◌, ◌≤◌, List, [], ◌∷◌, length, refl, sym, subst, inl, inr, arith, slice_index_or}
 use Rattle.std.specs.List.{AllByRecursion}
 use Rattle.std.proofs.lemmas.Bool.{cases_lt}
 use Rattle.gl_model.specs.Entries.{Entry}
@@ -18,44 +18,17 @@ pub record AreMadeBelow (P : Bytecode) (steps : ℕ) (R : Lists) (n : ℕ) (make
   pub count : length makers ≡ n
   pub each : (t : ℕ) → t < n → AreMakers P steps t (R t) (slice_index_or makers t [])
 
-earlier_of : {A : Type 0} (xs : List A) (x d : A) (n : ℕ) → n < length xs → slice_index_or xs n d ≡ slice_index_or (xs ++ x ∷ []) n d
-earlier_of [] x d n less = absurd (omega arith)
-earlier_of (a ∷ xs) x d zero less = refl
-earlier_of (a ∷ xs) x d (suc n) less = earlier_of xs x d n (omega arith)
-
-last_of : {A : Type 0} (xs : List A) (x d : A) → x ≡ slice_index_or (xs ++ x ∷ []) (length xs) d
-last_of [] x d = refl
-last_of (a ∷ xs) x d = last_of xs x d
-
+-- beyond the end of a list is the default
 none_at : {A : Type 0} (xs : List A) (d : A) (n : ℕ) → length xs ≤ n → d ≡ slice_index_or xs n d
 none_at [] d n past = refl
 none_at (a ∷ xs) d zero past = absurd (omega arith)
 none_at (a ∷ xs) d (suc n) past = none_at xs d n (omega arith)
 
-one_longer : {A : Type 0} (xs : List A) (x : A) → length (xs ++ x ∷ []) ≡ length xs + 1
-one_longer [] x = refl
-one_longer (a ∷ xs) x = (let more = one_longer xs x in omega arith)
-
+-- of no threads
 pub none_below : (P : Bytecode) (steps : ℕ) (R : Lists) → AreMadeBelow P steps R 0 []
 none_below P steps R = record { count = refl; each = λ t less. absurd (omega (arith, less)) }
 
-pub one_below : (P : Bytecode) (steps : ℕ) (R : Lists) (n : ℕ) (makers : List (List Maker)) (of_next : List Maker)
-    → AreMadeBelow P steps R n makers → AreMakers P steps n (R n) of_next → AreMadeBelow P steps R (n + 1) (makers ++ of_next ∷ [])
-one_below P steps R n makers of_next below next =
-    let count = below.count in
-    record {
-      count = one_longer makers of_next ∙ ap (λ k. k + 1) count;
-      each = λ t less. elim (cases_lt t n) [
-        | inl earlier ↦ subst (AreMakers P steps t (R t)) (earlier_of makers of_next [] t (omega (arith, earlier, count)))
-            (below.each t earlier)
-        | inr ge ↦
-            let same : n ≡ t = omega (arith, less, ge) in
-            subst (λ u. AreMakers P steps u (R u) (slice_index_or (makers ++ of_next ∷ []) u [])) same
-            (subst (λ k. AreMakers P steps n (R n) (slice_index_or (makers ++ of_next ∷ []) k [])) count
-            (subst (AreMakers P steps n (R n)) (last_of makers of_next []) next))
-      ];
-    }
-
+-- of all threads that there are
 pub all_below : (P : Bytecode) (steps : ℕ) (made : List (ℕ × List Entry)) (makers : List (List Maker)) → AllByRecursion IsListKept made
     → AreMadeBelow P steps (lists_of made) THREADS makers → AreMakersOf P steps (lists_of made) makers
 all_below P steps made makers kept below t = elim (cases_lt t THREADS) [

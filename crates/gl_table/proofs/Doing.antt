@@ -1,30 +1,28 @@
 -- A pass between taking the list and putting it back.
-use Rattle.std.proofs.Common.{◌≡◌, ℕ, suc, ◌+◌, ◌*◌, ◌<◌, List, [], ◌∷◌, ◌++◌, length, eq-eqb, refl, sym, ap, subst, arith, ◌∙◌, false, Some, inr}
-use Rattle.std.specs.Prelude.{ℤ, Contains, Option, if◌then◌else◌}
+use Rattle.std.proofs.Common.{◌≡◌, ℕ, suc, List, [], ◌∷◌, length, eq-eqb, refl, sym, ap, subst, arith, ◌∙◌, false, Some, inr}
+use Rattle.std.specs.Prelude.{ℤ, Option, if◌then◌else◌}
 use Rattle.gl_model.specs.declared.event.Act.{Act}
 use Rattle.gl_model.specs.declared.event.Event.TheVariants.{Act as Does}
 use Rattle.gl_model.specs.declared.event.Stamp.{Stamp}
-use Rattle.gl_model.specs.Elements.{IsActInRange}
 use Rattle.gl_model.specs.Entries.{Entry, Sync}
-use Rattle.gl_model.specs.Form.{EntryForm, IsBegin}
+use Rattle.gl_model.specs.Form.{EntryForm}
 use Rattle.gl_model.specs.Machine.{Setting, State, Step, Running as Runs, Owned}
 use Rattle.gl_rule.specs.declared.slot.Slot.{Slot}
 use Rattle.gl_rule.specs.declared.slot.Slot.TheVariants as slot
-use Rattle.gl_table.specs.Doing.{MayAct, IsStepOf}
+use Rattle.gl_table.specs.Doing.{IsStepOf}
 use Rattle.gl_state.specs.Entering.{monitor_of, IsShallow}
 use Rattle.gl_rule.specs.Fitting.{MayLeaveAt}
 use Rattle.gl_state.specs.ListView.{ListView}
 use Rattle.gl_model.specs.declared.row.Row.{Row}
 use Rattle.gl_rule.specs.Cells.{packed}
 use Rattle.gl_rule.specs.Lives.{Running, life_of}
-use Rattle.gl_rule.specs.Objects.{Key, capacity}
+use Rattle.gl_rule.specs.Objects.{Key}
 use Rattle.gl_table.specs.PassView.{PassView, view_of, shelf_of, after, after_storing}
 use Rattle.gl_draws.specs.Forming.{MayStore}
 use Rattle.gl_table.specs.Putting.{DoesNotHold, MayPublishAct, MayPutBack, published_act}
 use Rattle.gl_state.specs.States.{IsStateOf, monitor_state}
-use Rattle.gl_table.specs.TableView.{TableView}
 use Rattle.gl_rule.specs.Taken.{StateTold}
-use Rattle.gl_rule.specs.View.{View, Held, Shelf, shelf, new_held, with_tail, took, saw, saw_tail, Hold, Taken, filled, published, after_publish}
+use Rattle.gl_rule.specs.View.{View, Held, Shelf, shelf, new_held, with_tail, took, saw, saw_tail, Hold, filled, published, after_publish}
 use Rattle.gl_draws.specs.Draws.{Draw}
 use Rattle.gl_rule.proofs.HeldLists.{in_mapped}
 use Rattle.gl_table.proofs.Passes.{published_object}
@@ -44,9 +42,6 @@ with_list p l = after p (took (view_of p) 0 (slot.List l))
 abbrev pub with_room : PassView → ListView → ℕ → ℕ → PassView
 with_room p l low tail = after (after (with_list p l) (saw (view_of (with_list p l)) (Hold 0 low)))
     (saw_tail (view_of (after (with_list p l) (saw (view_of (with_list p l)) (Hold 0 low)))) tail)
-
-not_begin : (act : Act) → Type 0
-not_begin act = (at : ℕ) (value : ℤ) → IsBegin (Sync at act value) → ⊥
 
 -- an act's entry may be stored by a thread that runs
 pub may_store : (t : ℕ) (es : List Entry) (n : ℕ) (act : Act) (value : ℤ) → life_of es ≡ Running → EntryForm t (Sync n act value)
@@ -84,42 +79,6 @@ shallow setting v l o told = record {
       let b = told.few m.0 in
       omega arith;
 }
-
--- what the machine allows may be published
-pub may_publish_act : (z : TableView) (p : PassView) (l l' : ListView) (low tail : ℕ) (act : Act) (value : ℤ) → MayAct z p
-    → tail < low * z.key.cells + capacity z.key → IsActInRange act → EntryForm p.own.id (Sync tail act value)
-    → ((now : State) → IsStateOf l now → (new : State) × Step z.key.setting now (record { thread = p.own.id; event = Does act }) value new
-    × IsStateOf l' new)
-    → MayPublishAct z.key (with_room p l low tail) act value l'
-may_publish_act z p l l' low tail act value may room range form step = record {
-  held = with_tail tail (new_held 0 (slot.List l));
-  old = l;
-  may = record {
-    held = (0, omega arith, refl);
-    list = refl;
-    state = refl;
-    tail = tail;
-    saw = (0, omega arith, refl);
-    low = low;
-    read = last_read (p.reads ++ Taken 0 (slot.List l) ∷ []) (Hold 0 low);
-    room = room;
-    stored = refl;
-    by = refl;
-    kept = range;
-    position = λ n. refl;
-    event = λ n. refl;
-    carries = λ n. refl;
-    step = step;
-    form = may_store p.own.id p.own.mine tail act value may.runs form;
-    paid = may.owed;
-    few = may.few;
-  };
-  tail = refl;
-}
-  where
-    last_read : (xs : List _) (x : Rattle.gl_rule.specs.View.Read) → Contains (xs ++ x ∷ []) x
-    last_read [] x = (0, omega arith, refl)
-    last_read (y ∷ xs) x = let r = last_read xs x in let near = r.1 in (suc r.0, omega arith, r.2)
 
 -- the list may go back as it was taken
 pub may_put_back : (setting : Setting) (p : PassView) (l : ListView)

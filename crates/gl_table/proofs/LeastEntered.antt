@@ -1,9 +1,9 @@
 -- The least monitors that are entered, found from the front.
 use Rattle.std.proofs.Common.{◌≡◌, ℕ, ◌+◌, ◌<◌, ◌≤◌, List, [], ◌∷◌, ◌++◌, length, take, get_or, sym, ap, subst, arith, ◌∙◌, inl, inr, length-append}
-use Rattle.std.specs.Prelude.{◌⊎◌, slice_index, slice_set, Contains}
+use Rattle.std.specs.Prelude.{◌⊎◌, slice_index, Contains}
 use Rattle.std.specs.List.Sorted.{IsStrictlyIncreasing}
 use Rattle.std.proofs.lemmas.Bool.{cases_lt}
-use Rattle.std.proofs.lemmas.List.{take_all, take-append-le, get_or_past, get_or_push, get_or_append_left, get_or-set_same, get_or-set_other}
+use Rattle.std.proofs.lemmas.List.{take_all, take-append-le, get_or_past, get_or_push, get_or_append_left}
 use Rattle.std.proofs.lemmas.List.Elements.{Contains-get_or, Contains-append_left, Contains-push, Contains-push_cases}
 use native.Mathlib.Decide.{ℕ_discrete}
 use Rattle.gl_model.specs.declared.limits.TheConstants.{HELD}
@@ -114,32 +114,4 @@ least_all levels k held upto l = record {
     near o some = elim (cases_lt o k) [
       | inl lt ↦ lt
       | inr ge ↦ absurd (let z : slice_index levels o ≡ 0 = get_or_past levels o 0 (omega arith) in omega arith)
-    ]
-
--- levels that are above 0 at the same monitors
-pub least_same : (levels new held : List ℕ) → ((o : ℕ) → 0 < slice_index levels o → 0 < slice_index new o)
-    → ((o : ℕ) → 0 < slice_index new o → 0 < slice_index levels o) → AreLeastEntered levels held → AreLeastEntered new held
-least_same levels new held to back l = record {
-  rising = l.rising;
-  entered = λ o c. to o (l.entered o c);
-  at_most_four = l.at_most_four;
-  least = λ o some. l.least o (back o some);
-}
-
--- one level changes, which is above 0 before and after
-pub least_changed : (levels held : List ℕ) (p v : ℕ) → p < length levels → 0 < slice_index levels p → 0 < v → AreLeastEntered levels held
-    → AreLeastEntered (slice_set levels p v) held
-least_changed levels held p v near before after l = least_same levels (slice_set levels p v) held to back l
-  where
-    to : (o : ℕ) → 0 < slice_index levels o → 0 < slice_index (slice_set levels p v) o
-    to o some = elim (ℕ_discrete o p) [
-      | yes e ↦ (let z : slice_index (slice_set levels p v) p ≡ v = get_or-set_same levels p v 0 near
-          in let w = ap (slice_index (slice_set levels p v)) e in omega arith)
-      | no ne ↦ (let z : slice_index (slice_set levels p v) o ≡ slice_index levels o = get_or-set_other levels p o v 0 ne in omega arith)
-    ]
-
-    back : (o : ℕ) → 0 < slice_index (slice_set levels p v) o → 0 < slice_index levels o
-    back o some = elim (ℕ_discrete o p) [
-      | yes e ↦ (let w = ap (slice_index levels) e in omega arith)
-      | no ne ↦ (let z : slice_index (slice_set levels p v) o ≡ slice_index levels o = get_or-set_other levels p o v 0 ne in omega arith)
     ]

@@ -1,3 +1,4 @@
 pub mod TextLemmas
 pub mod PlainLemmas
 pub mod SpanLemmas
+pub mod WordLines

@@ -34,7 +34,7 @@ use Rattle.gl_txn.proofs.Drawings.{number_more, may_number}
 use Rattle.gl_txn.proofs.EndFacts.{may_drop, unused_dropped}
 use Rattle.gl_txn.proofs.Numberings.{row_found, row_near, drawn_none}
 use Rattle.gl_txn.proofs.Sizes.{of_look}
-use Rattle.gl_txn.proofs.Unions.{found_part, all_right}
+use Rattle.gl_model.proofs.PutParts.{found_part, all_right}
 
 one_only : (y x : ℕ) → is_in y (x ∷ []) ≡ true → y ≡ x
 one_only y x b = elim (ℕ_discrete y x) [

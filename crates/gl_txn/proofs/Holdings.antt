@@ -165,14 +165,6 @@ held_none held tails drew a = none_held held none
     none zero = a.at 0
     none (suc y) = a.at (suc y)
 
-pub held_nothing : (held : List Held) → held ≡ [] → AreHeld held None [] [] undrawn
-held_nothing held e = subst (λ (l : List Held). AreHeld l None [] [] undrawn) (sym e)
-    (record { at = at; once = λ h c. absurd (let l = c.1 in omega arith); are = (omega arith, tt, tt) })
-  where
-    at : (k : ℕ) → found k [] ≡ held_of None [] [] undrawn k
-    at zero = refl
-    at (suc y) = refl
-
 -- a row on which no access was drawn goes back as it was taken
 drawn_stays : (setting : Setting) (x : ℕ) (row : Row) (drew : Option Draw)
     → ((d : Draw) → drew ≡ Some d → (is_write x d.what ≡ false) × (is_read x d.what ≡ false)) → (l : List _) (ds : List Draw)

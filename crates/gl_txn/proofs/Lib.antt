@@ -1,5 +1,4 @@
 pub mod Finding
-pub mod Unions
 pub mod Sizes
 pub mod LookSteps
 pub mod Holdings

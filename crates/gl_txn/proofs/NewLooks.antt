@@ -15,7 +15,7 @@ use Rattle.gl_txn.specs.Looked.{IsLookAt, drawn_of}
 use Rattle.gl_txn.specs.Reading.{IsRead, ReadBy, HasLooked, LooksBy}
 use Rattle.gl_txn.specs.Trying.{Draws}
 use Rattle.gl_txn.proofs.Sizes.{of_look}
-use Rattle.gl_txn.proofs.Unions.{with_new, with_first, with_old, not_found}
+use Rattle.gl_model.proofs.PutParts.{with_new, with_first, with_old, not_found}
 
 -- no number on x waits where none is among them
 count_none : (x : ℕ) (drawn : List Drawn) → ((o : Drawn) → Contains drawn o → o.var ≢ x) → count_on x drawn ≡ 0

@@ -16,7 +16,7 @@ use Rattle.gl_txn.specs.Holding.{vars_of, row_at, AreHeld, undrawn}
 use Rattle.gl_txn.specs.declared.taken.TakenRow.{TakenRow}
 use Rattle.gl_txn.proofs.Holdings.{row_here, row_past, last_once, above_in, last_in}
 use Rattle.gl_txn.proofs.TakeSteps.{take_are}
-use Rattle.gl_txn.proofs.Unions.{part_below}
+use Rattle.gl_model.proofs.PutParts.{part_below}
 
 abbrev pub of_number : Number → ℕ
 of_number n = n.var

@@ -34,7 +34,7 @@ use Rattle.gl_txn.specs.declared.stops.TxEnd.TheVariants as end
 use Rattle.gl_txn.specs.declared.stops.TxWait.{TxWait}
 use Rattle.gl_txn.specs.declared.stops.TxWait.TheVariants as wait
 use Rattle.gl_txn.proofs.Sizes.{of_look}
-use Rattle.gl_txn.proofs.Unions.{found_part}
+use Rattle.gl_model.proofs.PutParts.{found_part}
 use Rattle.gl_txn.specs.Holding.{vars_of, found, row_at, row_held, held_by, held_of, AreHeld, undrawn, HaveTaken, HaveWrites}
 use Rattle.gl_txn.specs.Publishing.{IsReady}
 use Rattle.gl_txn.specs.Racing.{asked_on, asked_of, MayJudge, KnowsOn, Over, AreClear, IsFirstRace, RacesOn}

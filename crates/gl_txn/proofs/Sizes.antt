@@ -7,7 +7,7 @@ use Rattle.gl_model.specs.declared.tx.Look.{Look}
 use Rattle.gl_model.specs.declared.tx.Pair.{Pair}
 use Rattle.gl_model.specs.Rising.{with_one, with_all, with_part}
 use Rattle.gl_txn.specs.Attempts.{Attempting, written, looked, is_in, is_in_by, size, variables_in, IsTooLarge}
-use Rattle.gl_txn.proofs.Unions.{keys_with, all_grow, all_one, one_all, all_left, all_right, all_from, found_among, not_found}
+use Rattle.gl_model.proofs.PutParts.{keys_with, all_grow, all_one, one_all, all_left, all_right, all_from, found_among, not_found}
 
 abbrev pub of_write : Pair → ℕ
 of_write p = p.var

@@ -8,7 +8,7 @@ use Rattle.gl_model.specs.Rising.{with_one}
 use Rattle.gl_txn.specs.Attempts.{Attempting, IsTooLarge, is_in, size, variables_in}
 use Rattle.gl_txn.specs.TxnInside.{txn_view}
 use Rattle.gl_txn.proofs.Sizes.{too_large, has_room, written_all, of_write, of_look}
-use Rattle.gl_txn.proofs.Unions.{one_fits}
+use Rattle.gl_model.proofs.PutParts.{one_fits}
 use Rattle.gl_txn.proofs.attempt.Txn.write.Goals as goal
 
 pub returns-then-is_err-clause-large : goal.returns-then-is_err-clause-large

@@ -1,4 +1,5 @@
--- The variables of looks and writes, as one is put among them.
+-- Lists of numbers that rise, as one number is put among them and as two lists are put together; and parts that rise by a number of
+-- theirs, as one part is put among them.
 use Rattle.std.proofs.Common.{◌≡◌, ℕ, zero, suc, ◌+◌, ◌==◌, ◌<◌, ◌≤◌, List, [], ◌∷◌, length, map, true, false, refl, sym, ap, ◌∙◌, subst, arith, Some, None, inl, inr, eq-eqb}
 use Rattle.std.specs.Prelude.{Contains, ◌⊎◌}
 use Rattle.std.specs.List.{find, AllByRecursion}
@@ -8,7 +9,7 @@ use Rattle.gl_model.specs.Rising.{Rises, with_one, with_all, with_part}
 use Rattle.std.proofs.lemmas.Bool.Decides.{nat_tests}
 use Rattle.gl_model.proofs.RisingLists.{with_one-below, with_one-above, with_one-same, Rises-with_one}
 
--- two of them in either order
+-- two of them in either order, the less put last
 pub one_one : (x y : ℕ) (zs : List ℕ) → x < y → with_one x (with_one y zs) ≡ with_one y (with_one x zs)
 one_one x y [] l = with_one-above x y [] l ∙ sym (with_one-below y x [] l)
 one_one x y (z ∷ zs) l = elim (cases_lt x z) [
@@ -33,6 +34,7 @@ one_one x y (z ∷ zs) l = elim (cases_lt x z) [
   ])
 ]
 
+-- two of them, however they lie
 pub either_order : (x y : ℕ) (zs : List ℕ) → with_one x (with_one y zs) ≡ with_one y (with_one x zs)
 either_order x y zs = elim (cases_lt x y) [
   | inl l ↦ one_one x y zs l
@@ -55,11 +57,12 @@ one_again x (z ∷ zs) = elim (cases_lt x z) [
   ]
 ]
 
--- one more on the right, and on the left
+-- one more on the right
 pub all_one : (xs : List ℕ) (y : ℕ) (zs : List ℕ) → with_all xs (with_one y zs) ≡ with_one y (with_all xs zs)
 all_one [] y zs = refl
 all_one (x ∷ xs) y zs = ap (with_all xs) (either_order x y zs) ∙ all_one xs y (with_one x zs)
 
+-- one more on the left
 pub one_all : (x : ℕ) (ws zs : List ℕ) → with_all (with_one x ws) zs ≡ with_one x (with_all ws zs)
 one_all x [] zs = refl
 one_all x (w ∷ ws) zs = elim (cases_lt x w) [
@@ -71,7 +74,7 @@ one_all x (w ∷ ws) zs = elim (cases_lt x w) [
   ]
 ]
 
--- one is as many or one more
+-- with one more there are no fewer
 pub one_grows : (x : ℕ) (ys : List ℕ) → length ys ≤ length (with_one x ys)
 one_grows x [] = omega arith
 one_grows x (y ∷ ys) = elim (cases_lt x y) [
@@ -82,6 +85,7 @@ one_grows x (y ∷ ys) = elim (cases_lt x y) [
   ]
 ]
 
+-- one below all of them is put first
 first_above : (x : ℕ) (xs : List ℕ) → AllByRecursion (λ y. x < y) xs → with_one x xs ≡ x ∷ xs
 first_above x [] all = refl
 first_above x (y ∷ ys) all = with_one-above x y ys all.0
@@ -91,6 +95,7 @@ pub all_none : (xs : List ℕ) → Rises xs → with_all xs [] ≡ xs
 all_none [] r = refl
 all_none (x ∷ xs) r = all_one xs x [] ∙ ap (with_one x) (all_none xs r.1) ∙ first_above x xs r.0
 
+-- with many more there are no fewer
 pub all_grow : (xs ys : List ℕ) → length ys ≤ length (with_all xs ys)
 all_grow [] ys = omega arith
 all_grow (x ∷ xs) ys = let one = one_grows x ys in let rest = all_grow xs (with_one x ys) in omega arith
@@ -104,14 +109,16 @@ all_longer ws (z ∷ zs) r s =
     let rest = all_longer ws zs r s.1 in
     omega arith
 
-in_next : {A : Type 0} (x : A) (xs : List A) (y : A) → Contains xs y → Contains (x ∷ xs) y
+-- what is in a list is in it with one more in front
+pub in_next : {A : Type 0} (x : A) (xs : List A) (y : A) → Contains xs y → Contains (x ∷ xs) y
 in_next x xs y c = (suc c.0, (let l = c.1 in omega arith), c.2)
 
+-- what is in a list with one more in front is that one, or is in the list
 in_cases : {A : Type 0} (x : A) (xs : List A) (y : A) → Contains (x ∷ xs) y → (x ≡ y) ⊎ Contains xs y
 in_cases x xs y (zero, l, e) = inl e
 in_cases x xs y (suc k, l, e) = inr (k, omega arith, e)
 
--- which numbers are there
+-- the one that is put there is there
 pub one_there : (x : ℕ) (zs : List ℕ) → Contains (with_one x zs) x
 one_there x [] = (0, omega arith, refl)
 one_there x (z ∷ zs) = elim (cases_lt x z) [
@@ -122,6 +129,7 @@ one_there x (z ∷ zs) = elim (cases_lt x z) [
   ]
 ]
 
+-- what was there is there still
 pub one_still : (x : ℕ) (zs : List ℕ) (y : ℕ) → Contains zs y → Contains (with_one x zs) y
 one_still x [] y c = absurd (let l = c.1 in omega arith)
 one_still x (z ∷ zs) y c = elim (cases_lt x z) [
@@ -133,6 +141,7 @@ one_still x (z ∷ zs) y c = elim (cases_lt x z) [
   ]
 ]
 
+-- what is there then is that one, or was there
 pub one_from : (x : ℕ) (zs : List ℕ) (y : ℕ) → Contains (with_one x zs) y → (x ≡ y) ⊎ Contains zs y
 one_from x [] y c = in_cases x [] y c
 one_from x (z ∷ zs) y c = elim (cases_lt x z) [
@@ -146,10 +155,12 @@ one_from x (z ∷ zs) y c = elim (cases_lt x z) [
   ]
 ]
 
+-- of two together, those of the right are there
 pub all_right : (xs zs : List ℕ) (y : ℕ) → Contains zs y → Contains (with_all xs zs) y
 all_right [] zs y c = c
 all_right (x ∷ xs) zs y c = all_right xs (with_one x zs) y (one_still x zs y c)
 
+-- and those of the left
 pub all_left : (xs zs : List ℕ) (y : ℕ) → Contains xs y → Contains (with_all xs zs) y
 all_left [] zs y c = absurd (let l = c.1 in omega arith)
 all_left (x ∷ xs) zs y c = elim (in_cases x xs y c) [
@@ -157,6 +168,7 @@ all_left (x ∷ xs) zs y c = elim (in_cases x xs y c) [
   | inr there ↦ all_left xs (with_one x zs) y there
 ]
 
+-- and no others
 pub all_from : (xs zs : List ℕ) (y : ℕ) → Contains (with_all xs zs) y → Contains xs y ⊎ Contains zs y
 all_from [] zs y c = inr c
 all_from (x ∷ xs) zs y c = elim (all_from xs (with_one x zs) y c) [
@@ -165,7 +177,7 @@ all_from (x ∷ xs) zs y c = elim (all_from xs (with_one x zs) y c) [
 ]
 
 module _ {A : Type 0} (key : A → ℕ) where
-  -- a part is found where its variable is among those of the parts
+  -- a part that is found is one of the list, and has that number
   pub found_part : (x : ℕ) (ps : List A) (p : A) → find (λ q. key q == x) ps ≡ Some p → Contains ps p × (key p ≡ x)
   found_part x [] p e = absurd (cc)
   found_part x (q ∷ ps) p e = elim (cases_Bool (key q == x)) [
@@ -173,6 +185,7 @@ module _ {A : Type 0} (key : A → ℕ) where
     | inr b ↦ (let r = found_part x ps p (rw b at e) in (in_next q ps p r.0, r.1))
   ]
 
+  -- where none is found, its number is not among those of the parts
   pub not_found : (x : ℕ) (ps : List A) → find (λ q. key q == x) ps ≡ None → Contains (map key ps) x → ⊥
   not_found x [] e c = absurd (let l = c.1 in omega arith)
   not_found x (q ∷ ps) e c = elim (cases_Bool (key q == x)) [
@@ -183,6 +196,7 @@ module _ {A : Type 0} (key : A → ℕ) where
     ]
   ]
 
+  -- the number of a part of the list is among the numbers of the list
   key_in : (ps : List A) (p : A) → Contains ps p → Contains (map key ps) (key p)
   key_in [] p c = absurd (let l = c.1 in omega arith)
   key_in (q ∷ ps) p c = elim (in_cases q ps p c) [
@@ -190,19 +204,23 @@ module _ {A : Type 0} (key : A → ℕ) where
     | inr there ↦ in_next (key q) (map key ps) (key p) (key_in ps p there)
   ]
 
+  -- the number of a part that is found is among the numbers of the list
   pub found_among : (x : ℕ) (ps : List A) (p : A) → find (λ q. key q == x) ps ≡ Some p → Contains (map key ps) x
   found_among x ps p e = let r = found_part x ps p e in subst (λ k. Contains (map key ps) k) r.1 (key_in ps p r.0)
 
-  -- the variables of the parts, where one is put among them
+  -- a part is put before a greater one
   pub part_above : (p q : A) (qs : List A) → key p < key q → with_part key p (q ∷ qs) ≡ p ∷ (q ∷ qs)
   part_above p q qs l = grind (arith, nat_tests)
 
+  -- a smaller one stays first
   pub part_below : (p q : A) (qs : List A) → key q < key p → with_part key p (q ∷ qs) ≡ q ∷ with_part key p qs
   part_below p q qs l = grind (arith, nat_tests)
 
+  -- one with the same number gives way
   pub part_same : (p q : A) (qs : List A) → key q ≡ key p → with_part key p (q ∷ qs) ≡ p ∷ qs
   part_same p q qs e = grind (arith, nat_tests)
 
+  -- the numbers of the parts, where one is put among them
   pub keys_with : (p : A) (qs : List A) → map key (with_part key p qs) ≡ with_one (key p) (map key qs)
   keys_with p [] = refl
   keys_with p (q ∷ qs) = elim (cases_lt (key p) (key q)) [
@@ -213,7 +231,7 @@ module _ {A : Type 0} (key : A → ℕ) where
     ]
   ]
 
-  -- the parts are the old ones and the new one, where no old one has its variable
+  -- each part is the new one or an old one
   pub with_new : (p : A) (qs : List A) (q : A) → Contains (with_part key p qs) q → (p ≡ q) ⊎ Contains qs q
   with_new p [] q c = in_cases p [] q c
   with_new p (r ∷ qs) q c = elim (cases_lt (key p) (key r)) [
@@ -227,6 +245,7 @@ module _ {A : Type 0} (key : A → ℕ) where
     ]
   ]
 
+  -- the new one is among them
   pub with_first : (p : A) (qs : List A) → Contains (with_part key p qs) p
   with_first p [] = (0, omega arith, refl)
   with_first p (r ∷ qs) = elim (cases_lt (key p) (key r)) [
@@ -237,6 +256,7 @@ module _ {A : Type 0} (key : A → ℕ) where
     ]
   ]
 
+  -- and the old ones, where none of them has its number
   pub with_old : (p : A) (qs : List A) (q : A) → (Contains (map key qs) (key p) → ⊥) → Contains qs q → Contains (with_part key p qs) q
   with_old p [] q out c = absurd (let l = c.1 in omega arith)
   with_old p (r ∷ qs) q out c = elim (cases_lt (key p) (key r)) [
@@ -250,7 +270,8 @@ module _ {A : Type 0} (key : A → ℕ) where
     ]
   ]
 
-one_new : (x : ℕ) (ys : List ℕ) → (Contains ys x → ⊥) → length (with_one x ys) ≡ length ys + 1
+-- a number that is not there is one more
+pub one_new : (x : ℕ) (ys : List ℕ) → (Contains ys x → ⊥) → length (with_one x ys) ≡ length ys + 1
 one_new x [] out = refl
 one_new x (y ∷ ys) out = elim (cases_lt x y) [
   | inl l ↦ (let e = ap length (with_one-above x y ys l) in omega arith)
