@@ -7,4 +7,4 @@ pub mod ListsOf
 pub mod Pushed
 pub mod Parts
 pub mod Reported
-pub mod Unions
+pub mod Merged

@@ -90,6 +90,20 @@ grows xs ys n set none room e =
     and_from (rises (xs ++ n ∷ [])) (nat_le (length (xs ++ n ∷ [])) TX_VARIABLES) (rises_push xs n up none) fits in
     rw still (ap Some (e ∙ goes_last xs n none))
 
+-- in a list that rises the last reaches a number where some does
+below_last : (xs : List ℕ) (n k : ℕ) → rises xs ≡ true → k < length xs → nat_le n (get_or xs k 0) ≡ false
+    → (k + 1 ≡ length xs) → list_any (λ x. nat_le n x) xs ≡ false
+below_last [] n k r less over end = refl
+below_last (x ∷ []) n zero r less over end = rw over refl
+below_last (x ∷ []) n (suc k) r less over end = absurd (omega arith)
+below_last (x ∷ (y ∷ ys)) n zero r less over end = absurd (omega arith)
+below_last (x ∷ (y ∷ ys)) n (suc k) r less over end =
+    let (first, others) = and_parts (list_all (λ z. nat_lt x z) (y ∷ ys)) (rises (y ∷ ys)) r in
+    let up : nat_lt x y ≡ true = (and_parts (nat_lt x y) (list_all (λ z. nat_lt x z) ys) first).0 in
+    let (below, rest) = below_of ys n y (below_last (y ∷ ys) n k others (omega arith) over (omega arith)) in
+    let less' : x < y = ltb-true x y up in
+    rw (lt-leb n x (omega arith)) (below_last (y ∷ ys) n k others (omega arith) over (omega arith))
+
 -- the whole of a list, from what is kept of the words before and those that are left
 abbrev pub put_rest : Option (List ℕ) → List (List ℕ) → Result (Option (List ℕ)) ℕ
 put_rest kept [] = Ok kept
