@@ -88,10 +88,8 @@ fn reaches(ids: &[u16], id: u16) -> bool
     requires { rises ids.now ≡ true }
     ensures { result ≡ list_any (λ x. nat_le id x) ids.now }
 {
-    if ids.is_empty() {
-        return false;
-    }
-    id <= ids[ids.len() - 1]
+    let len = ids.len();
+    len > 0 && id <= ids[len - 1]
 }
 
 // Puts one id behind the others, if they still are a set then.

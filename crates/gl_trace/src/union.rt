@@ -17,7 +17,7 @@ pub fn both(reads: VarSet, writes: &VarSet) -> Option<VarSet>
 pub fn are_too_many(reads: &VarSet, writes: &VarSet) -> bool
     ensures { result ≡ nat_lt TX_VARIABLES (length (with_all writes.now reads.now)) }
 {
-    if reads.len() + writes.len() <= usize::from(TX_VARIABLES) {
+    if reads.len() + writes.len() <= TX_VARIABLES as usize {
         return false;
     }
     both(*reads, writes).is_none()
