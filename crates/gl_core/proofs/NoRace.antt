@@ -40,8 +40,10 @@ module _ (known : ℕ → ℕ) (latests : List Marks) (reads writes : List ℕ) 
       → find (part_fails known writes latests) (with_all writes reads) ≡ None
   no_race of_reads of_writes = find_nothing (part_fails known writes latests) (with_all writes reads)
       (All-with_all (λ x. part_fails known writes latests x ≡ false) writes reads
-      (all_fail (fails true) (λ x. part_fails known writes latests x ≡ false) (λ x none. part x (λ i. none) (weaker x none)) writes of_writes)
+      (all_fail (fails true) (λ x. part_fails known writes latests x ≡ false) (λ x none. part x (λ i. none) (weaker x none)) writes
+      of_writes)
       (all_fail (fails false) (λ x. part_fails known writes latests x ≡ false) (λ x none. part x (known_written x) none) reads of_reads))
     where
       known_written : (x : ℕ) → is_in x writes ≡ true → fails true x ≡ false
-      known_written = all_in (λ z. fails true z ≡ false) writes (all_fail (fails true) (λ z. fails true z ≡ false) (λ z none. none) writes of_writes)
+      known_written = all_in (λ z. fails true z ≡ false) writes
+          (all_fail (fails true) (λ z. fails true z ≡ false) (λ z none. none) writes of_writes)

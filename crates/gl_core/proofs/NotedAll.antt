@@ -51,8 +51,8 @@ module _ (items : List ℕ) (i : ℕ) (e : Epoch) (now new : List Marks) (n : i 
       by false l h = h
 
 -- noted as read, and then as written, where it is
-pub noted_both : (reads writes : List ℕ) (y : ℕ) (e : Epoch) (old one two : Marks) → one ≡ (if is_in y reads then noted false e old else old)
-    → two ≡ (if is_in y writes then noted true e one else one)
+pub noted_both : (reads writes : List ℕ) (y : ℕ) (e : Epoch) (old one two : Marks)
+    → one ≡ (if is_in y reads then noted false e old else old) → two ≡ (if is_in y writes then noted true e one else one)
     → two ≡ (if is_in y (with_all writes reads) then noted (is_in y writes) e old else old)
 noted_both reads writes y e old one two a b = rw (is_in-both reads writes y) (by (is_in y reads) (is_in y writes) a b)
   where
