@@ -6,3 +6,4 @@ pub mod Grown
 pub mod FindFirst
 pub mod Steps
 pub mod Lent
+pub mod NoRace

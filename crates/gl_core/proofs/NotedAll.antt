@@ -3,7 +3,9 @@ use Rattle.std.proofs.Common.{◌≡◌, ℕ, zero, suc, ◌+◌, ◌<◌, ◌==
 use Rattle.std.specs.Prelude.{if◌then◌else◌, max}
 use Rattle.std.proofs.Math.Seq.{drop-cons}
 use native.Mathlib.Decide.{ℕ_discrete}
+use Rattle.gl_model.specs.Rising.{with_all}
 use Rattle.gl_model.specs.Trace.{is_in}
+use Rattle.gl_draws.proofs.Sets.{is_in-both}
 use Rattle.gl_core.specs.declared.latest.Epoch.{Epoch}
 use Rattle.gl_core.specs.Marks.{Marks}
 use Rattle.gl_core.specs.Latests.{latest_of, plain_mark, commit_mark, noted}
@@ -20,35 +22,46 @@ noted_twice false e l =
     (set_twice l.reads e.thread (plain_mark e))
     ∙ ap (λ parts. record l { reads = set l.reads e.thread (plain_mark e); parts = parts }) (set_twice l.parts e.thread (commit_mark e))
 
-abbrev Part : List ℕ → List ℕ → Epoch → List Marks → ℕ → Marks
-Part xs writes e latests y = if is_in y xs then noted (is_in y writes) e (latest_of latests y) else latest_of latests y
+abbrev Part : List ℕ → Bool → Epoch → List Marks → ℕ → Marks
+Part xs w e latests y = if is_in y xs then noted w e (latest_of latests y) else latest_of latests y
 
-module _ (items writes : List ℕ) (i : ℕ) (e : Epoch) (now new : List Marks) (n : i < length items) (w : Bool) (told : w
-    ≡ is_in (get_or items i 0) writes)
+module _ (items : List ℕ) (i : ℕ) (e : Epoch) (now new : List Marks) (n : i < length items) (w : Bool)
     (is : (y : ℕ) → latest_of new y ≡ (if y == get_or items i 0 then noted w e (latest_of now y) else latest_of now y)) where
   split : drop i items ≡ get_or items i 0 ∷ drop (i + 1) items
   split = rw add-one (drop-cons items i 0 n)
 
-  here : (y : ℕ) → y ≡ get_or items i 0 → latest_of new y ≡ noted (is_in y writes) e (latest_of now y)
+  here : (y : ℕ) → y ≡ get_or items i 0 → latest_of new y ≡ noted w e (latest_of now y)
   here y same = is y ∙ ap (λ b. if b then noted w e (latest_of now y) else latest_of now y) (eq-eqb y (get_or items i 0) same)
-      ∙ ap (λ b. noted b e (latest_of now y)) (told ∙ ap (λ z. is_in z writes) (sym same))
 
   there : (y : ℕ) → (y ≡ get_or items i 0 → ⊥) → latest_of new y ≡ latest_of now y
   there y other = is y ∙ ap (λ b. if b then noted w e (latest_of now y) else latest_of now y) (ne_eqb y (get_or items i 0) other)
 
-  pub noted_on : (y : ℕ) → Part (drop (i + 1) items) writes e new y ≡ Part (drop i items) writes e now y
+  pub noted_on : (y : ℕ) → Part (drop (i + 1) items) w e new y ≡ Part (drop i items) w e now y
   noted_on y = elim (ℕ_discrete y (get_or items i 0)) [
     | yes same ↦
-        (let b : Part (drop i items) writes e now y
-        ≡ noted (is_in y writes) e (latest_of now y) = rw (split, eq-eqb y (get_or items i 0) same) refl in
+        (let b : Part (drop i items) w e now y
+        ≡ noted w e (latest_of now y) = rw (split, eq-eqb y (get_or items i 0) same) refl in
         by (is_in y (drop (i + 1) items)) (latest_of new y) (here y same) ∙ sym b)
     | no other ↦ rw (split, ne_eqb y (get_or items i 0) other, there y other) refl
   ]
     where
-      by : (b : Bool) (l : Marks) → l ≡ noted (is_in y writes) e (latest_of now y) → (if b then noted (is_in y writes) e l else l)
-          ≡ noted (is_in y writes) e (latest_of now y)
-      by true l h = ap (noted (is_in y writes) e) h ∙ noted_twice (is_in y writes) e (latest_of now y)
+      by : (b : Bool) (l : Marks) → l ≡ noted w e (latest_of now y) → (if b then noted w e l else l)
+          ≡ noted w e (latest_of now y)
+      by true l h = ap (noted w e) h ∙ noted_twice w e (latest_of now y)
       by false l h = h
+
+-- noted as read, and then as written, where it is
+pub noted_both : (reads writes : List ℕ) (y : ℕ) (e : Epoch) (old one two : Marks)
+    → one ≡ (if is_in y reads then noted false e old else old) → two ≡ (if is_in y writes then noted true e one else one)
+    → two ≡ (if is_in y (with_all writes reads) then noted (is_in y writes) e old else old)
+noted_both reads writes y e old one two a b = rw (is_in-both reads writes y) (by (is_in y reads) (is_in y writes) a b)
+  where
+    by : (r w : Bool) → one ≡ (if r then noted false e old else old) → two ≡ (if w then noted true e one else one)
+        → two ≡ (if (if r then true else w) then noted w e old else old)
+    by true true f g = g
+    by false true f g = g
+    by true false f g = g ∙ f
+    by false false f g = g ∙ f
 
 -- so are its clocks raised
 module _ (items : List ℕ) (i : ℕ) (n : i < length items) (by : ℕ → ℕ) (old new : ℕ → ℕ → ℕ) (joined : (j u : ℕ) → new j u

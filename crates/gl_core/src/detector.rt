@@ -208,14 +208,21 @@ impl Detector {
         ensures done { length (with_all writes.now reads.now) ≤ TX_VARIABLES → Rises (with_all writes.now reads.now) × CommitDone (taken (clocks_in self.old.tables) (record { thread = thread; event = Commits (with_all writes.now reads.now) })) self.old.latests.items thread self.old.tables.next (with_all writes.now reads.now) writes.now result self.new.latests.items × ClocksDone self.old.tables thread (with_all writes.now reads.now) result self.new.tables }
     {
         match (*reads).union(writes) {
-            Some(variables) => self.commit_on(thread, &variables, writes),
+            Some(variables) => self.commit_on(thread, &variables, reads, writes),
             None => Judged::NoAccess,
         }
     }
 
-    // A commit on these variables.
-    fn commit_on(&mut self, thread: u8, variables: &VarSet, writes: &VarSet) -> Judged
+    // A commit on these variables, which are those that it reads or writes.
+    fn commit_on(
+        &mut self,
+        thread: u8,
+        variables: &VarSet,
+        reads: &VarSet,
+        writes: &VarSet,
+    ) -> Judged
         requires ready { IsReady self.old }
+        requires variables { variables.now ≡ with_all writes.now reads.now }
         requires thread { thread < THREADS }
         requires room { self.old.tables.next + 3 < 2 ^ 32 }
         ensures ready { IsReady self.new }
@@ -228,13 +235,13 @@ impl Detector {
         variables.keeps();
         self.ticks = self.ticks.saturating_add(ticks_of_parts(variables));
         let known = self.tables.acquired_all(thread, variables, &mut self.ticks);
-        if let Some(var) = first_race(&self.latests, &known, variables, writes) {
+        if let Some(var) = first_race(&self.latests, &known, reads, writes, variables) {
             return Judged::Raised { var };
         }
         let epoch = self.tables.commit_epoch(thread);
         self.tables
             .take_commit(thread, variables, &known, &mut self.ticks);
-        note_all(&mut self.latests, variables, writes, &epoch);
+        note_all(&mut self.latests, reads, writes, variables, &epoch);
         Judged::Performed
     }
 }

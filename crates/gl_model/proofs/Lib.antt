@@ -7,4 +7,4 @@ pub mod ListsOf
 pub mod Pushed
 pub mod Parts
 pub mod PutParts
-pub mod Unions
+pub mod Merged

@@ -79,7 +79,7 @@ All-with_one P x (y ∷ ys) p all = elim (cases_lt x y) [
   ]
 ]
 
-weaker : (P Q : ℕ → Type 0) → ((y : ℕ) → P y → Q y) → (xs : List ℕ) → AllByRecursion P xs → AllByRecursion Q xs
+pub weaker : (P Q : ℕ → Type 0) → ((y : ℕ) → P y → Q y) → (xs : List ℕ) → AllByRecursion P xs → AllByRecursion Q xs
 weaker P Q f [] all = tt
 weaker P Q f (x ∷ xs) all = (f x all.0, weaker P Q f xs all.1)
 
@@ -94,7 +94,7 @@ Rises-with_one x (y ∷ ys) rises = elim (cases_lt x y) [
 ]
 
 -- in a rising list what stands behind a number that is above x is not x
-above-all : (x : ℕ) (ys : List ℕ) → AllByRecursion (λ y. x < y) ys → (k : ℕ) → k < length ys → x < get_or ys k 0
+pub above-all : (x : ℕ) (ys : List ℕ) → AllByRecursion (λ y. x < y) ys → (k : ℕ) → k < length ys → x < get_or ys k 0
 above-all x [] all k n = absurd (omega arith)
 above-all x (y ∷ ys) all zero n = all.0
 above-all x (y ∷ ys) all (suc k) n = above-all x ys all.1 k (omega arith)

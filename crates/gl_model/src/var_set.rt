@@ -3,7 +3,7 @@ ghost use Rattle.gl_model.specs.Kept.{AreVariables};
 ghost use Rattle.gl_model.specs.Rising.{with_one, with_all};
 
 use crate::limits::{TX_ROOM, TX_VARIABLES, VARIABLES};
-use crate::rising::{is_among, meet, place_among, put_among};
+use crate::rising::{is_among, meet, merge, place_in, put_among};
 use std::marker::Model;
 
 /// There is no room for another.
@@ -70,7 +70,7 @@ impl VarSet {
         ensures err { OnErr result (self.new ≡ self.old) }
     {
         let len = self.len as usize;
-        let i = place_among(&self.ids[..len], var);
+        let i = place_in(&self.ids[..len], var);
         if i < len && self.ids[i] == var {
             return Ok(());
         }
@@ -86,14 +86,11 @@ impl VarSet {
     pub fn union(self, other: &VarSet) -> Option<VarSet>
         ensures { MatchOption result (TX_VARIABLES < length (with_all other.now self)) (λ all. (all ≡ with_all other.now self) × (length (with_all other.now self) ≤ TX_VARIABLES)) }
     {
-        let mut all = self;
-        for var in other.ids() {
-            if all.insert(*var).is_err() {
-                return None;
-            }
-        }
-        all.keeps();
-        Some(all)
+        self.keeps();
+        other.keeps();
+        let mut ids = [0; TX_ROOM];
+        let len = merge(self.ids(), other.ids(), &mut ids)? as u8;
+        Some(VarSet { ids, len })
     }
 
     /// Whether the variable is in it.

@@ -1,9 +1,9 @@
 -- A list of variables that is read from left to right.
-use Rattle.std.proofs.Common.{◌≡◌, ◌+◌, ◌<◌, ◌≤◌, ℕ, List, [], ◌∷◌, ◌++◌, true, false, ◌&&◌, ◌||◌, Option, Some, None, Result, Ok, Err, nat_lt, nat_le, ◌==◌, length, length-append, take, drop, Contains, inl, inr, refl, ap, sym, ◌∙◌, ◌-◌, append_assoc, append-nil, true≢false, arith}
-use Rattle.std.proofs.lemmas.Bool.{cases_Bool, cases_lt, lt-ltb, le-ltb, leb-true, leb-false, ne_eqb, le-leb, lt-leb, and_parts, and_from, and_left, and_right, and_cases, or_cases}
+use Rattle.std.proofs.Common.{◌≡◌, ◌+◌, ◌<◌, ◌≤◌, ℕ, zero, suc, List, [], ◌∷◌, ◌++◌, get_or, true, false, ◌&&◌, ◌||◌, Option, Some, None, Result, Ok, Err, nat_lt, nat_le, ◌==◌, length, length-append, take, drop, Contains, inl, inr, refl, ap, sym, ◌∙◌, ◌-◌, append_assoc, append-nil, true≢false, arith}
+use Rattle.std.proofs.lemmas.Bool.{cases_Bool, cases_lt, lt-ltb, le-ltb, ltb-true, leb-true, leb-false, ne_eqb, le-leb, lt-leb, and_parts, and_from, and_left, and_right, and_cases, or_cases}
 use Rattle.std.specs.List.{list_any, list_all, slice_split, position, before_first, after_first}
 use Rattle.std.proofs.lemmas.List.Splits.{slice_split_first}
-use Rattle.std.proofs.lemmas.List.Folds.{list_all-append, list_any-from_Any}
+use Rattle.std.proofs.lemmas.List.Folds.{list_all-append, list_any-from_Any, list_any_at}
 use Rattle.gl_model.specs.declared.limits.TheConstants.{VARIABLES, TX_VARIABLES}
 use Rattle.gl_model.specs.Rising.{with_one}
 use Rattle.gl_text.proofs.TextLemmas.{place_some, place_none, split_none}
@@ -89,6 +89,28 @@ grows xs ys n set none room e =
     let still : is_set (xs ++ n ∷ []) ≡ true =
     and_from (rises (xs ++ n ∷ [])) (nat_le (length (xs ++ n ∷ [])) TX_VARIABLES) (rises_push xs n up none) fits in
     rw still (ap Some (e ∙ goes_last xs n none))
+
+-- in a list that rises the last reaches a number where some does
+below_last : (xs : List ℕ) (n k : ℕ) → rises xs ≡ true → k < length xs → nat_le n (get_or xs k 0) ≡ false
+    → (k + 1 ≡ length xs) → list_any (λ x. nat_le n x) xs ≡ false
+below_last [] n k r less over end = refl
+below_last (x ∷ []) n zero r less over end = rw over refl
+below_last (x ∷ []) n (suc k) r less over end = absurd (omega arith)
+below_last (x ∷ (y ∷ ys)) n zero r less over end = absurd (omega arith)
+below_last (x ∷ (y ∷ ys)) n (suc k) r less over end =
+    let (first, others) = and_parts (list_all (λ z. nat_lt x z) (y ∷ ys)) (rises (y ∷ ys)) r in
+    let up : nat_lt x y ≡ true = (and_parts (nat_lt x y) (list_all (λ z. nat_lt x z) ys) first).0 in
+    let (below, rest) = below_of ys n y (below_last (y ∷ ys) n k others (omega arith) over (omega arith)) in
+    let less' : x < y = ltb-true x y up in
+    rw (lt-leb n x (omega arith)) (below_last (y ∷ ys) n k others (omega arith) over (omega arith))
+
+pub last_reaches : (xs : List ℕ) (n : ℕ) → rises xs ≡ true → 0 < length xs → nat_le n (get_or xs (length xs - 1) 0)
+    ≡ list_any (λ x. nat_le n x) xs
+last_reaches xs n r some =
+    elim (cases_Bool (nat_le n (get_or xs (length xs - 1) 0))) [
+      | inl e ↦ e ∙ sym (list_any_at (λ x. nat_le n x) xs (length xs - 1) 0 (omega arith) e)
+      | inr e ↦ e ∙ sym (below_last xs n (length xs - 1) r (omega arith) e (omega arith))
+    ]
 
 -- the whole of a list, from what is kept of the words before and those that are left
 abbrev pub put_rest : Option (List ℕ) → List (List ℕ) → Result (Option (List ℕ)) ℕ

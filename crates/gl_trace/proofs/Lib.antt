@@ -4,3 +4,4 @@ pub mod TracerLemmas
 pub mod QuickLemmas
 pub mod WholeTraces
 pub mod QuickLists
+pub mod Unions

@@ -2,7 +2,7 @@
 ghost use Rattle.std.specs.Prelude.{◌≡◌, ◌<◌, ◌≤◌, IfOk, ◌∷◌, nat_le, true, false, Some, None, List, ℕ};
 ghost use Rattle.std.specs.List.{position, list_any, slice_split};
 ghost use Rattle.std.specs.Iterator.{YieldsFirstBy, item_count};
-ghost use Rattle.gl_trace.specs.Ids.{operand_of, set_of, list_words, is_comma, is_set};
+ghost use Rattle.gl_trace.specs.Ids.{operand_of, set_of, list_words, is_comma, is_set, rises};
 ghost use Rattle.gl_trace.specs.Kept.{parts_left, with_last, IsKept};
 ghost use Rattle.gl_model.specs.declared.limits.TheConstants.{VARIABLES};
 
@@ -83,11 +83,13 @@ impl<'a> Iterator for Parts<'a> {
     }
 }
 
-// Whether one of the ids is at or above this one.
+// Whether one of the ids, which rise, is at or above this one: the last is.
 fn reaches(ids: &[u16], id: u16) -> bool
+    requires { rises ids.now ≡ true }
     ensures { result ≡ list_any (λ x. nat_le id x) ids.now }
 {
-    ids.iter().any(|x| id <= *x)
+    let len = ids.len();
+    len > 0 && id <= ids[len - 1]
 }
 
 // Puts one id behind the others, if they still are a set then.

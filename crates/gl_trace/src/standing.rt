@@ -3,7 +3,7 @@ ghost use Rattle.std.specs.Prelude.{◌≡◌, ◌<◌, ◌^◌, ◌-◌, ◌+�
 ghost use Rattle.gl_model.specs.TraceSteps.{Step, IsLineItem, IsLineAct, step_fault, act_fault, is_started, is_running};
 ghost use Rattle.gl_model.specs.declared.limits.TheConstants.{THREADS};
 
-use crate::union::both;
+use crate::union::are_too_many;
 use gl_model::{Act, Item, MONITORS, StepFault, THREADS};
 
 const THREAD_ROOM: usize = THREADS as usize;
@@ -101,7 +101,7 @@ impl Standing {
         ensures { (steps : List Step) → Tracks steps self.now → result ≡ step_fault steps thread item.now }
     {
         if let Item::Commit { reads, writes } = item {
-            if both(*reads, writes).is_none() {
+            if are_too_many(reads, writes) {
                 return Some(StepFault::BadSet);
             }
         }

@@ -12,3 +12,13 @@ pub fn both(reads: VarSet, writes: &VarSet) -> Option<VarSet>
 {
     reads.union(writes)
 }
+
+/// Whether there are more than a transaction may have. Lists that are that short together are not looked at.
+pub fn are_too_many(reads: &VarSet, writes: &VarSet) -> bool
+    ensures { result ≡ nat_lt TX_VARIABLES (length (with_all writes.now reads.now)) }
+{
+    if reads.len() + writes.len() <= TX_VARIABLES as usize {
+        return false;
+    }
+    both(*reads, writes).is_none()
+}

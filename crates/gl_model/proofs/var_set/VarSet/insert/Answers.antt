@@ -9,13 +9,13 @@ use Rattle.gl_model.proofs.var_set.VarSet.insert.Goals.{else-i-len-via-then-i-le
 pub returns-then-self-i-clause-ok : goal.returns-then-self-i-clause-ok
 returns-then-self-i-clause-ok c =
     let f = c.self.inside in
-    let p = c.place_among-i in
+    let p = c.place_in-i in
     rw (← c.self.view_is) (found_there f.ids f.len p.result c.args.var (let l = c.self.invariant.1 in omega arith) p.ensures.within
     p.ensures.below p.ensures.here c.if-i-len.true c.if-self-i.true)
 
 -- the variable is not at its place
-not_at : (c : goal.Then-self-eq-TX_VARIABLES) → c.place_among-i.result < c.self.inside.len
-    → get_or c.self.inside.ids c.place_among-i.result 0 ≢ c.args.var
+not_at : (c : goal.Then-self-eq-TX_VARIABLES) → c.place_in-i.result < c.self.inside.len
+    → get_or c.self.inside.ids c.place_in-i.result 0 ≢ c.args.var
 not_at c l = elim c.else-i-len.branch [
   | else-i-len-via-then-i-len+else-self-i w ↦ w.if-self-i.false
   | else-i-len-via-else-i-len w ↦ absurd (let n = w.if-i-len.false in omega arith)
@@ -24,7 +24,7 @@ not_at c l = elim c.else-i-len.branch [
 pub returns-then-self-eq-TX_VARIABLES-clause-full : goal.returns-then-self-eq-TX_VARIABLES-clause-full
 returns-then-self-eq-TX_VARIABLES-clause-full c =
     let f = c.self.inside in
-    let p = c.place_among-i in
+    let p = c.place_in-i in
     let le : f.len ≤ length f.ids = (let l = c.self.invariant.1 in omega arith) in
     rw (← c.self.view_is) (
       λ _. (
@@ -37,8 +37,8 @@ returns-then-self-eq-TX_VARIABLES-clause-full c =
     )
 
 -- the variable is not at its place, past the test for room
-not_at_after : (c : goal.After-self-1) → c.place_among-i.result < c.self.inside.len
-    → get_or c.self.inside.ids c.place_among-i.result 0 ≢ c.args.var
+not_at_after : (c : goal.After-self-1) → c.place_in-i.result < c.self.inside.len
+    → get_or c.self.inside.ids c.place_in-i.result 0 ≢ c.args.var
 not_at_after c l = elim c.else-i-len.branch [
   | else-i-len-via-then-i-len+else-self-i w ↦ w.if-self-i.false
   | else-i-len-via-else-i-len w ↦ absurd (let n = w.if-i-len.false in omega arith)
@@ -48,7 +48,7 @@ put : (c : goal.After-self-1) → take (c.self.inside.len + 1) c.put_among.new.p
     ≡ with_one c.args.var (take c.self.inside.len c.self.inside.ids)
 put c =
     let f = c.self.inside in
-    let p = c.place_among-i in
+    let p = c.place_in-i in
     c.put_among.ensures.parts ∙ put_there f.ids f.len p.result c.args.var (let l = c.self.invariant.1 in omega arith) p.ensures.within
     p.ensures.below p.ensures.here (not_at_after c)
 
