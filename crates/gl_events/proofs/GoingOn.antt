@@ -2,7 +2,7 @@
 use Rattle.std.proofs.Common.{◌≡◌, ℕ, ℤ, suc, ◌∷◌, ◌++◌, [], refl, sym, ap, ◌∙◌, subst}
 use Rattle.std.specs.Prelude.{List, Bool, true, false, if◌then◌else◌, ◌<◌, ◌^◌}
 use Rattle.gl_model.specs.declared.event.Act.{Act}
-use Rattle.gl_model.specs.declared.event.Act.TheVariants.{Rel, Fail}
+use Rattle.gl_model.specs.declared.event.Act.TheVariants.{Rel, Fork, Fail}
 use Rattle.gl_model.specs.Entries.{Entry, Sync}
 use Rattle.gl_draws.specs.Ties.{counted}
 use Rattle.gl_draws.proofs.Forming.{counted_push}
@@ -37,7 +37,24 @@ goes_on c z p q at act value may runs stays is room few = record {
       ∙ ap (λ l. life_after l (Sync at act value)) (may.life ∙ runs) ∙ stays ∙ sym runs;
 }
 
+-- a call that stopped left all of the pass's own as it was
+pub stays : (c : Call) (z : TableView) (p q : PassView) → MayCall c z p → q.own ≡ p.own → q.spare ≡ p.spare → MayCall c z q
+stays c z p q may same room = record {
+  table = ap (λ (o : Own). o.table) same ∙ may.table;
+  held = ap (λ (o : Own). o.held) same ∙ may.held;
+  drawn = ap (λ (o : Own). o.drawn) same ∙ may.drawn;
+  owed = ap (λ (o : Own). o.owed) same ∙ may.owed;
+  spare = subst (λ n. 0 < n) (sym room) may.spare;
+  few = subst (λ (o : Own). counted o.mine < 2 ^ 50) (sym same) may.few;
+  life = ap (λ (o : Own). life_of o.mine) same ∙ may.life;
+}
+
 -- an exit leaves the thread running, whether it was in the monitor or not
 pub exit_runs : (b : Bool) (monitor code : ℕ) → life_act (if b then Rel monitor else Fail code) ≡ Running
 exit_runs true monitor code = refl
 exit_runs false monitor code = refl
+
+-- so does a fork, whether there is room for a thread or not
+pub fork_runs : (b : Bool) (child func code : ℕ) → life_act (if b then Fork child func else Fail code) ≡ Running
+fork_runs true child func code = refl
+fork_runs false child func code = refl

@@ -1,29 +1,34 @@
-ghost use Rattle.std.specs.Prelude.{◌≡◌, ◌<◌, ◌≤◌, ◌+◌, ◌*◌, ◌^◌, [], IfSome, OnSome};
+ghost use Rattle.std.specs.Prelude.{◌≡◌, ◌<◌, ◌≤◌, ◌+◌, ◌*◌, ◌^◌, [], ◌∷◌, IfSome, OnSome, OnOk, OnErr, Contains};
 ghost use Rattle.gl_draws.specs.Ties.{counted};
 ghost use Rattle.gl_model.specs.declared.limits.TheConstants.{MONITORS};
 ghost use Rattle.gl_events.specs.Answers.{MayCall};
 ghost use Rattle.gl_events.specs.declared.call.Call.TheVariants as call;
 ghost use Rattle.gl_segments.specs.Rings.{IsRing};
 
-use crate::{Done, begin, end, enter, exit};
+use crate::{Done, Stop, begin, end, enter, exit, fork};
 use gl_model::{Classes, Ending, Inputs};
 use gl_segments::Ring;
 use gl_table::{Layout, Pass, Shared};
 use std::alloc::Global;
 use std::test::Fail;
 
-fn layout(alloc: Global) -> Layout
-    ensures ring { IsRing result.ring }
-    ensures main { result.main ≡ 0 }
-    ensures starts { result.starts.items ≡ [] }
+// Threads are forked with function 1.
+fn layout(alloc: Global) -> Option<Layout>
+    ensures ring { IfSome result (λ l. IsRing l.ring) }
+    ensures main { IfSome result (λ l. l.main ≡ 0) }
+    ensures starts { IfSome result (λ l. l.starts.items ≡ 1 ∷ []) }
 {
-    Layout {
+    let mut starts = Vec::new(alloc);
+    let Ok(()) = starts.push(1) else {
+        return None;
+    };
+    Some(Layout {
         classes: Classes::empty(alloc),
         inputs: Inputs::empty(alloc),
         main: 0,
-        starts: Vec::new(alloc),
+        starts,
         ring: Ring::standard(),
-    }
+    })
 }
 
 // A table with the pass of its first thread, which has room for four entries.
@@ -32,7 +37,10 @@ fn first_pass(alloc: Global) -> Option<(Shared, Pass)>
     ensures first { IfSome result (λ r. r.1.own.mine ≡ []) }
     ensures room { IfSome result (λ r. 3 < r.1.spare) }
 {
-    let Ok((shared, mut passes)) = Shared::new(alloc, layout(alloc)) else {
+    let Some(layout) = layout(alloc) else {
+        return None;
+    };
+    let Ok((shared, mut passes)) = Shared::new(alloc, layout) else {
         return None;
     };
     if passes.is_empty() {
@@ -97,7 +105,7 @@ fn entered(shared: &Shared, pass: &mut Pass, monitor: u16) -> Option<u64>
 }
 
 // The thread leaves the monitor, or is told that it is not in it, and may go on.
-fn left(shared: &Shared, pass: &mut Pass, monitor: u16) -> Option<u64>
+fn left(shared: &Shared, pass: &mut Pass, monitor: u16) -> Option<Done>
     requires may { MayCall call.End shared.now pass.old }
     requires few { counted pass.old.own.mine + 1 < 2 ^ 50 }
     requires there { monitor < MONITORS }
@@ -107,7 +115,7 @@ fn left(shared: &Shared, pass: &mut Pass, monitor: u16) -> Option<u64>
     ensures room { OnSome result (pass.old.spare ≡ pass.new.spare + 1) }
 {
     match exit(shared, pass, monitor) {
-        Ok(done) => Some(done.at),
+        Ok(done) => Some(done),
         Err(_) => None,
     }
 }
@@ -125,10 +133,10 @@ fn round(shared: &Shared, pass: &mut Pass, monitor: u16) -> Option<u64>
     let Some(_) = entered(shared, pass, monitor) else {
         return None;
     };
-    let Some(at) = left(shared, pass, monitor) else {
+    let Some(done) = left(shared, pass, monitor) else {
         return None;
     };
-    Some(at)
+    Some(done.at)
 }
 
 // So many rounds; answers the position of the last event, or 0 where there was none.
@@ -150,7 +158,7 @@ fn rounds(shared: &Shared, pass: &mut Pass, monitor: u16, count: u16) -> Option<
 }
 
 // The thread begins, and may go on.
-fn begun(shared: &Shared, pass: &mut Pass) -> Option<u64>
+fn begun(shared: &Shared, pass: &mut Pass) -> Option<Done>
     requires may { MayCall call.Begin shared.now pass.old }
     requires first { pass.old.own.mine ≡ [] }
     requires room { 1 < pass.old.spare }
@@ -159,7 +167,7 @@ fn begun(shared: &Shared, pass: &mut Pass) -> Option<u64>
     ensures room { OnSome result (pass.old.spare ≡ pass.new.spare + 1) }
 {
     match begin(shared, pass) {
-        Ok(done) => Some(done.at),
+        Ok(done) => Some(done),
         Err(_) => None,
     }
 }
@@ -193,5 +201,145 @@ fn a_monitor_is_entered_and_left_a_thousand_times(rt: HostRuntime) -> Result<(),
         panic!(rt; "nobody else holds the list")
     };
     assert_eq!(rt; last, 2000);
+    Ok(())
+}
+
+// A table with the passes of its first two threads, which have room for some entries.
+fn two_passes(alloc: Global) -> Option<(Shared, Pass, Pass)>
+    ensures may { IfSome result (λ r. MayCall call.Begin r.0 r.1 × MayCall call.Begin r.0 r.2) }
+    ensures first { IfSome result (λ r. (r.1.own.mine ≡ []) × (r.2.own.mine ≡ [])) }
+    ensures room { IfSome result (λ r. (9 < r.1.spare) × (9 < r.2.spare)) }
+    ensures starts { IfSome result (λ r. Contains r.0.key.setting.forkable 1) }
+{
+    let Some(layout) = layout(alloc) else {
+        return None;
+    };
+    let Ok((shared, mut passes)) = Shared::new(alloc, layout) else {
+        return None;
+    };
+    if passes.len() < 2 {
+        return None;
+    }
+    let mut zero = passes.remove(0);
+    let mut one = passes.remove(0);
+    let (Ok(()), Ok(())) = (zero.reserve(10), one.reserve(10)) else {
+        return None;
+    };
+    Some((shared, zero, one))
+}
+
+// The thread forks another with function 1 and the value 9, and may go on.
+fn forked(shared: &Shared, pass: &mut Pass) -> Option<Done>
+    requires may { MayCall call.End shared.now pass.old }
+    requires few { counted pass.old.own.mine + 1 < 2 ^ 50 }
+    requires starts { Contains shared.now.key.setting.forkable 1 }
+    requires room { 1 < pass.old.spare }
+    ensures may { OnSome result (MayCall call.End shared.now pass.new) }
+    ensures count { OnSome result (counted pass.new.own.mine ≡ counted pass.old.own.mine + 1) }
+    ensures room { OnSome result (pass.old.spare ≡ pass.new.spare + 1) }
+{
+    match fork(shared, pass, 1, 9) {
+        Ok(done) => Some(done),
+        Err(_) => None,
+    }
+}
+
+// The thread asks to begin, and is told why it cannot; it may ask again.
+fn cannot_begin(shared: &Shared, pass: &mut Pass) -> Option<Stop>
+    requires may { MayCall call.Begin shared.now pass.old }
+    requires first { pass.old.own.mine ≡ [] }
+    ensures may { OnSome result (MayCall call.Begin shared.now pass.new) }
+    ensures first { OnSome result (pass.new.own.mine ≡ []) }
+    ensures room { OnSome result (pass.new.spare ≡ pass.old.spare) }
+{
+    match begin(shared, pass) {
+        Ok(_) => None,
+        Err(stop) => Some(stop),
+    }
+}
+
+// The thread asks to enter a monitor, and is told why it cannot; it may go on.
+fn cannot_enter(shared: &Shared, pass: &mut Pass, monitor: u16) -> Option<Stop>
+    requires may { MayCall call.End shared.now pass.old }
+    requires there { monitor < MONITORS }
+    ensures may { OnSome result (MayCall call.End shared.now pass.new) }
+    ensures count { OnSome result (counted pass.new.own.mine ≡ counted pass.old.own.mine) }
+    ensures room { OnSome result (pass.new.spare ≡ pass.old.spare) }
+{
+    match enter(shared, pass, monitor) {
+        Ok(_) => None,
+        Err(stop) => Some(stop),
+    }
+}
+
+// Thread 1 cannot begin before it is forked. Thread 0 begins and forks it; then it begins.
+fn two_begin(shared: &Shared, zero: &mut Pass, one: &mut Pass) -> Option<(Stop, Done, Done, Done)>
+    requires may { MayCall call.Begin shared.now zero.old × MayCall call.Begin shared.now one.old }
+    requires first { (zero.old.own.mine ≡ []) × (one.old.own.mine ≡ []) }
+    requires room { (9 < zero.old.spare) × (9 < one.old.spare) }
+    requires starts { Contains shared.now.key.setting.forkable 1 }
+    ensures may { OnSome result (MayCall call.End shared.now zero.new × MayCall call.End shared.now one.new) }
+    ensures count { OnSome result ((counted zero.new.own.mine ≡ 2) × (counted one.new.own.mine ≡ 1)) }
+    ensures room { OnSome result ((7 < zero.new.spare) × (7 < one.new.spare)) }
+{
+    let Some(early) = cannot_begin(shared, one) else {
+        return None;
+    };
+    let Some(first) = begun(shared, zero) else {
+        return None;
+    };
+    let Some(fork) = forked(shared, zero) else {
+        return None;
+    };
+    let Some(second) = begun(shared, one) else {
+        return None;
+    };
+    Some((early, first, fork, second))
+}
+
+// Thread 1 enters monitor 5. Thread 0 cannot enter it, nor leave it.
+fn two_meet(shared: &Shared, zero: &mut Pass, one: &mut Pass) -> Option<(u64, Stop, Done)>
+    requires may { MayCall call.End shared.now zero.old × MayCall call.End shared.now one.old }
+    requires count { (counted zero.old.own.mine ≡ 2) × (counted one.old.own.mine ≡ 1) }
+    requires room { (7 < zero.old.spare) × (7 < one.old.spare) }
+    ensures may { OnSome result (MayCall call.End shared.now zero.new × MayCall call.End shared.now one.new) }
+{
+    let Some(at) = entered(shared, one, 5) else {
+        return None;
+    };
+    let Some(stop) = cannot_enter(shared, zero, 5) else {
+        return None;
+    };
+    let Some(refused) = left(shared, zero, 5) else {
+        return None;
+    };
+    Some((at, stop, refused))
+}
+
+// Two passes in one thread: where each event stands, with which value, and why a call does nothing.
+#[test]
+fn two_passes_meet(rt: HostRuntime) -> Result<(), Fail> {
+    let Some((shared, mut zero, mut one)) = two_passes(rt.alloc()) else {
+        panic!(rt; "no memory")
+    };
+    let Some((early, first, fork, second)) = two_begin(&shared, &mut zero, &mut one) else {
+        panic!(rt; "nobody else holds the list")
+    };
+    let Stop::NotForked { live } = early else {
+        panic!(rt; "thread 1 was not forked")
+    };
+    assert_eq!(rt; live, 1);
+    assert_eq!(rt; first.at, 0);
+    assert_eq!(rt; (fork.at, fork.value), (1, 1));
+    assert_eq!(rt; (second.at, second.value, second.func), (2, 9, 1));
+    let Some((at, stop, refused)) = two_meet(&shared, &mut zero, &mut one) else {
+        panic!(rt; "nobody else holds the list")
+    };
+    assert_eq!(rt; at, 3);
+    let Stop::Blocked { owner } = stop else {
+        panic!(rt; "thread 1 is in the monitor")
+    };
+    assert_eq!(rt; owner, 1);
+    assert_eq!(rt; (refused.at, refused.value, refused.code), (4, 0, 5));
     Ok(())
 }
