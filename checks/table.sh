@@ -22,7 +22,7 @@ said() {
 
 # Copies of gl_txn and of all crates below it, and the crates of the script, which use them.
 echo "checks/table: these tests are run, and not proved"
-below="gl_txn $(sed -n 's/^gl_txn: //p' crates.txt)"
+below="gl_txn $(sed -n 's/^gl_txn[^:]*: //p' crates.txt)"
 for crate in $below; do
     mkdir -p "$work/crates/$crate"
     cp -r "crates/$crate/src" "crates/$crate/specs" "crates/$crate/proofs" "$work/crates/$crate"
@@ -31,7 +31,7 @@ done
 cp HANDLES "$work"
 mkdir -p "$work/crates/table_script/src" "$work/crates/table_refused/src"
 echo "table_script tests_may=Threads: $below" >>"$work/crates.txt"
-echo "table_refused: gl_events $(sed -n 's/^gl_events: //p' crates.txt)" >>"$work/crates.txt"
+echo "table_refused: gl_events $(sed -n 's/^gl_events[^:]*: //p' crates.txt)" >>"$work/crates.txt"
 for source in checks/table/*.rt.txt; do
     name=$(basename "$source" .rt.txt)
     case $name in

@@ -5,12 +5,14 @@ ghost use Rattle.gl_events.specs.Answers.{MayCall};
 ghost use Rattle.gl_events.specs.declared.call.Call.TheVariants as call;
 ghost use Rattle.gl_segments.specs.Rings.{IsRing};
 
-use crate::{Done, Stop, begin, end, enter, exit, fork};
+use crate::{Done, Stop, begin, end, enter, exit, fork, print};
 use gl_model::{Classes, Ending, Inputs};
 use gl_segments::Ring;
 use gl_table::{Layout, Pass, Shared};
 use std::alloc::Global;
 use std::test::Fail;
+use std::thread;
+use std::thread::Threads;
 
 // Threads are forked with function 1.
 fn layout(alloc: Global) -> Option<Layout>
@@ -280,7 +282,7 @@ fn two_begin(shared: &Shared, zero: &mut Pass, one: &mut Pass) -> Option<(Stop, 
     requires starts { Contains shared.now.key.setting.forkable 1 }
     ensures may { OnSome result (MayCall call.End shared.now zero.new × MayCall call.End shared.now one.new) }
     ensures count { OnSome result ((counted zero.new.own.mine ≡ 2) × (counted one.new.own.mine ≡ 1)) }
-    ensures room { OnSome result ((7 < zero.new.spare) × (7 < one.new.spare)) }
+    ensures room { OnSome result ((zero.old.spare ≡ zero.new.spare + 2) × (one.old.spare ≡ one.new.spare + 1)) }
 {
     let Some(early) = cannot_begin(shared, one) else {
         return None;
@@ -341,5 +343,94 @@ fn two_passes_meet(rt: HostRuntime) -> Result<(), Fail> {
     };
     assert_eq!(rt; owner, 1);
     assert_eq!(rt; (refused.at, refused.value, refused.code), (4, 0, 5));
+    Ok(())
+}
+
+// The thread tries to print, and may go on either way; answers whether it did.
+fn printed(shared: &Shared, pass: &mut Pass) -> bool
+    requires may { MayCall call.End shared.now pass.old }
+    requires few { counted pass.old.own.mine + 1 < 2 ^ 50 }
+    requires room { 1 < pass.old.spare }
+    ensures may { MayCall call.End shared.now pass.new }
+    ensures count { counted pass.new.own.mine ≤ counted pass.old.own.mine + 1 }
+    ensures room { pass.old.spare ≤ pass.new.spare + 1 }
+{
+    match print(shared, pass, 7) {
+        Ok(_) => true,
+        Err(_) => false,
+    }
+}
+
+// How often the thread printed, in so many tries.
+fn prints(shared: &Shared, pass: &mut Pass, tries: u32) -> u32
+    requires may { MayCall call.End shared.now pass.old }
+    requires few { counted pass.old.own.mine + tries < 2 ^ 50 }
+    requires room { tries < pass.old.spare }
+    ensures few { result ≤ tries }
+    ensures may { MayCall call.End shared.now pass.new }
+{
+    let mut done = 0;
+    for _ in 0..tries {
+        if printed(shared, pass) {
+            done += 1;
+        }
+    }
+    done
+}
+
+// What a thread of its own does with the pass, which it hands back.
+fn prints_with(shared: &Shared, pass: Pass) -> (u32, Pass)
+    requires may { MayCall call.End shared.now pass }
+    requires few { counted pass.own.mine ≤ 2 }
+    requires room { 1000 < pass.spare }
+    ensures few { result.0 ≤ 1000 }
+    ensures may { MayCall call.End shared.now result.1 }
+{
+    let mut pass = pass;
+    let done = prints(shared, &mut pass, 1000);
+    (done, pass)
+}
+
+// Two threads side by side, each with its pass; both passes may go on then.
+fn both<R: Threads + Sync>(
+    rt: &R,
+    shared: &Shared,
+    zero: Pass,
+    one: Pass,
+) -> ((u32, Pass), (u32, Pass))
+    requires may { MayCall call.End shared.now zero × MayCall call.End shared.now one }
+    requires count { (counted zero.own.mine ≡ 2) × (counted one.own.mine ≡ 1) }
+    requires room { (1000 < zero.spare) × (1000 < one.spare) }
+    ensures few { (result.0.0 ≤ 1000) × (result.1.0 ≤ 1000) }
+    ensures may { MayCall call.End shared.now result.0.1 × MayCall call.End shared.now result.1.1 }
+{
+    thread::join(
+        rt,
+        move || -> (u32, Pass)
+            requires { MayCall call.End shared.now zero × (counted zero.own.mine ≡ 2) × (1000 < zero.spare) }
+            ensures { (result.0 ≤ 1000) × MayCall call.End shared.entry.now result.1 }
+        { prints_with(shared, zero) },
+        move || -> (u32, Pass)
+            requires { MayCall call.End shared.now one × (counted one.own.mine ≡ 1) × (1000 < one.spare) }
+            ensures { (result.0 ≤ 1000) × MayCall call.End shared.entry.now result.1 }
+        { prints_with(shared, one) },
+    )
+}
+
+// Two threads try to print 1,000 times each, side by side: who tries first finds the list free, and the tail is behind all that they did.
+#[test]
+fn two_threads_print(rt: HostRuntime) -> Result<(), Fail> {
+    let Some((shared, mut zero, mut one)) = two_passes(rt.alloc()) else {
+        panic!(rt; "no memory")
+    };
+    let (Ok(()), Ok(())) = (zero.reserve(1010), one.reserve(1010)) else {
+        panic!(rt; "no memory")
+    };
+    let Some(_) = two_begin(&shared, &mut zero, &mut one) else {
+        panic!(rt; "nobody else holds the list")
+    };
+    let ((first, mut zero), (second, _)) = both(&rt, &shared, zero, one);
+    assert!(rt; first > 0 || second > 0);
+    assert_eq!(rt; shared.tail(&mut zero), 3 + first as u64 + second as u64);
     Ok(())
 }
