@@ -24,8 +24,9 @@ pub one_more : (p q : PassView) (at : ℕ) (act : Act) (value : ℤ) → q.own �
 one_more p q at act value is = ap (λ (o : Own). counted o.mine) is ∙ counted_push p.own.mine (Sync at act value) (λ h. h)
 
 -- behind an event of a thread that runs, which leaves it running, it may call again while there is room
-pub goes_on : (c : Call) (z : TableView) (p q : PassView) (at : ℕ) (act : Act) (value : ℤ) → MayCall c z p → life_for c ≡ Running → life_act act
-    ≡ Running → q.own ≡ told (Sync at act value) p.own → 0 < q.spare → suc (counted p.own.mine) < 2 ^ 50 → MayCall c z q
+pub goes_on : (c : Call) (z : TableView) (p q : PassView) (at : ℕ) (act : Act) (value : ℤ)
+    → MayCall c z p → life_for c ≡ Running → life_act act ≡ Running → q.own ≡ told (Sync at act value) p.own
+    → 0 < q.spare → suc (counted p.own.mine) < 2 ^ 50 → MayCall c z q
 goes_on c z p q at act value may runs stays is room few = record {
   table = ap (λ (o : Own). o.table) is ∙ may.table;
   held = ap (λ (o : Own). o.held) is ∙ may.held;
