@@ -3,5 +3,6 @@ pub mod Beginnings
 pub mod Acts
 pub mod Answering
 pub mod Publishing
-pub mod HoldsLoaded
+pub mod GoingOn
+mod HoldsLoaded
 pub mod ExitCodes
