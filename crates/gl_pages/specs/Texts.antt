@@ -10,6 +10,7 @@ use Rattle.gl_pages.specs.declared.facts.Explanation.{Explanation}
 use Rattle.gl_causes.specs.declared.handing.Way.{Way}
 use Rattle.gl_causes.specs.declared.handing.Way.TheVariants.{Releases, Writes, Forks, Commits, Ends}
 use Rattle.gl_pages.specs.declared.facts.Handed.{Handed}
+use Rattle.gl_pages.specs.declared.facts.Leading.{Leading}
 use Rattle.gl_pages.specs.declared.facts.Side.{Side}
 
 -- the line of an instruction: its function, its number, and what stands in it
@@ -76,10 +77,25 @@ did_text names s = codes "  what thread " ++ (thing_text names Thread s.place.th
 abbrev pub handed_text : Naming → Side → Option Handed → List ℕ
 handed_text names s handed = did_text names s ++ found_text names handed
 
+-- to whom the other thread leads
+abbrev pub leads_text : Naming → Side → List ℕ
+leads_text names s = codes " to thread " ++ (thing_text names Thread s.place.thread ++ codes " there")
+
+-- the last entry of its thread that leads there
+abbrev pub leading_text : Naming → Explanation → Option Leading → List ℕ
+leading_text names e None =
+    codes "  nothing of thread " ++ (thing_text names Thread e.other.place.thread ++ (codes " leads" ++ (leads_text names e.at ++ codes "\n")))
+leading_text names e (Some l) =
+    codes "  the last of thread "
+    ++ (thing_text names Thread e.other.place.thread
+    ++ (codes " that leads" ++ (leads_text names e.at ++ (codes " is " ++ (where_text l.source ++ codes "\n")))))
+
 -- what is said of them
 abbrev pub facts_text : Naming → Explanation → List ℕ
 facts_text names e =
-    others_text e.others ++ (owned_text names e.at ++ (owned_text names e.other ++ handed_text names e.other e.handed))
+    others_text e.others
+    ++ (owned_text names e.at
+    ++ (owned_text names e.other ++ (handed_text names e.other e.handed ++ leading_text names e e.leading)))
 
 abbrev pub explanation_text : Naming → Explanation → List ℕ
 explanation_text names e = sides_text names e ++ facts_text names e
