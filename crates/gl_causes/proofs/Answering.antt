@@ -27,7 +27,7 @@ use Rattle.gl_causes.specs.declared.cause.Cause.{Cause}
 use Rattle.gl_causes.specs.declared.races.Asked.{Asked}
 use Rattle.gl_causes.specs.declared.refusals.Refusal.{Refusal}
 use Rattle.gl_causes.proofs.EntryTests.{refusal_means, refusal_there}
-use Rattle.gl_causes.proofs.Leading.{led}
+use Rattle.gl_causes.proofs.Known.{led}
 use Rattle.gl_causes.proofs.Racing.{race_in, race_out, some_race}
 use Rattle.gl_causes.proofs.Telling.{Laid, block_is, stand_of}
 

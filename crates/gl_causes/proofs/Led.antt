@@ -23,10 +23,10 @@ module _ (R : Lists) (h : List Stamp) (is_list : IsEventList h R) (rise : Positi
   abbrev pub between : Access
   between = record { thread = c.thread; block = b; variables = None }
 
-  before : Place
+  abbrev before : Place
   before = record { thread = c.thread; index = last.index }
 
-  pub stamp_before : Stamp
+  abbrev pub stamp_before : Stamp
   stamp_before = record { thread = c.thread; event = (event_there last.entry b last.position).0 }
 
   pub event_before : IsEventAt R (record { thread = c.thread; index = last.index }) b stamp_before

@@ -1,7 +1,7 @@
 mod Answering
 mod EntryTests
 mod Handings
-mod Leading
+mod Known
 mod Leaving
 mod Led
 mod Owning

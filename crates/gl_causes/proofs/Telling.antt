@@ -206,7 +206,7 @@ module _ (setting : Setting) (R : Lists) (h : List Stamp) (now : State) (rows : 
 
   -- a commit is no end
   module _ (s : Stand) (is : IsStand R s) (commit : IsCommit s.entry) (p : ℕ) (r : Stamp) (made : IsEventAt R s.place p r) where
-    m : Place
+    abbrev m : Place
     m = s.place
 
     at_p : EventAt h p r

@@ -68,6 +68,11 @@ pub(crate) fn last_known(made: &Record, thread: u8, known: u32) -> Option<Place>
     ensures { IsPlacePassed (lists_of made.now thread) thread known result }
 {
     let list = made.thread(thread)?;
-    let index = last_passed(list, known)? as u64;
-    Some(Place { thread, index })
+    match last_passed(list, known) {
+        Some(index) => Some(Place {
+            thread,
+            index: index as u64,
+        }),
+        None => None,
+    }
 }

@@ -17,7 +17,7 @@ loop-index-preserved c =
     ∙ ap (λ x. Some (seen x)) (sym c.index-list-index.is) in
     let so_far = c.loop-index.invariant in
     record {
-      block = c.block_behind.ensures ∙ block_on es i e c.loop-index.block there so_far.block;
+      block = c.block_behind-block.ensures ∙ block_on es i e c.loop-index.block there so_far.block;
       last = elim c.if-is_passed.branch [
         | then-is_passed w ↦
             rw w.last-is (last_new es c.args.known i

@@ -54,7 +54,7 @@ module _ (setting : Setting) (R : Lists) (h : List Stamp) (now : State) (rows : 
               (stamp_before R h L.is_list rises c q s made b last) e;
           own = refl;
           goes_on = λ ends. no_end c.thread (R c.thread) (L.form.formed c.thread) c.index made.entry made.there q made.position b last
-              (e.event ∙ ap Some ends);
+              ((event_there last.entry b last.position).1 ∙ ap Some ends);
           commit = λ xs w. absurd (cc);
         }
 
