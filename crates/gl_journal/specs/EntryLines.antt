@@ -8,7 +8,7 @@ use Rattle.gl_text.specs.declared.kinds.TheConstants.{WORD_COUNT}
 use Rattle.gl_journal.specs.declared.forms.EntryForm.{EntryForm}
 use Rattle.gl_journal.specs.declared.forms.EntryForm.TheVariants as forms
 use Rattle.gl_journal.specs.declared.limits.TheConstants.{MOST_STAMP}
-use Rattle.gl_journal.specs.Fields.{Word, first_of, rest_of, natural_in, value_in, choice_in}
+use Rattle.gl_journal.specs.Fields.{Word, ◌>>=◌, first_of, rest_of, natural_in, value_in, choice_in}
 use Rattle.gl_journal.specs.SyncKinds.{kind_in, most_of, act_of}
 use Rattle.gl_journal.specs.Transactions.{tx_in}
 

@@ -6,7 +6,7 @@ use Rattle.gl_model.specs.declared.tx.Tx.{Tx}
 use Rattle.gl_text.specs.declared.kinds.TheConstants.{BAD_NUMBER, BAD_SET, WORD_COUNT}
 use Rattle.gl_journal.specs.declared.parts.Part.{Part}
 use Rattle.gl_journal.specs.declared.parts.PartForm.TheVariants as forms
-use Rattle.gl_journal.specs.Fields.{Word, first_of, rest_of, told}
+use Rattle.gl_journal.specs.Fields.{Word, ◌>>=◌, first_of, rest_of, told}
 use Rattle.gl_journal.specs.Parts.{list_in, is_set, look_of, pair_of, number_of}
 
 -- the three lists
