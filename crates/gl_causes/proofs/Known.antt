@@ -23,7 +23,6 @@ use Rattle.gl_model.specs.Locksets.{Access, IsAccessOf}
 use Rattle.gl_model.specs.Machine.{Setting, State}
 use Rattle.gl_model.specs.Next.{Reaches, own_later, thread_on}
 use Rattle.gl_model.specs.Records.{Lists, Place, EntryAt, IsBlockOf, IsEventAt, IsPlain, PositionsRise, position_of}
-use Rattle.gl_places.specs.Places.{seen}
 use Rattle.gl_places.specs.declared.place.Place.{Place as StoredPlace}
 use Rattle.gl_raised.specs.Accesses.{IsAccess}
 use Rattle.gl_causes.specs.Leading.{IsLed, IsPassed, IsPlacePassed}
@@ -84,7 +83,7 @@ module _ (setting : Setting) (R : Lists) (h : List Stamp) (now : State) (rows : 
             let t = clock_told m.place.thread k r at_k e.own (commit_goes setting R h now rows stands L m is commit k r e) apart in (
               λ l. reach (t.0 (let z : b + 1 < clocks (take (k + 1) h) (Thread m.place.thread) c.thread = omega arith in z)),
               λ w. let y = t.1 (record { position = k; event = r; here = at_k; own = e.own; within = omega arith; reached = w })
-              in omega arith,
+                  in omega arith,
             )
           where
             reach : Precedes h its m.place.thread k → Reaches h its k
@@ -165,17 +164,20 @@ module _ (setting : Setting) (R : Lists) (h : List Stamp) (now : State) (rows : 
         let entry : w.1.made.entry ≡ e.entry = same_entry R (record { thread = u; index = j }) w.1.made.entry e.entry
         (subst (λ z. EntryAt R z w.1.made.entry) same w.1.made.there) e.there in
         let b = prior u (R u) (L.form.formed u) j e.entry e.there w.1.position e.position
-        (λ begin. w.1.no_begin (subst IsBegin (sym entry) begin)) in
-        (j, w.1.within, record {
-          entry = e.entry;
-          there = e.there;
-          position = w.1.position;
-          event = e.position;
-          block = b.0;
-          before = b.1;
-          passed = led_in (record { thread = u; index = j }) w.1.position w.1.event e b.0 (last_event (R u) j b.0 b.1) d f here kind access p
-              block apart known knows leads;
-        })
+        (λ begin. w.1.no_begin (subst IsBegin (sym entry) begin)) in (
+          j,
+          w.1.within,
+          record {
+            entry = e.entry;
+            there = e.there;
+            position = w.1.position;
+            event = e.position;
+            block = b.0;
+            before = b.1;
+            passed = led_in (record { thread = u; index = j }) w.1.position w.1.event e b.0 (last_event (R u) j b.0 b.1) d f here kind
+                access p block apart known knows leads;
+          },
+        )
 
     pub led : (o : Option StoredPlace) → IsPlacePassed (R u) u (at known u) o → IsLed R d u o
     led None none = λ i l before. let w = leads_passed i before in none w.0 w.2

@@ -1,5 +1,5 @@
 -- What an event of a thread leads to, told by a plain access in the block before it, which no entry need make.
-use Rattle.std.proofs.Common.{◌≡◌, ◌≢◌, ℕ, ◌+◌, ◌<◌, ◌≤◌, List, refl, ap, sym, ◌∙◌, subst, inl, inr, arith, Some, None}
+use Rattle.std.proofs.Common.{◌≡◌, ◌≢◌, ℕ, ◌<◌, ◌≤◌, List, refl, ap, sym, ◌∙◌, subst, inl, inr, arith, Some, None}
 use Rattle.std.specs.Prelude.{◌⊎◌}
 use Rattle.std.proofs.lemmas.Bool.{cases_lt}
 use Rattle.std.proofs.Math.Nat.{eq-or-lt_of_le}
@@ -7,7 +7,6 @@ use Rattle.gl_draws.proofs.DrawPlaces.{LastEvent, event_there}
 use Rattle.gl_draws.specs.Verdicts.{Precedes}
 use Rattle.gl_laws.proofs.Bridge.{moved, same_entry, same_place, up_to}
 use Rattle.gl_laws.proofs.Closure.{same_event}
-use Rattle.gl_model.specs.declared.event.Event.{Event}
 use Rattle.gl_model.specs.declared.event.Stamp.{Stamp}
 use Rattle.gl_model.specs.Edges.{SynchronizesWith, TransitiveClosure, one_step, then_step}
 use Rattle.gl_model.specs.Entries.{Entry}
@@ -66,7 +65,8 @@ module _ (R : Lists) (h : List Stamp) (is_list : IsEventList h R) (rise : Positi
   own_reached m k r e own le = own_later r (is_list.listed m k r e) (above m k r e own le) (e.own ∙ sym own)
 
   -- of two events of one thread that with the lower position stands before the other
-  in_order : (m n : Place) (k l : ℕ) (r t : Stamp) → IsEventAt R m k r → IsEventAt R n l t → m.thread ≡ n.thread → k < l → InProgramOrder m n
+  in_order : (m n : Place) (k l : ℕ) (r t : Stamp) → IsEventAt R m k r → IsEventAt R n l t → m.thread ≡ n.thread → k < l
+      → InProgramOrder m n
   in_order m n k l r t e f own lt = elim (cases_lt m.index n.index) [
     | inl less ↦ (own, less)
     | inr ge ↦ absurd (elim (up_to R h is_list rise n m l k t r f e (sym own) ge) [
@@ -131,8 +131,8 @@ module _ (R : Lists) (h : List Stamp) (is_list : IsEventList h R) (rise : Positi
     within = let x = u.within in let y = o.1 in omega arith;
   })
   step_on {m = m} {n = n} (inl lt) (synchronizes k l r t e f less w) =
-      inr (at_event f (edge_on r t (own_reached m k r e lt.0 (let x = lt.1 in omega arith)) (is_list.listed m k r e) (is_list.listed n l t f)
-      less w))
+      inr (at_event f (edge_on r t (own_reached m k r e lt.0 (let x = lt.1 in omega arith)) (is_list.listed m k r e)
+      (is_list.listed n l t f) less w))
   step_on {m = m} {n = n} (inr u) (synchronizes k l r t e f less w) =
       inr (at_event f (edge_on r t (up_reached k r u e) (is_list.listed m k r e) (is_list.listed n l t f) less w))
 

@@ -1,9 +1,8 @@
 -- The last event of a list before which a clock has passed the thread's block, in a walk over the list.
-use Rattle.std.proofs.Common.{◌≡◌, ℕ, ◌+◌, ◌-◌, ◌<◌, ◌≤◌, List, [], ◌∷◌, ◌++◌, length, take, Bool, true, false, refl, ap, sym, ◌∙◌, subst, inl, inr, arith, Some, None}
-use Rattle.std.specs.Prelude.{Option, ◌&&◌, nat_lt, is_some, slice_get}
+use Rattle.std.proofs.Common.{◌≡◌, ℕ, ◌+◌, ◌-◌, ◌<◌, ◌≤◌, List, length, take, true, false, refl, ap, sym, ◌∙◌, subst, inl, inr, arith, Some, None}
+use Rattle.std.specs.Prelude.{Option, is_some}
 use Rattle.std.proofs.lemmas.Bool.{cases_lt, lt-ltb, ltb-true}
 use Rattle.std.proofs.lemmas.Option.{slice_get_within}
-use Rattle.std.proofs.Math.Nat.{eq-or-lt_of_le}
 use Rattle.gl_core.proofs.Marking.{and_both, and_true}
 use Rattle.gl_draws.specs.Ties.{or_else, last_position}
 use Rattle.gl_model.specs.Entries.{Entry}

@@ -77,25 +77,26 @@ did_text names s = codes "  what thread " ++ (thing_text names Thread s.place.th
 abbrev pub handed_text : Naming → Side → Option Handed → List ℕ
 handed_text names s handed = did_text names s ++ found_text names handed
 
--- to whom the other thread leads
-abbrev pub leads_text : Naming → Side → List ℕ
-leads_text names s = codes " to thread " ++ (thing_text names Thread s.place.thread ++ codes " there")
+-- that the other thread leads to the refused entry
+abbrev pub leads_text : Naming → List ℕ → List ℕ → Explanation → List ℕ
+leads_text names front verb e =
+    front
+    ++ (thing_text names Thread e.other.place.thread ++ (verb ++ (thing_text names Thread e.at.place.thread ++ codes " there")))
 
--- the last entry of its thread that leads there
+-- the last entry by which it does
 abbrev pub leading_text : Naming → Explanation → Option Leading → List ℕ
-leading_text names e None =
-    codes "  nothing of thread " ++ (thing_text names Thread e.other.place.thread ++ (codes " leads" ++ (leads_text names e.at ++ codes "\n")))
+leading_text names e None = leads_text names (codes "  nothing of thread ") (codes " leads to thread ") e ++ codes "\n"
 leading_text names e (Some l) =
-    codes "  the last of thread "
-    ++ (thing_text names Thread e.other.place.thread
-    ++ (codes " that leads" ++ (leads_text names e.at ++ (codes " is " ++ (where_text l.source ++ codes "\n")))))
+    leads_text names (codes "  the last of thread ") (codes " that leads to thread ") e
+    ++ (codes " is " ++ (where_text l.source ++ codes "\n"))
+
+-- where the other thread hands on what it did, and how far it leads
+abbrev pub onward_text : Naming → Explanation → List ℕ
+onward_text names e = handed_text names e.other e.handed ++ leading_text names e e.leading
 
 -- what is said of them
 abbrev pub facts_text : Naming → Explanation → List ℕ
-facts_text names e =
-    others_text e.others
-    ++ (owned_text names e.at
-    ++ (owned_text names e.other ++ (handed_text names e.other e.handed ++ leading_text names e e.leading)))
+facts_text names e = others_text e.others ++ (owned_text names e.at ++ (owned_text names e.other ++ onward_text names e))
 
 abbrev pub explanation_text : Naming → Explanation → List ℕ
 explanation_text names e = sides_text names e ++ facts_text names e
