@@ -1,5 +1,5 @@
 -- From what is found of the refused entries to their causes.
-use Rattle.std.proofs.Common.{◌≡◌, ℕ, zero, suc, ◌+◌, ◌^◌, ◌<◌, List, [], ◌∷◌, length, map, Bool, true, false, refl, ap, sym, ◌∙◌, subst, inl, inr, arith, Some, None}
+use Rattle.std.proofs.Common.{◌≡◌, ◌≢◌, ℕ, zero, suc, ◌+◌, ◌^◌, ◌<◌, List, [], ◌∷◌, length, map, Bool, true, false, refl, ap, sym, ◌∙◌, subst, inl, inr, arith, Some, None}
 use Rattle.std.specs.Prelude.{ℤ, Contains, Option, if◌then◌else◌, is_some, slice_get}
 use Rattle.std.proofs.lemmas.List.{length-map}
 use Rattle.std.proofs.lemmas.Option.{slice_get_within, slice_get-get_or, get_or_from_slice_get}
@@ -20,14 +20,16 @@ use Rattle.gl_raised.specs.RaceFaults.{AreSteps}
 use Rattle.gl_causes.specs.Causes.{AreCauses, AreRaces, IsCause, RacesWith}
 use Rattle.gl_causes.specs.Finding.{AreFound, HaveRaces, IsOfRefused}
 use Rattle.gl_causes.specs.Judging.{race_number, races_among, refusal_of}
+use Rattle.gl_causes.specs.Leading.{IsLed}
 use Rattle.gl_raised.specs.Rows.{AreBlockClocks}
 use Rattle.gl_causes.specs.Stands.{AreOfThreads, AreStands, IsStand, Stand}
 use Rattle.gl_causes.specs.declared.cause.Cause.{Cause}
 use Rattle.gl_causes.specs.declared.races.Asked.{Asked}
 use Rattle.gl_causes.specs.declared.refusals.Refusal.{Refusal}
 use Rattle.gl_causes.proofs.EntryTests.{refusal_means, refusal_there}
+use Rattle.gl_causes.proofs.Known.{led}
 use Rattle.gl_causes.proofs.Racing.{race_in, race_out, some_race}
-use Rattle.gl_causes.proofs.Telling.{Laid, stand_of}
+use Rattle.gl_causes.proofs.Telling.{Laid, block_is, stand_of}
 
 -- the events of a run of the machine are what it allows
 run_from :
@@ -160,7 +162,7 @@ module _ (setting : Setting) (R : Lists) (h : List Stamp) (now : State) (rows : 
       let o = race_out setting R h now rows stands L s is r a refused asked w.0 w.1.0 w.1.1 in
       (o.0, (o.1.0, (w.1.0, (o.1.1, o.1.3))))
 
-  module _ (e : Cause) (w : IsOfRefused rows stands (length stands) e) where
+  module _ (e : Cause) (w : IsOfRefused R rows stands (length stands) e) where
     d : Stand
     d = w.stand
 
@@ -213,6 +215,16 @@ module _ (setting : Setting) (R : Lists) (h : List Stamp) (now : State) (rows : 
           subst (λ p. Before p c) r.1.1 (subst (λ p. Before r.0.place p) s.1.1 z));
     }
 
+    leads : {c : Place} {k : ℕ} → RacesWith R (seen e.at) e.var c k → c ≡ seen e.other → IsLed R (seen e.at) e.other.thread e.leading
+    leads q same =
+        let m = refusal_means w.stand.entry w.refusal w.refused in
+        let block = block_is setting R h now rows stands L w.stand is m.is_access in
+        let apart : e.other.thread ≢ w.stand.place.thread =
+        (λ z. q.another (ap (λ (p : Place). p.thread) same ∙ z ∙ ap (λ (p : Place). p.thread) (sym w.place))) in
+        subst (λ p. IsLed R p e.other.thread e.leading) (sym w.place)
+        (led setting R h now rows stands L w.stand.place w.stand.entry is.there m.kind m.is_access w.stand.block block w.asked.known
+        w.is_asked.knows e.other.thread apart e.leading w.found.leading)
+
     pub is_cause : IsCause R e
     is_cause =
         let l = w.found.last in
@@ -226,9 +238,10 @@ module _ (setting : Setting) (R : Lists) (h : List Stamp) (now : State) (rows : 
           races = map (λ (s : Stand). s.place) (races_among w.asked stands);
           are_races = all_races;
           others = length-map (races_among w.asked stands) (λ (s : Stand). s.place) ∙ w.found.others;
+          leading = leads (found_in l.0.0 l.0.1.0 w.found.nth l.0.1.1 l.0.1.3) l.0.1.2;
         }
 
-  pub are_causes : (causes : List Cause) → AreFound rows stands (length stands) causes → AreCauses R causes
+  pub are_causes : (causes : List Cause) → AreFound R rows stands (length stands) causes → AreCauses R causes
   are_causes causes found = record {
     each = λ j e at. is_cause e (found.each j e at);
     all = λ c f x here raised.

@@ -1,7 +1,11 @@
 mod Answering
 mod EntryTests
 mod Handings
+mod Known
+mod Leaving
+mod Led
 mod Owning
+mod Passing
 mod Racing
 mod Single
 mod Standing

@@ -1,12 +1,15 @@
 -- An entry has one cause.
-use Rattle.std.proofs.Common.{◌≡◌, ℕ, zero, suc, ◌<◌, List, [], ◌∷◌, length, refl, ap, sym, ◌∙◌, subst, inl, inr, arith, Some}
-use Rattle.std.specs.Prelude.{◌⊎◌, slice_get}
+use Rattle.std.proofs.Common.{◌≡◌, ℕ, zero, suc, ◌<◌, List, [], ◌∷◌, length, refl, ap, sym, ◌∙◌, subst, inl, inr, arith, Some, None}
+use Rattle.std.specs.Prelude.{◌⊎◌, Option, slice_get}
+use Rattle.std.proofs.lemmas.Bool.{cases_lt}
 use Rattle.gl_laws.proofs.Bridge.{same_entry}
-use Rattle.gl_model.specs.Records.{Place, EntryAt}
+use Rattle.gl_model.specs.HappensBefore.{HappensBefore}
+use Rattle.gl_model.specs.Records.{Lists, Place, EntryAt}
 use Rattle.gl_places.specs.Places.{Before, seen}
 use Rattle.gl_places.specs.declared.place.Place.{Place as StoredPlace}
 use Rattle.gl_raised.specs.Accesses.{raised_on}
 use Rattle.gl_causes.specs.Causes.{OneCause, RacesWith}
+use Rattle.gl_causes.specs.Leading.{IsLastLeading, IsLed}
 use Rattle.gl_causes.proofs.Answering.{in_list, of_list}
 
 -- one of these is at some place
@@ -69,8 +72,30 @@ same_stored p q e =
     let index : p.index ≡ q.index = ap (λ (c : Place). c.index) e in
     λ i. record { thread = thread i; index = index i }
 
+-- the last that leads there is one
+one_led : (R : Lists) (d : Place) (u : ℕ) (o p : Option StoredPlace) → IsLed R d u o → IsLed R d u p → o ≡ p
+one_led R d u None None a b = refl
+one_led R d u None (Some k) a b = absurd (a k.index (omega arith) (subst (λ t. HappensBefore R (record { thread = t; index = k.index }) d)
+    b.thread b.leads))
+one_led R d u (Some k) None a b = absurd (b k.index (omega arith) (subst (λ t. HappensBefore R (record { thread = t; index = k.index }) d)
+    a.thread a.leads))
+one_led R d u (Some k) (Some l) a b = ap Some (λ i. record { thread = thread i; index = index i })
+  where
+    thread : k.thread ≡ l.thread
+    thread = a.thread ∙ sym b.thread
+
+    not_behind : (m n : StoredPlace) → IsLastLeading R d u m → IsLastLeading R d u n → m.index < n.index → ⊥
+    not_behind m n x y lt = x.last n.index (omega arith) (subst (λ t. HappensBefore R (record { thread = t; index = n.index }) d)
+        y.thread y.leads)
+
+    index : k.index ≡ l.index
+    index = elim (cases_lt k.index l.index) [
+      | inl lt ↦ absurd (not_behind k l a b lt)
+      | inr ge ↦ elim (cases_lt l.index k.index) [ inl lt ↦ absurd (not_behind l k b a lt) | inr le ↦ omega arith ]
+    ]
+
 pub one_cause_law : OneCause
-one_cause_law R numbered e f a b at = (λ i. record { at = at i; var = var i; other = other i; others = others i })
+one_cause_law R numbered e f a b at = (λ i. record { at = at i; var = var i; other = other i; others = others i; leading = leading i })
   where
     here : EntryAt R (seen e.at) b.entry
     here = subst (λ p. EntryAt R (seen p) b.entry) (sym at) b.here
@@ -99,6 +124,11 @@ one_cause_law R numbered e f a b at = (λ i. record { at = at i; var = var i; ot
         subst (RacesWith R (seen e.at) e.var (seen f.other)) (sym number) (back (seen f.other) b.number b.culprit) in
         same_stored e.other f.other ((numbered e.var).1.once (seen e.other) (seen f.other) x.earlier y.earlier a.number x.there y.there
         (inr x.drawn) (inr y.drawn))
+
+    leading : e.leading ≡ f.leading
+    leading = one_led R (seen f.at) f.other.thread e.leading f.leading
+        (subst (λ p. IsLed R (seen p) f.other.thread e.leading) at
+        (subst (λ (p : StoredPlace). IsLed R (seen e.at) p.thread e.leading) other a.leading)) b.leading
 
     into : (c : Place) → Has a.races c → Has b.races c
     into c w =

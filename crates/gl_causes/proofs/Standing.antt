@@ -37,7 +37,7 @@ or_none : (o : Option ℕ) → or_else o None ≡ o
 or_none (Some x) = refl
 or_none None = refl
 
-last_more : (es : List Entry) (e : Entry) → last_position (es ++ e ∷ []) ≡ or_else (position_of e) (last_position es)
+pub last_more : (es : List Entry) (e : Entry) → last_position (es ++ e ∷ []) ≡ or_else (position_of e) (last_position es)
 last_more [] e = sym (or_none (position_of e))
 last_more (x ∷ es) e = ap (λ o. or_else o (position_of x)) (last_more es e) ∙ or_nested (position_of e) (last_position es) (position_of x)
 

@@ -1,5 +1,5 @@
 -- What happens before a refused entry, told by what its thread knows.
-use Rattle.std.proofs.Common.{◌≡◌, ◌≢◌, ℕ, suc, ◌+◌, ◌-◌, ◌^◌, ◌<◌, ◌==◌, zero, List, [], ◌∷◌, length, take, drop, Bool, true, false, refl, ap, sym, ◌∙◌, subst, inl, inr, arith, Some, None, eq-eqb}
+use Rattle.std.proofs.Common.{◌≡◌, ◌≢◌, ℕ, suc, ◌+◌, ◌-◌, ◌^◌, ◌<◌, ◌==◌, zero, List, [], ◌∷◌, length, take, drop, Bool, true, false, refl, ap, sym, ◌∙◌, subst, inl, inr, arith, Some, None, eq-eqb, ne_eqb}
 use Rattle.std.specs.Prelude.{◌⊎◌, ◌↔◌, if◌then◌else◌, slice_get, unwrap_or}
 use Rattle.std.proofs.lemmas.Bool.{eqb-true}
 use Rattle.std.proofs.lemmas.List.{length-take-le, take-append-drop}
@@ -23,7 +23,7 @@ use Rattle.gl_model.specs.declared.tx.Why.TheVariants.{Changed, Raised}
 use Rattle.gl_model.specs.Edges.{EventAt}
 use Rattle.gl_model.specs.Entries.{Entry, Sync, Commit, Plain, Abort, Trim, Over}
 use Rattle.gl_model.specs.Form.{Form, Numbered, NumberDraws}
-use Rattle.gl_model.specs.HappensBefore.{HappensBefore, IsCommit, IsRefusedCommit}
+use Rattle.gl_model.specs.HappensBefore.{HappensBefore, IsCommit, IsRefusedCommit, RefusedCommitEdge}
 use Rattle.gl_model.specs.Kept.{IsEntryKept}
 use Rattle.gl_model.specs.Locksets.{Access}
 use Rattle.gl_model.specs.Machine.{Setting, State, Allows}
@@ -103,7 +103,7 @@ commit_block [] i at tx e = absurd (cc)
 commit_block (x ∷ es) zero at tx e = let z : x ≡ Commit at tx = cc in rw z refl
 commit_block (x ∷ es) (suc i) at tx e = rw (commit_block es i at tx e) refl
 
-commit_event : (R : Lists) (c : Place) (e : Entry) → EntryAt R c e → IsCommit e → (p : ℕ) × (s : Stamp) × IsEventAt R c p s
+pub commit_event : (R : Lists) (c : Place) (e : Entry) → EntryAt R c e → IsCommit e → (p : ℕ) × (s : Stamp) × IsEventAt R c p s
     × ((xs : List ℕ) × (s.event ≡ Commits xs)) × BlockAt (R c.thread) c.index p
 commit_event R c (Commit at tx) here is = (
   at,
@@ -204,9 +204,122 @@ module _ (setting : Setting) (R : Lists) (h : List Stamp) (now : State) (rows : 
         λ b. k.1 (inl (row.1 (order.1 b))),
       )
 
+  -- a commit is no end
+  module _ (s : Stand) (is : IsStand R s) (commit : IsCommit s.entry) (p : ℕ) (r : Stamp) (made : IsEventAt R s.place p r) where
+    abbrev m : Place
+    m = s.place
+
+    at_p : EventAt h p r
+    at_p = L.is_list.listed m p r made
+
+    ev : (q : ℕ) × (t : Stamp) × IsEventAt R m q t × ((xs : List ℕ) × (t.event ≡ Commits xs)) × BlockAt (R m.thread) m.index q
+    ev = commit_event R m s.entry is.there commit
+
+    pub commit_goes : r.event ≢ Does End
+    commit_goes end =
+        let x : EventAt h p ev.1 = L.is_list.listed m p ev.1 (subst (λ q. IsEventAt R m q ev.1) (one_position ev.2 made) ev.2) in
+        let same : ev.1 ≡ r = (let y = at_p in cc) in
+        let z : Does End ≡ Commits ev.3.0 = sym end ∙ ap (λ (w : Stamp). w.event) (sym same) ∙ ev.3.1 in cc
+
+    pub commit_at : s.block ≡ p
+    commit_at =
+        is.block ∙ ap (λ o. unwrap_or o 0)
+        (ap (λ n. last_position (take n (R m.thread))) (let z : m.index + 1 ≡ suc m.index = omega arith in z) ∙ ev.4)
+        ∙ one_position ev.2 made
+
+    row : (u : ℕ) → cell rows s.block u ≡ clocks (take (p + 1) h) (Thread m.thread) u
+    row u = ap (λ q. cell rows q u) commit_at ∙ L.clocks_are.known p u r at_p
+        ∙ ap (λ t. clocks (take (p + 1) h) (Thread t) u) made.own
+
+    -- of its own thread it hands on all up to itself
+    pub handed_own : (u : ℕ) → u ≡ s.place.thread → handed_on rows s u ≡ p + 1
+    handed_own u own =
+        let near : p < length h = slice_get_within h p r at_p in
+        let long : length (take (p + 1) h) ≡ p + 1 = length-take-le (p + 1) h (omega arith) in
+        let there' : EventAt (take (p + 1) h) p r =
+        event_back (take (p + 1) h) (drop (p + 1) h) p r (omega arith)
+        (subst (λ l. EventAt l p r) (sym (take-append-drop (p + 1) h)) at_p) in
+        let clock : clocks (take (p + 1) h) (Thread m.thread) m.thread
+        ≡ p + 2 = own_law (take (p + 1) h) m.thread p r there' made.own (λ q t x y. let l = slice_get_within (take (p + 1) h) q t x
+        in omega arith) in
+        ap (λ o. if o then cell rows s.block u - 1 else cell rows s.block u) (eq-eqb u m.thread own)
+        ∙ (let z : cell rows s.block u ≡ p + 2 = row u ∙ ap (λ t. clocks (take (p + 1) h) (Thread m.thread) t) own ∙ clock
+        in omega arith)
+
+    -- of another thread what it knows
+    pub handed_other : (u : ℕ) → u ≢ s.place.thread → handed_on rows s u ≡ clocks (take (p + 1) h) (Thread s.place.thread) u
+    handed_other u other = ap (λ o. if o then cell rows s.block u - 1 else cell rows s.block u) (ne_eqb u m.thread other) ∙ row u
+
+  -- a commit and a refused commit have no number in common
+  numbers_apart : (m d : Place) (g f : Entry) → EntryAt R m g → EntryAt R d f → IsCommit g → IsRefusedCommit f → (x k : ℕ)
+      → NumberOn g x k
+      → NumberOn f x k → ⊥
+  numbers_apart m d g f a b' is refused x k n o =
+      let same : m ≡ d = (L.numbered x).1.once m d g f k a b' (inr (draws_itself g x k (inl is) n))
+      (inr (draws_itself f x k (inr refused) o)) in
+      let a' : EntryAt R d g = subst (λ z. EntryAt R z g) same a in
+      let one : f ≡ g = cc in no_two g is (subst IsRefusedCommit one refused)
+
+  -- the commits that have a lower number on some variable of a refused attempt are those that are before it there
+  module _ (d : Place) (f : Entry) (here : EntryAt R d f) (refused : IsRefusedCommit f) where
+    pub edge_out : (s : Stand) → IsStand R s → commits_before (refused_numbers f) s.entry ≡ true
+        → IsCommit s.entry × RefusedCommitEdge R s.place d
+    edge_out s is lower =
+        let w = before_means s.entry f refused lower in (
+          w.commit,
+          record {
+            made = s.entry;
+            refused = f;
+            there = is.there;
+            here = here;
+            is_commit = w.commit;
+            is_refused = refused;
+            var = w.var;
+            before = record {
+              first = s.entry;
+              second = f;
+              there = is.there;
+              here = here;
+              number = w.number;
+              later = w.above;
+              numbered = w.first;
+              also_numbered = w.second;
+              order = inl w.less;
+            };
+          },
+        )
+
+    pub edge_in : (m : Place) → RefusedCommitEdge R m d → (i : ℕ) × ((s : Stand) × (slice_get stands i ≡ Some s) × (s.place ≡ m)
+        × IsStand R s × IsCommit s.entry × (commits_before (refused_numbers f) s.entry ≡ true))
+    edge_in m k =
+        let o = k.before in
+        let first : k.made ≡ o.first = same_entry R m k.made o.first k.there o.there in
+        let second : o.second ≡ f = same_entry R d o.second f o.here here in
+        let commit : IsCommit o.first = subst IsCommit first k.is_commit in
+        let numbered : NumberOn f k.var o.later = subst (λ z. NumberOn z k.var o.later) second o.also_numbered in
+        let lt : o.number < o.later = elim o.order [
+          | inl z ↦ z
+          | inr z ↦ absurd (numbers_apart m d o.first f o.there here commit refused k.var o.later
+              (subst (NumberOn o.first k.var) z.0 o.numbered) numbered)
+        ] in
+        let w = stand_of m o.first o.there in
+        let entry : w.1.0.entry ≡ o.first = w.1.3 in
+        let before : IsCommitBefore o.first f = record {
+          commit = commit;
+          var = k.var;
+          number = o.number;
+          above = o.later;
+          first = o.numbered;
+          second = numbered;
+          less = lt;
+        } in
+        let lower : commits_before (refused_numbers f) w.1.0.entry ≡ true = ap (commits_before (refused_numbers f)) entry
+        ∙ before_there o.first f (L.kept m o.first o.there).1 refused before in
+        (w.0, (w.1.0, w.1.1, w.1.2, w.1.4, subst IsCommit (sym entry) commit, lower))
+
   -- a commit hands on what reaches it
   module _ (c : Place) (e : Entry) (there : EntryAt R c e) (plain : IsPlain e) (b : ℕ) (in_block : IsBlockOf R c b) where
-    abbrev its : Access
+    abbrev pub its : Access
     its = record { thread = c.thread; block = b; variables = None }
 
     stood : StandsFor R c its
@@ -216,65 +329,19 @@ module _ (setting : Setting) (R : Lists) (h : List Stamp) (now : State) (rows : 
         (b + 1 < handed_on rows s c.thread) ↔ Reaches h its p
     handed_reaches s is commit p r made = by (c.thread == s.place.thread) refl
       where
-        m : Place
-        m = s.place
-
-        ev : (q : ℕ) × (t : Stamp) × IsEventAt R m q t × ((xs : List ℕ) × (t.event ≡ Commits xs)) × BlockAt (R m.thread) m.index q
-        ev = commit_event R m s.entry is.there commit
-
-        block_p : s.block ≡ p
-        block_p =
-            is.block ∙ ap (λ o. unwrap_or o 0)
-            (ap (λ n. last_position (take n (R m.thread))) (let z : m.index + 1 ≡ suc m.index = omega arith in z) ∙ ev.4)
-            ∙ one_position ev.2 made
-
-        at_p : EventAt h p r
-        at_p = L.is_list.listed m p r made
-
-        goes : r.event ≢ Does End
-        goes end =
-            let x : EventAt h p ev.1 = L.is_list.listed m p ev.1 (subst (λ q. IsEventAt R m q ev.1) (one_position ev.2 made) ev.2) in
-            let same : ev.1 ≡ r = (let y = at_p in cc) in
-            let z : Does End ≡ Commits ev.3.0 = sym end ∙ ap (λ (w : Stamp). w.event) (sym same) ∙ ev.3.1 in cc
-
-        row : cell rows s.block c.thread ≡ clocks (take (p + 1) h) (Thread m.thread) c.thread
-        row = ap (λ q. cell rows q c.thread) block_p ∙ L.clocks_are.known p c.thread r at_p
-            ∙ ap (λ t. clocks (take (p + 1) h) (Thread t) c.thread) made.own
-
-        by : (o : Bool) → (c.thread == m.thread) ≡ o → (b + 1 < handed_on rows s c.thread) ↔ Reaches h its p
+        by : (o : Bool) → (c.thread == s.place.thread) ≡ o → (b + 1 < handed_on rows s c.thread) ↔ Reaches h its p
         by true same =
-            let own : c.thread ≡ m.thread = eqb-true c.thread m.thread same in
-            let near : p < length h = slice_get_within h p r at_p in
-            let long : length (take (p + 1) h) ≡ p + 1 = length-take-le (p + 1) h (omega arith) in
-            let there' : EventAt (take (p + 1) h) p r =
-            event_back (take (p + 1) h) (drop (p + 1) h) p r (omega arith)
-            (subst (λ l. EventAt l p r) (sym (take-append-drop (p + 1) h)) at_p) in
-            let clock : clocks (take (p + 1) h) (Thread m.thread) m.thread
-            ≡ p + 2 = own_law (take (p + 1) h) m.thread p r there' made.own (λ q t x y. let l = slice_get_within (take (p + 1) h) q t x
-            in omega arith) in
-            let is' : handed_on rows s c.thread ≡ p + 1 =
-            ap (λ o. if o then cell rows s.block c.thread - 1 else cell rows s.block c.thread) same
-            ∙ (let z : cell rows s.block c.thread ≡ p + 2 = row ∙ ap (λ t. clocks (take (p + 1) h) (Thread m.thread) t) own ∙ clock
-            in omega arith) in
-            let k = own_reaches setting R h now L.is_list rise L.allowed c its stood m p r made own refl in
+            let own : c.thread ≡ s.place.thread = eqb-true c.thread s.place.thread same in
+            let is' = handed_own s is commit p r made c.thread own in
+            let k = own_reaches setting R h now L.is_list rise L.allowed c its stood s.place p r made own refl in
             (λ l. k.0 (omega arith), λ w. let y = k.1 w in omega arith)
         by false other =
-            let apart : c.thread ≢ m.thread = (λ x. let z : (c.thread == m.thread) ≡ true = eq-eqb c.thread m.thread x in cc) in
-            let is' : handed_on rows s c.thread ≡ clocks (take (p + 1) h) (Thread m.thread) c.thread =
-            ap (λ o. if o then cell rows s.block c.thread - 1 else cell rows s.block c.thread) other ∙ row in
-            let k = other_reaches setting R h now L.is_list rise L.allowed c its stood m p r made goes
-            (subst (IsBlockOf R m) block_p (block_is s is (commit_access s.entry commit))) apart in
+            let apart : c.thread ≢ s.place.thread = (λ x. let z : (c.thread == s.place.thread) ≡ true = eq-eqb c.thread s.place.thread x
+            in cc) in
+            let is' = handed_other s is commit p r made c.thread apart in
+            let k = other_reaches setting R h now L.is_list rise L.allowed c its stood s.place p r made (commit_goes s is commit p r made)
+            (subst (IsBlockOf R s.place) (commit_at s is commit p r made) (block_is s is (commit_access s.entry commit))) apart in
             (λ l. k.0 (omega arith), λ w. let y = k.1 w in omega arith)
-
-    -- a commit and a refused commit have no number in common
-    numbers_apart : (m d : Place) (g f : Entry) → EntryAt R m g → EntryAt R d f → IsCommit g → IsRefusedCommit f → (x k : ℕ)
-        → NumberOn g x k
-        → NumberOn f x k → ⊥
-    numbers_apart m d g f a b' is refused x k n o =
-        let same : m ≡ d = (L.numbered x).1.once m d g f k a b' (inr (draws_itself g x k (inl is) n))
-        (inr (draws_itself f x k (inr refused) o)) in
-        let a' : EntryAt R d g = subst (λ z. EntryAt R z g) same a in
-        let one : f ≡ g = cc in no_two g is (subst IsRefusedCommit one refused)
 
     -- before a refused attempt
     module _ (d : Place) (f : Entry) (here : EntryAt R d f) (refused : IsRefusedCommit f) (access : IsAccess f) (q : ℕ)
@@ -283,70 +350,24 @@ module _ (setting : Setting) (R : Lists) (h : List Stamp) (now : State) (rows : 
       Commits' = ByCommit setting R h now L.is_list rise L.allowed c its stood d
 
       learn_out : IsLearned rows stands (refused_numbers f) c.thread (b + 1) → Commits'
-      learn_out w' =
-          let i = w'.0 in
-          let s = w'.1.0 in
-          let at_i = w'.1.1 in
-          let lower = w'.1.2 in
-          let less = w'.1.3 in
-          let is = (L.stands_are.each i s at_i).0 in
-          let w = before_means s.entry f refused lower in
-          let m = commit_event R s.place s.entry is.there w.commit in record {
+      learn_out w =
+          let s = w.1.0 in
+          let is = (L.stands_are.each w.0 s w.1.1).0 in
+          let o = edge_out d f here refused s is w.1.2 in
+          let m = commit_event R s.place s.entry is.there o.0 in record {
             commit = s.place;
-            edge = record {
-              made = s.entry;
-              refused = f;
-              there = is.there;
-              here = here;
-              is_commit = w.commit;
-              is_refused = refused;
-              var = w.var;
-              before = record {
-                first = s.entry;
-                second = f;
-                there = is.there;
-                here = here;
-                number = w.number;
-                later = w.above;
-                numbered = w.first;
-                also_numbered = w.second;
-                order = inl w.less;
-              };
-            };
+            edge = o.1;
             position = m.0;
             event = m.1;
             made = m.2;
-            reached = (handed_reaches s is w.commit m.0 m.1 m.2).0 less;
+            reached = (handed_reaches s is o.0 m.0 m.1 m.2).0 w.1.3;
           }
 
       learn_in : Commits' → IsLearned rows stands (refused_numbers f) c.thread (b + 1)
       learn_in k =
-          let o = k.edge.before in
-          let first : k.edge.made ≡ o.first = same_entry R k.commit k.edge.made o.first k.edge.there o.there in
-          let second : o.second ≡ f = same_entry R d o.second f o.here here in
-          let commit : IsCommit o.first = subst IsCommit first k.edge.is_commit in
-          let numbered : NumberOn f k.edge.var o.later = subst (λ z. NumberOn z k.edge.var o.later) second o.also_numbered in
-          let lt : o.number < o.later = elim o.order [
-            | inl z ↦ z
-            | inr z ↦ absurd (numbers_apart k.commit d o.first f o.there here commit refused k.edge.var o.later
-                (subst (NumberOn o.first k.edge.var) z.0 o.numbered) numbered)
-          ] in
-          let w = stand_of k.commit o.first o.there in
-          let s = w.1.0 in
-          let entry : s.entry ≡ o.first = w.1.3 in
-          let before : IsCommitBefore o.first f = record {
-            commit = commit;
-            var = k.edge.var;
-            number = o.number;
-            above = o.later;
-            first = o.numbered;
-            second = numbered;
-            less = lt;
-          } in
-          let lower : commits_before (refused_numbers f) s.entry ≡ true = ap (commits_before (refused_numbers f)) entry
-          ∙ before_there o.first f (L.kept k.commit o.first o.there).1 refused before in
-          let made : IsEventAt R s.place k.position k.event = subst (λ z. IsEventAt R z k.position k.event) (sym w.1.2) k.made in
-          (w.0, (s, w.1.1, lower, (handed_reaches s w.1.4 (subst IsCommit (sym entry) commit) k.position k.event made).1 k.reached))
+          let w = edge_in d f here refused k.commit k.edge in
+          let made : IsEventAt R w.1.0.place k.position k.event = subst (λ z. IsEventAt R z k.position k.event) (sym w.1.2) k.made in
+          (w.0, (w.1.0, w.1.1, w.1.5, (handed_reaches w.1.0 w.1.3 w.1.4 k.position k.event made).1 k.reached))
 
       pub told_refused : (known : List ℕ) → Knows rows stands q f known → (b + 1 < at known c.thread) ↔ HappensBefore R c d
       told_refused known knows =

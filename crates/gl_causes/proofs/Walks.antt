@@ -8,6 +8,7 @@ use Rattle.std.proofs.lemmas.Option.{slice_get_within, slice_get-get_or, slice_g
 use Rattle.gl_core.proofs.Marking.{or_both, or_left, or_none, or_right}
 use Rattle.gl_core.specs.Cells.{at}
 use Rattle.gl_model.specs.declared.tx.Number.{Number}
+use Rattle.gl_model.specs.Records.{Lists}
 use Rattle.gl_places.specs.Places.{Before, seen}
 use Rattle.gl_places.specs.declared.place.Place.{Place as StoredPlace}
 use Rattle.gl_causes.specs.Finding.{AreFound, IsAsked, IsFound, IsOfRefused}
@@ -199,9 +200,9 @@ some_counted a (x ∷ xs) (suc i) s k e some = by (is_some (race_number a x)) (s
     by false rec = rec
 
 -- the causes, with one entry more
-module _ (rows : List (List ℕ)) (stands : List Stand) (i : ℕ) (s : Stand) (here : slice_get stands i ≡ Some s) (causes : List Cause)
-    (so_far : AreFound rows stands i causes) where
-  of_more : (e : Cause) → IsOfRefused rows stands i e → IsOfRefused rows stands (i + 1) e
+module _ (R : Lists) (rows : List (List ℕ)) (stands : List Stand) (i : ℕ) (s : Stand) (here : slice_get stands i ≡ Some s)
+    (causes : List Cause) (so_far : AreFound R rows stands i causes) where
+  of_more : (e : Cause) → IsOfRefused R rows stands i e → IsOfRefused R rows stands (i + 1) e
   of_more e w = record {
     index = w.index;
     stand = w.stand;
@@ -222,7 +223,7 @@ module _ (rows : List (List ℕ)) (stands : List Stand) (i : ℕ) (s : Stand) (h
         let there : slice_get stands i ≡ Some r = subst (λ j. slice_get stands j ≡ Some r) at_i e in cc)
   ]
 
-  pub found_none : refusal_of s.entry ≡ None → AreFound rows stands (i + 1) causes
+  pub found_none : refusal_of s.entry ≡ None → AreFound R rows stands (i + 1) causes
   found_none none = record {
     each = λ j e at'. of_more e (so_far.each j e at');
     all = λ k r f l e is. elim (same_stand k r l e) [
@@ -233,11 +234,11 @@ module _ (rows : List (List ℕ)) (stands : List Stand) (i : ℕ) (s : Stand) (h
   }
 
   pub found_some : (r : Refusal) (a : Asked) (e : Cause) → refusal_of s.entry ≡ Some r → seen e.at ≡ s.place → IsAsked rows stands s r a
-      → IsFound a stands e.at e → AreFound rows stands (i + 1) (causes ++ e ∷ [])
+      → IsFound R a stands e.at e → AreFound R rows stands (i + 1) (causes ++ e ∷ [])
   found_some r a e some place asked found = record {
     each = λ j f at'. elim (at_cases causes e f j at') [
       | inl old ↦ of_more f (so_far.each j f old)
-      | inr now ↦ subst (IsOfRefused rows stands (i + 1)) (sym now.1) (record {
+      | inr now ↦ subst (IsOfRefused R rows stands (i + 1)) (sym now.1) (record {
         index = i;
         stand = s;
         refusal = r;

@@ -7,6 +7,7 @@ use Rattle.gl_model.specs.Records.{Lists, Place, EntryAt, NumberOn, IsPerformed,
 use Rattle.gl_places.specs.Places.{Before, seen}
 use Rattle.gl_raised.specs.Accesses.{raised_on}
 use Rattle.gl_causes.specs.declared.cause.Cause.{Cause}
+use Rattle.gl_causes.specs.Leading.{IsLed}
 
 -- The access at d races on x with the one at c, which drew the number k on x: that was performed by another thread, comes before it there,
 -- conflicts with it and does not happen before it. The race law (`IsRacy`) names such a one, or a cached repeat of it; a repeat has the
@@ -44,6 +45,8 @@ pub record IsCause (R : Lists) (e : Cause) : Type 0 where
   pub races : List Place
   pub are_races : AreRaces R (seen e.at) e.var races
   pub others : length races ≡ e.others + 1
+  -- the last entry of the other thread that happens before the refused one
+  pub leading : IsLed R (seen e.at) e.other.thread e.leading
 
 -- the causes are of the entries that were refused, of each one, by thread and place
 pub record AreCauses (R : Lists) (causes : List Cause) : Type 0 where

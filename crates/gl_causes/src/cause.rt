@@ -9,8 +9,9 @@ ghost use Rattle.gl_model.specs.Lists.{lists_of};
 ghost use Rattle.gl_places.specs.Places.{AreEventPlaces, seen as seen_place};
 ghost use Rattle.gl_raised.specs.RaceFaults.{AreSteps};
 
+use crate::leading::last_known;
 use crate::learn::{ALL, known_at};
-use crate::races::{Asked, find};
+use crate::races::{Asked, find, known_of};
 use crate::refusals::{Refusal, refusal_of};
 use crate::stands::stands_of;
 use gl_model::{Entry, Record};
@@ -30,20 +31,24 @@ pub struct Cause {
     pub other: Place,
     /// How many other such accesses there are. A cached repeat is not counted.
     pub others: usize,
+    /// The last entry of the other access's thread that happens before the refused one, if there is one. It is an event.
+    pub leading: Option<Place>,
 }
 
 // The cause of the refused entry at the place.
-fn cause_of(stands: &[(Place, u64, &Entry)], asked: &Asked, at: Place) -> Cause
+fn cause_of(made: &Record, stands: &[(Place, u64, &Entry)], asked: &Asked, at: Place) -> Cause
     requires { HasRace asked.now (map stand_seen stands.now) }
-    ensures { IsFound asked.now (map stand_seen stands.now) at result }
+    ensures { IsFound (lists_of made.now) asked.now (map stand_seen stands.now) at result }
 {
     let found = find(stands, asked);
     let last = found.last.unwrap();
+    let thread = last.place.thread;
     Cause {
         at,
         var: asked.refusal.var,
         other: last.place,
         others: found.count - 1,
+        leading: last_known(made, thread, known_of(&asked.known, thread)),
     }
 }
 
@@ -67,18 +72,19 @@ fn asked_of(
 // The causes of the refused entries, where these are the clocks of the blocks.
 fn causes_among(
     alloc: Global,
+    made: &Record,
     rows: &[[u32; ALL]],
     stands: &[(Place, u64, &Entry)],
 ) -> Result<Vec<Cause>, AllocError>
     requires threads { AreOfThreads (map stand_seen stands.now) }
     requires races { HaveRaces rows.now (map stand_seen stands.now) }
-    ensures { IfOk result (λ causes. AreFound rows.now (map stand_seen stands.now) (length stands.now) causes.items) }
+    ensures { IfOk result (λ causes. AreFound (lists_of made.now) rows.now (map stand_seen stands.now) (length stands.now) causes.items) }
 {
     let mut causes = Vec::new(alloc);
     for stand in stands {
         if let Some(refusal) = refusal_of(stand.2) {
             let asked = asked_of(rows, stands, stand, refusal);
-            causes.push(cause_of(stands, &asked, stand.0))?;
+            causes.push(cause_of(made, stands, &asked, stand.0))?;
         }
     }
     Ok(causes)
@@ -100,7 +106,7 @@ fn causes_by_places(
     made.keeps();
     let rows = block_clocks(alloc, made, places)?;
     let stands = stands_of(alloc, made)?;
-    let causes = causes_among(alloc, &rows, &stands)?;
+    let causes = causes_among(alloc, made, &rows, &stands)?;
     Ok(causes)
 }
 

@@ -4,6 +4,7 @@
 mod cause;
 mod handing;
 mod laws;
+mod leading;
 mod learn;
 mod owned;
 mod races;

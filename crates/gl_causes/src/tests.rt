@@ -4,13 +4,14 @@ ghost use Rattle.gl_model.specs.Entries.{seen};
 ghost use Rattle.gl_model.specs.Kept.{IsEntryInRange};
 ghost use Rattle.gl_model.specs.declared.limits.TheConstants.{THREADS};
 
+use crate::leading::last_known;
 use crate::owned_at;
 use crate::races::{Asked, find};
 use crate::refusals::Refusal;
 use crate::stands::stands_of;
 use gl_model::{Act, Entry, Record};
 use gl_places::Place;
-use std::alloc::{AllocError};
+use std::alloc::AllocError;
 use std::test::Fail;
 
 fn add(made: &mut Record, thread: u8, entry: Entry) -> Result<(), AllocError>
@@ -103,6 +104,29 @@ fn the_last_access_is_found(rt: HostRuntime) -> Result<(), Fail> {
     );
     assert_eq!(rt; last.nth, 2);
     assert_eq!(rt; found.count, 2);
+    Ok(())
+}
+
+// Thread 0 forks thread 1 by its entry at place 1, which is the event at 1, and thread 2 by that at place 3, the event at 2. So thread 1
+// knows of it what comes before 2, and thread 2 what comes before 3; thread 2 knows nothing of thread 1. The accesses behind the fork of
+// thread 2 lead nowhere.
+#[test]
+fn the_last_event_that_is_known_is_found(rt: HostRuntime) -> Result<(), Fail> {
+    let alloc = rt.alloc();
+    let mut made = Record::empty(alloc);
+    add_accesses(&mut made)?;
+    let to_first = Place {
+        thread: 0,
+        index: 1,
+    };
+    let to_second = Place {
+        thread: 0,
+        index: 3,
+    };
+    assert_eq!(rt; last_known(&made, 0, 2), Some(to_first));
+    assert_eq!(rt; last_known(&made, 0, 3), Some(to_second));
+    assert_eq!(rt; last_known(&made, 1, 0), None);
+    assert_eq!(rt; last_known(&made, 3, 0), None);
     Ok(())
 }
 

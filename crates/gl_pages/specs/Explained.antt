@@ -1,5 +1,5 @@
 -- What is said of the races of a run.
-use Rattle.std.specs.Prelude.{◌≡◌, ℕ, Bool, List, map, slice_get, take, Option, Some, None}
+use Rattle.std.specs.Prelude.{◌≡◌, ℕ, Bool, List, map, slice_get, take, Option, Some, None, option_map}
 use Rattle.gl_model.specs.Entries.{Entry}
 use Rattle.gl_model.specs.Records.{EntryAt, Place}
 use Rattle.gl_places.specs.Places.{seen}
@@ -13,6 +13,7 @@ use Rattle.gl_causes.specs.Judging.{is_plain, writes_to}
 use Rattle.gl_causes.specs.Owned.{AreOwned}
 use Rattle.gl_pages.specs.declared.facts.Explanation.{Explanation}
 use Rattle.gl_pages.specs.declared.facts.Handed.{Handed}
+use Rattle.gl_pages.specs.declared.facts.Leading.{Leading}
 use Rattle.gl_pages.specs.declared.facts.Side.{Side}
 use Rattle.gl_pages.specs.LawfulRun.{LawfulRun, lists_in}
 
@@ -53,15 +54,27 @@ abbrev pub IsHandedOn : LawfulRun → Place → Option Handed → Type 0
 IsHandedOn run c None = IsHanded (lists_in run) c None
 IsHandedOn run c (Some h) = IsHanded (lists_in run) c (Some h.handing) × IsSource run (seen h.handing.place) h.source
 
--- what is said of both, and of what the other thread did next
+-- the last entry that leads to the refused one, if there is one, with the line of its instruction
+abbrev pub IsLedBy : LawfulRun → Option Leading → Type 0
+IsLedBy run None = Unit {0}
+IsLedBy run (Some l) = IsSource run (seen l.place) l.source
+
+-- what is said of both, of what the other thread did next, and of how far it leads to the refused entry
 pub record IsExplained (run : LawfulRun) (e : Explanation) : Type 0 where
   pub at : IsSide run e.var e.at
   pub other : IsSide run e.var e.other
   pub handed : IsHandedOn run (seen e.other.place) e.handed
+  pub leading : IsLedBy run e.leading
 
 -- why the entry was refused
 abbrev pub cause_of : Explanation → Cause
-cause_of e = record { at = e.at.place; var = e.var; other = e.other.place; others = e.others }
+cause_of e = record {
+  at = e.at.place;
+  var = e.var;
+  other = e.other.place;
+  others = e.others;
+  leading = option_map (λ l. l.place) e.leading;
+}
 
 -- the explanations are of the entries that were refused, of each one, by thread and place, and say of each what it races with
 pub record AreExplained (run : LawfulRun) (explained : List Explanation) : Type 0 where

@@ -10,6 +10,7 @@ use Rattle.gl_pages.specs.declared.facts.Explanation.{Explanation}
 use Rattle.gl_causes.specs.declared.handing.Way.{Way}
 use Rattle.gl_causes.specs.declared.handing.Way.TheVariants.{Releases, Writes, Forks, Commits, Ends}
 use Rattle.gl_pages.specs.declared.facts.Handed.{Handed}
+use Rattle.gl_pages.specs.declared.facts.Leading.{Leading}
 use Rattle.gl_pages.specs.declared.facts.Side.{Side}
 
 -- the line of an instruction: its function, its number, and what stands in it
@@ -76,10 +77,26 @@ did_text names s = codes "  what thread " ++ (thing_text names Thread s.place.th
 abbrev pub handed_text : Naming → Side → Option Handed → List ℕ
 handed_text names s handed = did_text names s ++ found_text names handed
 
+-- that the other thread leads to the refused entry
+abbrev pub leads_text : Naming → List ℕ → List ℕ → Explanation → List ℕ
+leads_text names front verb e =
+    front
+    ++ (thing_text names Thread e.other.place.thread ++ (verb ++ (thing_text names Thread e.at.place.thread ++ codes " there")))
+
+-- the last entry by which it does
+abbrev pub leading_text : Naming → Explanation → Option Leading → List ℕ
+leading_text names e None = leads_text names (codes "  nothing of thread ") (codes " leads to thread ") e ++ codes "\n"
+leading_text names e (Some l) =
+    leads_text names (codes "  the last of thread ") (codes " that leads to thread ") e
+    ++ (codes " is " ++ (where_text l.source ++ codes "\n"))
+
+-- where the other thread hands on what it did, and how far it leads
+abbrev pub onward_text : Naming → Explanation → List ℕ
+onward_text names e = handed_text names e.other e.handed ++ leading_text names e e.leading
+
 -- what is said of them
 abbrev pub facts_text : Naming → Explanation → List ℕ
-facts_text names e =
-    others_text e.others ++ (owned_text names e.at ++ (owned_text names e.other ++ handed_text names e.other e.handed))
+facts_text names e = others_text e.others ++ (owned_text names e.at ++ (owned_text names e.other ++ onward_text names e))
 
 abbrev pub explanation_text : Naming → Explanation → List ℕ
 explanation_text names e = sides_text names e ++ facts_text names e

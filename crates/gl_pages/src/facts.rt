@@ -25,8 +25,15 @@ pub struct Handed<'a> {
     pub source: Option<SourceLine<'a>>,
 }
 
-/// Why an entry was refused on a variable: the access that it races with, how many others there are, and where the other thread first
-/// hands on what it did.
+/// The last entry of a thread that leads to a refused one of another thread, and the line of the instruction that made it.
+#[derive(Drop)]
+pub struct Leading<'a> {
+    pub place: Place,
+    pub source: Option<SourceLine<'a>>,
+}
+
+/// Why an entry was refused on a variable: the access that it races with, how many others there are, where the other thread first
+/// hands on what it did, and how far it leads to the refused entry.
 #[derive(Drop)]
 pub struct Explanation<'a> {
     pub at: Side<'a>,
@@ -34,4 +41,5 @@ pub struct Explanation<'a> {
     pub other: Side<'a>,
     pub others: usize,
     pub handed: Option<Handed<'a>>,
+    pub leading: Option<Leading<'a>>,
 }

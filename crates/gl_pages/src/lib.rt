@@ -8,6 +8,6 @@ mod run;
 mod text;
 mod whole;
 
-pub use facts::{Explanation, Handed, Side};
+pub use facts::{Explanation, Handed, Leading, Side};
 pub use run::Run;
 pub use whole::explain_run;

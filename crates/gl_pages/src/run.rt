@@ -4,7 +4,7 @@ ghost use Rattle.gl_asm.specs.Texts.{IsText};
 ghost use Rattle.gl_bytecode.specs.Lawful.{Lawful};
 ghost use Rattle.gl_model.specs.Lists.{lists_of};
 
-use crate::facts::{Explanation, Handed, Side};
+use crate::facts::{Explanation, Handed, Leading, Side};
 use gl_audited::Audited;
 use gl_causes::{Cause, causes, first_handing, is_plain, owned_at, writes_to};
 use gl_model::Entry;
@@ -33,12 +33,12 @@ impl<'a> Model for Run<'a> {
 }
 
 impl<'a> Run<'a> {
-    ghost use Rattle.std.specs.Prelude.{◌≡◌, IfOk, MatchOption, None, slice_get};
+    ghost use Rattle.std.specs.Prelude.{◌≡◌, IfOk, MatchOption, None, option_map, slice_get};
     ghost use Rattle.gl_model.specs.Entries.{Entry as AnEntry, seen as seen_entry};
     ghost use Rattle.gl_model.specs.Records.{EntryAt};
     ghost use Rattle.gl_places.specs.Places.{seen};
     ghost use Rattle.gl_causes.specs.Causes.{IsCause};
-    ghost use Rattle.gl_pages.specs.Explained.{AreExplained, IsExplained, IsHandedOn, IsSide, IsSource, cause_of};
+    ghost use Rattle.gl_pages.specs.Explained.{AreExplained, IsExplained, IsHandedOn, IsLedBy, IsSide, IsSource, cause_of};
     ghost use Rattle.gl_pages.specs.LawfulRun.{lists_in, run_of};
 
     /// The run of a record that is lawful for the program that the text says.
@@ -109,6 +109,20 @@ impl<'a> Run<'a> {
         }
     }
 
+    // The last entry that leads to the refused one, with its line.
+    fn leading(&self, place: Option<Place>) -> Option<Leading<'a>>
+        ensures place { option_map (λ l. l.place) result ≡ place }
+        ensures source { IsLedBy self.now result }
+    {
+        match place {
+            Some(place) => Some(Leading {
+                place,
+                source: self.source(place),
+            }),
+            None => None,
+        }
+    }
+
     // What is said of the refused entry that has this cause.
     fn explanation(&self, alloc: Global, cause: &Cause) -> Result<Explanation<'a>, AllocError>
         requires { IsCause (lists_in self.now) cause.now }
@@ -121,6 +135,7 @@ impl<'a> Run<'a> {
             other: self.side(alloc, cause.other, cause.var)?,
             others: cause.others,
             handed: self.handed(cause.other),
+            leading: self.leading(cause.leading),
         })
     }
 

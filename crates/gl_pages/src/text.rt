@@ -1,11 +1,11 @@
 // The text of an explanation.
-ghost use Rattle.std.specs.Prelude.{◌≡◌, ◌++◌, OnOk};
+ghost use Rattle.std.specs.Prelude.{◌≡◌, ◌++◌, OnOk, Some, None};
 ghost use Rattle.std.specs.List.{flat_map};
 ghost use Rattle.gl_names.specs.Names.{name_of};
 ghost use Rattle.gl_explain.specs.Texts.{ending_text};
-ghost use Rattle.gl_pages.specs.Texts.{did_text, explanation_text, facts_text, found_text, handed_text, handing_text, line_text, others_text, owned_text, place_text, side_text, sides_text, source_text, touch_text, way_text, where_text};
+ghost use Rattle.gl_pages.specs.Texts.{did_text, explanation_text, facts_text, found_text, handed_text, handing_text, leading_text, leads_text, line_text, onward_text, others_text, owned_text, place_text, side_text, sides_text, source_text, touch_text, way_text, where_text};
 
-use crate::facts::{Explanation, Handed, Side};
+use crate::facts::{Explanation, Handed, Leading, Side};
 use crate::phrases::{push, push_access, push_monitors, push_number, push_thing, push_thread};
 use gl_causes::Way;
 use gl_names::{Kind, Names};
@@ -173,6 +173,65 @@ fn push_handed(
     push_found(out, names, handed)
 }
 
+// That the other thread leads to the refused entry.
+fn push_leads(
+    out: &mut Vec<u8>,
+    names: &Names<'_>,
+    front: &str,
+    verb: &str,
+    e: &Explanation<'_>,
+) -> Result<(), AllocError>
+    ensures { OnOk result (out.new.items ≡ out.old.items ++ leads_text (name_of names.now) front.now verb.now e.now) }
+{
+    push_thread(out, front, names, e.other.place.thread)?;
+    push_thread(out, verb, names, e.at.place.thread)?;
+    push(out, " there")
+}
+
+fn push_no_leading(
+    out: &mut Vec<u8>,
+    names: &Names<'_>,
+    e: &Explanation<'_>,
+) -> Result<(), AllocError>
+    ensures { OnOk result (out.new.items ≡ out.old.items ++ leading_text (name_of names.now) e.now None) }
+{
+    push_leads(out, names, "  nothing of thread ", " leads to thread ", e)?;
+    push(out, "\n")
+}
+
+fn push_last_leading(
+    out: &mut Vec<u8>,
+    names: &Names<'_>,
+    e: &Explanation<'_>,
+    leading: &Leading<'_>,
+) -> Result<(), AllocError>
+    ensures { OnOk result (out.new.items ≡ out.old.items ++ leading_text (name_of names.now) e.now (Some leading.now)) }
+{
+    let verb = " that leads to thread ";
+    push_leads(out, names, "  the last of thread ", verb, e)?;
+    push(out, " is ")?;
+    push_where(out, &leading.source)?;
+    push(out, "\n")
+}
+
+// The last entry by which it does.
+fn push_leading(out: &mut Vec<u8>, names: &Names<'_>, e: &Explanation<'_>) -> Result<(), AllocError>
+    ensures { OnOk result (out.new.items ≡ out.old.items ++ leading_text (name_of names.now) e.now e.now.leading) }
+{
+    match &e.leading {
+        None => push_no_leading(out, names, e),
+        Some(leading) => push_last_leading(out, names, e, leading),
+    }
+}
+
+// Where the other thread hands on what it did, and how far it leads.
+fn push_onward(out: &mut Vec<u8>, names: &Names<'_>, e: &Explanation<'_>) -> Result<(), AllocError>
+    ensures { OnOk result (out.new.items ≡ out.old.items ++ onward_text (name_of names.now) e.now) }
+{
+    push_handed(out, names, &e.other, &e.handed)?;
+    push_leading(out, names, e)
+}
+
 // What is said of them.
 fn push_facts(out: &mut Vec<u8>, names: &Names<'_>, e: &Explanation<'_>) -> Result<(), AllocError>
     ensures { OnOk result (out.new.items ≡ out.old.items ++ facts_text (name_of names.now) e.now) }
@@ -180,7 +239,7 @@ fn push_facts(out: &mut Vec<u8>, names: &Names<'_>, e: &Explanation<'_>) -> Resu
     push_others(out, e.others)?;
     push_owned(out, names, &e.at)?;
     push_owned(out, names, &e.other)?;
-    push_handed(out, names, &e.other, &e.handed)
+    push_onward(out, names, e)
 }
 
 fn push_explanation(

@@ -24,7 +24,7 @@ no_event (e ∷ es) (suc n) none j q f a near i = cases (last_position (take n e
     cases None eq none' (suc j) a' near' rec = rec eq j q f a' (omega arith) i
 
 -- an entry is a trim or none
-trim_or_none : (e : Entry) → IsTrim e ⊎ (IsTrim e → ⊥)
+pub trim_or_none : (e : Entry) → IsTrim e ⊎ (IsTrim e → ⊥)
 trim_or_none (Sync at act value) = inr (λ t. t)
 trim_or_none (Commit at tx) = inr (λ t. t)
 trim_or_none (Plain var nth cached write value raised) = inr (λ t. t)
@@ -51,7 +51,7 @@ access_no_trim (Abort tx why) a t = t
 access_no_trim (Over ending) a t = t
 
 -- where the first entries have no event they are trims
-all_trims : (t : ℕ) (es : List Entry) → ListForm t es → (n : ℕ) → last_position (take n es) ≡ None → (k j : ℕ) (f : Entry) → j < k → j < n
+pub all_trims : (t : ℕ) (es : List Entry) → ListForm t es → (n : ℕ) → last_position (take n es) ≡ None → (k j : ℕ) (f : Entry) → j < k → j < n
     → At es j f → IsTrim f
 all_trims t es form n none zero j f near within a = absurd (omega arith)
 all_trims t es form n none (suc k) j f near within a = elim (trim_or_none f) [
@@ -69,7 +69,8 @@ has_block R form c e here is = from (last_position (take (suc c.index) (R c.thre
     from None eq = absurd (access_no_trim e is
         (all_trims c.thread (R c.thread) (form.formed c.thread) (suc c.index) eq (suc c.index) c.index e (omega arith) (omega arith) here))
 
-end_entry : (e : Entry) → event_of e ≡ Some (Does End) → IsEnd e
+-- an entry whose event is an end is one
+pub end_entry : (e : Entry) → event_of e ≡ Some (Does End) → IsEnd e
 end_entry (Sync at End value) i = tt
 end_entry (Sync at (Begin f) value) i = absurd (cc)
 end_entry (Sync at act value) i = let z : act ≡ End = cc in absurd (cc)

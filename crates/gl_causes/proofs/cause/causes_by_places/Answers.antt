@@ -37,9 +37,9 @@ returns c =
     in omega arith) in
     let L = laid_of R rows ss c.requires.form c.requires.numbered run short c.in_ok-rows.ensures
     (λ d e a. entry_kept c.args.made.now c.keeps.ensures d.thread d.index e a) c.in_ok-stands.ensures in
-    let found : AreFound rows ss (length stands) c.in_ok-causes.causes.items =
-    subst (λ r. AreFound r ss (length stands) c.in_ok-causes.causes.items) c.deref.ensures.value
-    (subst (λ s. AreFound c.deref.result.now (map stand_seen s) (length s) c.in_ok-causes.causes.items) c.deref-2.ensures.value
+    let found : AreFound R rows ss (length stands) c.in_ok-causes.causes.items =
+    subst (λ r. AreFound R r ss (length stands) c.in_ok-causes.causes.items) c.deref.ensures.value
+    (subst (λ s. AreFound R c.deref.result.now (map stand_seen s) (length s) c.in_ok-causes.causes.items) c.deref-2.ensures.value
     c.in_ok-causes.ensures) in
     are_causes run.0 R run.1.0 (run.1.2.at (length run.1.0)) rows ss L c.requires.races c.in_ok-causes.causes.items
-    (subst (λ n. AreFound rows ss n c.in_ok-causes.causes.items) (sym (length-map stands stand_seen)) found)
+    (subst (λ n. AreFound R rows ss n c.in_ok-causes.causes.items) (sym (length-map stands stand_seen)) found)
