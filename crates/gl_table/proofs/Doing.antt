@@ -45,6 +45,7 @@ abbrev pub with_room : PassView → ListView → ℕ → ℕ → PassView
 with_room p l low tail = after (after (with_list p l) (saw (view_of (with_list p l)) (Hold 0 low)))
     (saw_tail (view_of (after (with_list p l) (saw (view_of (with_list p l)) (Hold 0 low)))) tail)
 
+-- an act that is not a begin
 not_begin : (act : Act) → Type 0
 not_begin act = (at : ℕ) (value : ℤ) → IsBegin (Sync at act value) → ⊥
 
@@ -61,6 +62,7 @@ may_store t es n act value runs form = record {
   repeats = λ x k v e. absurd (cc);
 }
 
+-- one-element lists that are equal have equal elements
 one_shelf : (a c : Shelf) → a ∷ [] ≡ c ∷ [] → a ≡ c
 one_shelf a c e = cc
 
@@ -74,9 +76,11 @@ state_runs setting p l told runs now is =
     is.threads p.own.id ∙ sym (told.is.threads p.own.id)
     ∙ running_law setting told.log told.now p.own.id b.0 p.own.mine told.allowed own b.1 (no_end p.own.mine runs)
 
+-- a monitor that is told as owned is owned by that thread to that depth
 some_owned : (m : Option (ℕ × ℕ)) (k : ℕ × ℕ) → m ≡ Some k → monitor_state m ≡ Owned k.0 k.1
 some_owned m k e = ap monitor_state e
 
+-- in a pass that was told the state of the list no monitor is deeper than its events allow
 pub shallow : (setting : Setting) (v : View) (l : ListView) (o : ℕ) → StateTold setting v l → IsShallow l o
 shallow setting v l o told = record {
   few = λ m is.
@@ -133,6 +137,7 @@ may_put_back setting p l = record {
       λ e. absurd (cc);
 }
 
+-- a pass may put back the full list, with its room told
 pub may_put_full : (setting : Setting) (p : PassView) (l : ListView) (low tail : ℕ)
     → MayPutBack setting (shelf_of (with_room p l low tail)) (view_of (with_room p l low tail)) 0 (slot.List l) false
 may_put_full setting p l low tail = record {
@@ -144,9 +149,11 @@ may_put_full setting p l low tail = record {
   quiet = λ e. absurd (cc);
 }
 
+-- the list may be left where it was taken and is the same
 leave_list : (setting : Setting) (s : Shelf) (v : View) (h : Held) (k : ℕ) (x y : Slot) → k ≡ 0 → y ≡ x → MayLeaveAt setting s v h k x y
 leave_list setting s v h k x y e is = subst (λ z. MayLeaveAt setting s v h z x y) (sym e) is
 
+-- after publishing, what is held of the list is the new list
 taken_after : (n : ℕ) (y : Slot) (drew : Held → Option Draw) (h : Held) → h.object ≡ 0 → (after_publish n y drew h).taken ≡ y
 taken_after n y drew h e = ap (λ b. (if b then record h { taken = y; tails = suc n ∷ [] }
     else record h { tails = suc n ∷ h.tails; drew = drew h }).taken) (eq-eqb h.object 0 e)
