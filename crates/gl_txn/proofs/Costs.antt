@@ -34,6 +34,7 @@ costs_known p q k =
     let o = ap (λ (z : PassView). z.moves.others) k.is in
     record { words = omega arith; stores = omega arith; others = omega arith }
 
+-- what two parts of an end cost, one after the other, is at most the sum
 pub costs_both : (a b c s t u : ℕ) (p q r : PassView) → EndCosts s a p q → EndCosts t b q r → s + t ≡ u → a + b ≤ c → EndCosts u c p r
 costs_both a b c s t u p q r x y e le =
     let l = x.words in
@@ -44,6 +45,7 @@ costs_both a b c s t u p q r x y e le =
     let n = y.others in
     record { words = omega arith; stores = omega arith; others = omega arith }
 
+-- what costs at most a costs at most a greater b
 pub costs_within : (a b s : ℕ) (p q : PassView) → EndCosts s a p q → a ≤ b → EndCosts s b p q
 costs_within a b s p q x le = let o = x.others in record { words = x.words; stores = x.stores; others = omega arith }
 

@@ -33,6 +33,7 @@ one_one x y (z ∷ zs) l = elim (cases_lt x z) [
   ])
 ]
 
+-- two numbers may be put among others in either order
 pub either_order : (x y : ℕ) (zs : List ℕ) → with_one x (with_one y zs) ≡ with_one y (with_one x zs)
 either_order x y zs = elim (cases_lt x y) [
   | inl l ↦ one_one x y zs l
@@ -60,6 +61,7 @@ pub all_one : (xs : List ℕ) (y : ℕ) (zs : List ℕ) → with_all xs (with_on
 all_one [] y zs = refl
 all_one (x ∷ xs) y zs = ap (with_all xs) (either_order x y zs) ∙ all_one xs y (with_one x zs)
 
+-- putting one among a list before its numbers are put among others gives the same as after
 pub one_all : (x : ℕ) (ws zs : List ℕ) → with_all (with_one x ws) zs ≡ with_one x (with_all ws zs)
 one_all x [] zs = refl
 one_all x (w ∷ ws) zs = elim (cases_lt x w) [
@@ -82,6 +84,7 @@ one_grows x (y ∷ ys) = elim (cases_lt x y) [
   ]
 ]
 
+-- a number below all of a list is put before it
 first_above : (x : ℕ) (xs : List ℕ) → AllByRecursion (λ y. x < y) xs → with_one x xs ≡ x ∷ xs
 first_above x [] all = refl
 first_above x (y ∷ ys) all = with_one-above x y ys all.0
@@ -91,6 +94,7 @@ pub all_none : (xs : List ℕ) → Rises xs → with_all xs [] ≡ xs
 all_none [] r = refl
 all_none (x ∷ xs) r = all_one xs x [] ∙ ap (with_one x) (all_none xs r.1) ∙ first_above x xs r.0
 
+-- putting numbers among others makes no list shorter
 pub all_grow : (xs ys : List ℕ) → length ys ≤ length (with_all xs ys)
 all_grow [] ys = omega arith
 all_grow (x ∷ xs) ys = let one = one_grows x ys in let rest = all_grow xs (with_one x ys) in omega arith
@@ -104,9 +108,11 @@ all_longer ws (z ∷ zs) r s =
     let rest = all_longer ws zs r s.1 in
     omega arith
 
+-- what is in the rest is in the list
 in_next : {A : Type 0} (x : A) (xs : List A) (y : A) → Contains xs y → Contains (x ∷ xs) y
 in_next x xs y c = (suc c.0, (let l = c.1 in omega arith), c.2)
 
+-- what is in a list is its first or in the rest
 in_cases : {A : Type 0} (x : A) (xs : List A) (y : A) → Contains (x ∷ xs) y → (x ≡ y) ⊎ Contains xs y
 in_cases x xs y (zero, l, e) = inl e
 in_cases x xs y (suc k, l, e) = inr (k, omega arith, e)
@@ -122,6 +128,7 @@ one_there x (z ∷ zs) = elim (cases_lt x z) [
   ]
 ]
 
+-- what was in a list is in it with one put among
 pub one_still : (x : ℕ) (zs : List ℕ) (y : ℕ) → Contains zs y → Contains (with_one x zs) y
 one_still x [] y c = absurd (let l = c.1 in omega arith)
 one_still x (z ∷ zs) y c = elim (cases_lt x z) [
@@ -133,6 +140,7 @@ one_still x (z ∷ zs) y c = elim (cases_lt x z) [
   ]
 ]
 
+-- what is in a list with one put among is that one or was there
 pub one_from : (x : ℕ) (zs : List ℕ) (y : ℕ) → Contains (with_one x zs) y → (x ≡ y) ⊎ Contains zs y
 one_from x [] y c = in_cases x [] y c
 one_from x (z ∷ zs) y c = elim (cases_lt x z) [
@@ -146,10 +154,12 @@ one_from x (z ∷ zs) y c = elim (cases_lt x z) [
   ]
 ]
 
+-- what is in the second of two lists is in their union
 pub all_right : (xs zs : List ℕ) (y : ℕ) → Contains zs y → Contains (with_all xs zs) y
 all_right [] zs y c = c
 all_right (x ∷ xs) zs y c = all_right xs (with_one x zs) y (one_still x zs y c)
 
+-- what is in the first of two lists is in their union
 pub all_left : (xs zs : List ℕ) (y : ℕ) → Contains xs y → Contains (with_all xs zs) y
 all_left [] zs y c = absurd (let l = c.1 in omega arith)
 all_left (x ∷ xs) zs y c = elim (in_cases x xs y c) [
@@ -157,6 +167,7 @@ all_left (x ∷ xs) zs y c = elim (in_cases x xs y c) [
   | inr there ↦ all_left xs (with_one x zs) y there
 ]
 
+-- what is in the union of two lists is in one of them
 pub all_from : (xs zs : List ℕ) (y : ℕ) → Contains (with_all xs zs) y → Contains xs y ⊎ Contains zs y
 all_from [] zs y c = inr c
 all_from (x ∷ xs) zs y c = elim (all_from xs (with_one x zs) y c) [
@@ -250,6 +261,7 @@ module _ {A : Type 0} (key : A → ℕ) where
     ]
   ]
 
+-- a number that was not in a list makes it longer by one
 one_new : (x : ℕ) (ys : List ℕ) → (Contains ys x → ⊥) → length (with_one x ys) ≡ length ys + 1
 one_new x [] out = refl
 one_new x (y ∷ ys) out = elim (cases_lt x y) [
