@@ -107,7 +107,7 @@ refused_none made input s a refused = let none = refused.kept_is in cc
 some_made : (made other : SealedView) → Some (Run made) ≡ Some (Run other) → other ≡ made
 some_made made other e = cc
 
--- a run that is answered is lawful
+-- what is kept of a text that runs is a run, and its status and bytes are read off it
 pub runs_lawful : RunsAreLawful
 runs_lawful options input s a made one =
     elim one [
@@ -128,7 +128,7 @@ runs_lawful options input s a made one =
 
 -- ## Loads
 
--- a load that is answered is told
+-- the status and the bytes of a load are told by what it keeps
 pub loads_told : LoadsAreTold
 loads_told load s t a b kept one two =
     let same : one.made ≡ two.made = same_kept one.made two.made kept one.kept_is two.kept_is in (
@@ -137,7 +137,7 @@ loads_told load s t a b kept one two =
           ∙ ap (λ (m : SealedView). summary_of m.entries) same ∙ sym two.bytes_are,
     )
 
--- a load that is answered is lawful
+-- what is kept of a load is the closed table of a run of the bank of its size
 pub loads_lawful : LoadsAreLawful
 loads_lawful load s a made one =
     let same : one.made ≡ made = some_made made one.made one.kept_is in

@@ -31,7 +31,7 @@ use Rattle.gl_run.specs.Said.{IsSaid}
 use Rattle.gl_run.specs.declared.verdicts.Verdicts.{Verdicts}
 use Rattle.gl_run.proofs.JudgedLines.{verdicts_judged}
 
--- the verdict's text of a said line
+-- the text of what was said of a line
 abbrev pub verdict_of : Said → List ℕ
 verdict_of p = verdict_line p.0.0 p.1
 
