@@ -46,12 +46,12 @@ get_cases [] x (suc i) y e = absurd (cc)
 get_cases (z ∷ xs) x zero y e = inl e
 get_cases (z ∷ xs) x (suc i) y e = get_cases xs x i y e
 
--- each told line that is raised has its explanation, in order
+-- each explanation is of one of the told lines, by the lines before it
 abbrev Each : List Told → List Explanation → Type 0
 Each told es = (i : ℕ) (e : Explanation) → slice_get es i ≡ Some e → (before : List Told) × (behind : List Told)
     × (told ≡ before ++ e.at ∷ behind) × IsExplained before e
 
--- explanations that fit the told lines fit them with a line more that is not raised
+-- explanations of the told lines are explanations of them with a line more
 each_more : (done : List Told) (t : Told) (es : List Explanation) → Each done es → Each (done ++ t ∷ []) es
 each_more done t es each i e there =
     let w = each i e there in

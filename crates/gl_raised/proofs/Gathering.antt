@@ -76,7 +76,7 @@ pub data ClaimKind (e : Entry) : Type 0 where
   one_claim : IsAccess e → ((p : StoredPlace) (b : ℕ) → claims_of p b e ≡ (record { place = p; block = b; raised = raised_on e }) ∷ [])
       → ClaimKind e
 
--- an entry claims something or claims nothing
+-- each entry is no access, or has one claim
 kind_of : (e : Entry) → ClaimKind e
 kind_of (Sync at act value) = no_access (λ a. a) (λ p b. refl) (λ k t b. refl)
 kind_of (Commit at tx) = one_claim tt (λ p b. refl)
