@@ -16,6 +16,7 @@ pub data MonitorStep (t : ℕ) (e : Event) (f g : ℕ → MonitorState) : Type 0
   leaves : (p depth : ℕ) → e ≡ Does (Rel p) → f p ≡ Owned t (depth + 1) → g ≡ with_at f p (left_once t depth) → MonitorStep t e f g
   keeps : ((p : ℕ) → e ≡ Does (Acq p) → ⊥) → ((p : ℕ) → e ≡ Does (Rel p) → ⊥) → g ≡ f → MonitorStep t e f g
 
+-- the effect of an event on the monitors is what the event's step says
 pub monitor_step : (setting : Setting) (old new : State) (t : ℕ) (e : Event) (value : ℤ) → Effect setting old t e value new
     → MonitorStep t e old.monitors new.monitors
 monitor_step setting old new t (Does (Begin f)) value k = keeps (λ p z. absurd (cc)) (λ p z. absurd (cc)) (ap (λ (s : State). s.monitors) k)
@@ -38,9 +39,11 @@ monitor_step setting old new t (Does (Fail c)) value k =
     keeps (λ p z. absurd (cc)) (λ p z. absurd (cc)) (ap (λ (s : State). s.monitors) k.1)
 monitor_step setting old new t (Commit xs) value k = keeps (λ p z. absurd (cc)) (λ p z. absurd (cc)) (ap (λ (s : State). s.monitors) k)
 
+-- two ways of being owned that are equal are by one thread
 owned_by : (t u d e : ℕ) → Owned t d ≡ Owned u e → t ≡ u
 owned_by t u d e h = cc
 
+-- two ways of being owned, to one depth more than two, that are equal have one depth
 owned_deep : (t u d e : ℕ) → Owned t (d + 1) ≡ Owned u (e + 1) → d ≡ e
 owned_deep t u d e h = let k : d + 1 ≡ e + 1 = cc in omega arith
 
@@ -48,6 +51,7 @@ owned_deep t u d e h = let k : d + 1 ≡ e + 1 = cc in omega arith
 abbrev pub IsOwner : ℕ → MonitorState → Type 0
 IsOwner t m = (d : ℕ) × (m ≡ Owned t d)
 
+-- a monitor that another thread left is not owned by this one
 left_not : (t u depth d : ℕ) → (t ≡ u → ⊥) → left_once t depth ≡ Owned u d → ⊥
 left_not t u depth d apart z = here (depth == 0) z
   where
@@ -86,10 +90,12 @@ take_step o u e f g (leaves p depth is old eq) none = elim (ℕ_discrete o p) [
 ]
 take_step o u e f g (keeps na nr eq) none = inl (λ w. none (w.0, sym (ap (λ k. k o) eq) ∙ w.1))
 
+-- a monitor that a thread enters becomes one and the same
 entered_same : (t : ℕ) (s m n : MonitorState) → Entered t s m → Entered t s n → m ≡ n
 entered_same t Free m n a b = a ∙ sym b
 entered_same t (Owned w d) m n a b = a.1 ∙ sym b.1
 
+-- monitors that are the same are so after one is set to the same
 with_same : (f g : ℕ → MonitorState) (p : ℕ) (m n : MonitorState) → ((o : ℕ) → f o ≡ g o) → m ≡ n → (o : ℕ) → with_at f p m o
     ≡ with_at g p n o
 with_same f g p m n same e o = elim (ℕ_discrete o p) [
@@ -124,6 +130,7 @@ pub record Between (setting : Setting) (h : List Stamp) (k : ℕ) (owner now : S
   pub run : Run setting mid (drop k h) now
   pub same : (o : ℕ) → owner.monitors o ≡ mid.monitors o
 
+-- the events after the first k bring the monitors from one state to the other
 pub between : (setting : Setting) (k : ℕ) (h : List Stamp) (a b owner now : State) → ((o : ℕ) → a.monitors o ≡ b.monitors o)
     → Run setting a (take k h) owner → Run setting b h now → Between setting h k owner now
 between setting zero [] a b owner now same r s = record { mid = b; run = s; same = λ o. ap (λ (z : State). z.monitors o) r ∙ same o }
