@@ -70,11 +70,11 @@ pub data Becomes (old new : State) (s : Stamp) (t : ℕ) : Type 0 where
   steps : t ≡ s.thread → old.threads t ≢ NeverForked → old.threads t ≢ Ended → Becomes old new s t
   is_forked : (f : ℕ) → s.event ≡ Does (Fork t f) → old.threads t ≡ NeverForked → Becomes old new s t
 
--- a running thread is one that was forked and has not ended
+-- a running thread is neither never forked nor ended
 runs_on : (x : ThreadState) → x ≡ Running → (x ≢ NeverForked) × (x ≢ Ended)
 runs_on x e = ((λ n. absurd (cc)), (λ n. absurd (cc)))
 
--- a forked thread is one that was forked and has not ended
+-- a thread that was forked and has not begun is neither never forked nor ended
 was_forked : (x : ThreadState) (f : ℕ) (value : ℤ) → x ≡ Forked f value → (x ≢ NeverForked) × (x ≢ Ended)
 was_forked x f value e = ((λ n. absurd (cc)), (λ n. absurd (cc)))
 

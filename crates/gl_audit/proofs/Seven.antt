@@ -61,7 +61,7 @@ told OfRaces = refl
 told OfWords = refl
 told OfProgram = refl
 
--- a clause, or the first where there is none
+-- a clause, or that of the form where there is none
 or_form : Option Clause → Clause
 or_form None = OfForm
 or_form (Some k) = k

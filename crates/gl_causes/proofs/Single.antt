@@ -75,7 +75,7 @@ same_stored p q e =
     let index : p.index ≡ q.index = ap (λ (c : Place). c.index) e in
     λ i. record { thread = thread i; index = index i }
 
--- a refused entry has one cause
+-- two causes of one entry are the same
 pub one_cause_law : OneCause
 one_cause_law R numbered e f a b at = (λ i. record { at = at i; var = var i; other = other i; others = others i })
   where

@@ -34,7 +34,7 @@ last_on P n (Some j) never last = (
   ],
 )
 
--- if it is true of nothing from n on, the last below n is the last of all
+-- if nothing from n on has the property, the last below n is the last of all
 pub last_all : (P : ℕ → Type 0) (n : ℕ) (o : Option ℕ) → ((i : ℕ) → P i → i < n) → IsLastBelow P n o → IsLastOf P o
 last_all P n None near last = λ i p. last i (near i p) p
 last_all P n (Some j) near last = (last.1, λ i less p. last.2 i less (near i p) p)

@@ -71,7 +71,7 @@ rows_by lines false e = inr (
   rw e refl,
 )
 
--- the rows of lines are all of them, or the first and the last half where they are too many
+-- the rows of lines are all of them or, of too many, the first and the last
 pub rows_cases : {A : Type 0} (lines : List A) → ((length lines ≤ HALF + HALF) × (rows_of lines ≡ lines))
     ⊎ ((HALF + HALF < length lines) × (rows_of lines ≡ take HALF lines ++ drop (length lines - HALF) lines))
 rows_cases lines = rows_by lines (nat_le (length lines) (HALF + HALF)) refl
@@ -80,7 +80,7 @@ rows_cases lines = rows_by lines (nat_le (length lines) (HALF + HALF)) refl
 pub rows_all : {A : Type 0} (lines : List A) → length lines ≤ HALF + HALF → rows_of lines ≡ lines
 rows_all lines few = elim (rows_cases lines) [ inl all ↦ all.1 | inr cut ↦ absurd (let over = cut.0 in omega arith) ]
 
--- of too many lines the rows are the first and the last half
+-- the rows of too many lines are the first and the last of them
 pub rows_cut : {A : Type 0} (lines : List A) → HALF + HALF < length lines → rows_of lines ≡ take HALF lines ++ drop
     (length lines - HALF) lines
 rows_cut lines many = elim (rows_cases lines) [ inl all ↦ absurd (let few = all.0 in omega arith) | inr cut ↦ cut.1 ]

@@ -35,6 +35,6 @@ kept_within (suc n) rows i j a b near order there here leads none = elim (ℕ_di
   })))
 ]
 
--- the order of the rows follows from the arrows that are drawn
+-- where a row synchronizes with a later one, it cannot be that no way of arrows leads there
 pub order_kept : OrderIsKept
 order_kept rows i j a b = kept_within (j - i) rows i j a b (omega arith)

@@ -14,7 +14,7 @@ steps_told : (told : List Told) → steps_of (trace_of told) ≡ map step_of tol
 steps_told [] = refl
 steps_told (k ∷ ks) = ap (λ r. step_of k ∷ r) (steps_told ks)
 
--- told lines whose trace is lines name few enough variables
+-- told lines whose trace is well-formed have no commit that is too wide
 pub are_narrow : (told : List Told) → AreLines (trace_of told) → AreNarrow told
 are_narrow told are i k there =
     let steps = map step_of told in

@@ -230,7 +230,7 @@ fails_in l known t c w true false m e = or_right _ _
     (and_true (not c && w) _ (and_true (not c) w (not_false c (elim m.1 [ inl z ↦ cc | inr z ↦ z ])) (elim m.0 [ inl z ↦ cc | inr z ↦ z ]))
     e)
 
--- the answer whether an access races is true exactly where some other thread fails
+-- an answer that is true exactly where some other thread fails is true exactly where the access races
 pub racy_means :
     (known : List (List ℕ)) (us : List Access) (i : ℕ) (a : Access) (lasts : List Lasts) (l : Lasts) (answer : Bool)
     → slice_get lasts a.var ≡ Some l → AreOfThreads us → AreLasts us i lasts →

@@ -475,7 +475,7 @@ end_starts P (Done at) = tt
 end_starts P (WasRaised var) = tt
 end_starts P (Changed var read found) = tt
 
--- the entry of an attempt's end repeats nothing wrongly
+-- the entry of an attempt's end is no access, and so right about repeats
 end_repeats : (e : HowEnded) (tx : Tx) (own : Own) → IsRightly (entry_of e tx) own
 end_repeats (Done at) tx own = tt
 end_repeats (WasRaised var) tx own = tt

@@ -33,13 +33,13 @@ record IsGiven (es : List Entry) (i x : ℕ) (write : Bool) : Type 0 where
   enough : write ≡ true → w ≡ true
   no_end : (l : ℕ) (f : Entry) → At es l f → j < l → l < i → EndsRights f → ⊥
 
--- the entry at i gives a right to repeat accesses of x
+-- since the last event or abort before place i an entry gave a right to such an access of x
 abbrev Given : List Entry → ℕ → ℕ → Bool → Type 0
 Given es i x write =
     ((j : ℕ) × (j < i) × ((e : Entry) × At es j e × ((m : ℕ) × ((w : Bool) × GivesRight e x m w × (write ≡ true → w ≡ true)))) ×
     ((l : ℕ) (f : Entry) → At es l f → j < l → l < i → EndsRights f → ⊥))
 
--- an entry that gives a right, as said by the definition, is one that is given
+-- what says that there is a right to the access at i makes the record of it
 given_is : (es : List Entry) (i x : ℕ) (write : Bool) → Given es i x write → IsGiven es i x write
 given_is es i x write (j, less, (e, there, (m, (w, gives, enough))), no_end) = record {
   j = j;
@@ -53,11 +53,11 @@ given_is es i x write (j, less, (e, there, (m, (w, gives, enough))), no_end) = r
   no_end = no_end;
 }
 
--- an entry that is given gives a right, as said by the definition
+-- the record of a right to the access at i says that there is one
 is_given : (es : List Entry) (i x : ℕ) (write : Bool) → IsGiven es i x write → Given es i x write
 is_given es i x write g = (g.j, g.before, (g.entry, g.there, (g.nth, (g.w, g.gives, g.enough))), g.no_end)
 
--- a right that is given within a list is given in it with one entry more
+-- a right to the access at i is one still when the list has one entry more
 given_more : (es : List Entry) (e : Entry) (i x : ℕ) (write : Bool) → i < length es → IsGiven es i x write
     → IsGiven (es ++ e ∷ []) i x write
 given_more es e i x write less g = record {
@@ -72,7 +72,7 @@ given_more es e i x write less g = record {
   no_end = λ l f a after low ends. g.no_end l f (at_before es e f l (omega arith) a) after low ends;
 }
 
--- a right within a list that is given with one entry more was given without it
+-- a right to the access at i in a list with one entry more was one without it
 given_less : (es : List Entry) (e : Entry) (i x : ℕ) (write : Bool) → i < length es → IsGiven (es ++ e ∷ []) i x write
     → IsGiven es i x write
 given_less es e i x write less g =
@@ -104,7 +104,7 @@ granted_given es e x write w g enough = record {
   no_end = λ l f a after low ends. g.no_end l f (at_before es e f l low a) after ends;
 }
 
--- a right that is given at the last entry was granted by the list before it
+-- a right to the entry that is put last was granted by the list before it
 given_granted : (es : List Entry) (e : Entry) (x : ℕ) (write : Bool) → (g : IsGiven (es ++ e ∷ []) (length es) x write) → Grants es x g.w
 given_granted es e x write g = record {
   index = g.j;
@@ -120,7 +120,7 @@ abbrev IsSparedNext : List Entry → Entry → Type 0
 IsSparedNext es e = (x k : ℕ) (cached write raised : Bool) (value : ℤ) → e ≡ Plain x k cached write value raised
     → (cached ≡ true) ↔ IsGiven (es ++ e ∷ []) (length es) x write
 
--- a list that spares stays sparing after an entry that does
+-- a list that is spared stays so after an entry that is as sparing asks
 spared_more : (es : List Entry) (e : Entry) → IsSpared es → IsSparedNext es e → IsSpared (es ++ e ∷ [])
 spared_more es e spared next i x k cached write raised value a = elim (at_cases es e (Plain x k cached write value raised) i a) [
   | inl old ↦
@@ -184,7 +184,7 @@ ends_gives (Plain y n k v a r) x m w ends gives = ends
 ends_gives (Trim low) x m w ends gives = gives
 ends_gives (Over ending) x m w ends gives = gives
 
--- an entry that ends rights spares
+-- an event or an abort is as sparing asks
 ends_spared : (es : List Entry) (e : Entry) → EndsRights e → IsSparedNext es e
 ends_spared es e ends x k cached write raised value is = absurd (let at : Entry → Type 0 = λ f. EndsRights f in subst at is ends)
 
@@ -304,7 +304,7 @@ right_allows es x write w s g enough =
     let r = s.complete x w g in
     ap (λ o. allows o write) r.right ∙ allows_right write r.by_write r.nth (λ t. r.enough (enough t))
 
--- an access that is cached exactly where the right allows it spares
+-- a plain entry that is cached exactly where the right allows it is as sparing asks
 plain_spared :
     (es : List Entry) (x n : ℕ) (cached write raised : Bool) (value : ℤ) → Spares es → cached ≡ allows (right_of es x) write →
     IsSparedNext es (Plain x n cached write value raised)

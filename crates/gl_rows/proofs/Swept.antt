@@ -66,7 +66,7 @@ tried_far x to n p q is le = record {
       (costs_same q) (omega arith);
 }
 
--- loading the holds and taking a row show that it is far
+-- the hold that was loaded of x's row, after the row was taken, shows the row to be far
 holds_far : (t x to hold steps : ℕ) (row : _) (holds : List Read) → LoadedHolds x to hold holds steps
     → IsFar t x to (Taken (suc x) (slot.Row row) ∷ holds)
 holds_far t x to hold steps row holds (inl (le, is, some)) =

@@ -553,7 +553,7 @@ level_near es o some = elim (cases_lt o MONITORS) [
       in omega arith)
 ]
 
--- what a thread's list says of monitors is what the machine has
+-- the least monitors that a thread entered by its entries are the least that the machine has it own
 pub monitors_tell : MonitorsTell
 monitors_tell setting h now t es allowed k kept held l = record {
   rising = l.rising;
@@ -565,7 +565,7 @@ monitors_tell setting h now t es allowed k kept held l = record {
   least = λ o own. l.least o (owned_level setting h now t es allowed k kept o own.0 own.1).1;
 }
 
--- what a thread's list says to the questions about monitors is what the machine answers
+-- a question of a thread that runs, with the least monitors that it owns, is of a next access
 pub questions_tell : QuestionsTell
 questions_tell setting h now t es allowed k life q by held =
     let b = has_block es life in

@@ -158,7 +158,7 @@ rose key w id n to v s up may g cs o f d b t low = record {
         in absurd (omega arith)
     once o r (suc k, q, e) (suc k', q', e') same = low.once o r (k, omega arith, e) (k', omega arith, e') same
 
--- what is true of a pass's list and the first segment, put together as one record
+-- where no Trim is stored, the pass's list and the Trims are as before
 stayed : (w : World) (id n : ℕ) (v : View) (s : Shelf) → ShelfRefusals w.until s → ShelfCarries w.values s
     → OwedFits w.draws v.owed (s ∷ []) → ShelfFits w.log w.seat id s → ShelfDraws w.draws v.drawn s → AreBelow v.seen s
     → ShelfTrims w.trims s → LowHolds n w.trims → LowFacts w id v s (shelf s.thread s.marked) w.trims n

@@ -460,7 +460,7 @@ module _ (key : Key) (w : World) (b : Board) (id : ℕ) (v : View) (s : Shelf) (
       subst (λ k. Marks k ds → DrawsHold k x (draw s.thread p (Entered (Plain x (length ds) false write value raised)) ∷ ds)) (sym is)
       (right_at ds tails (take v.seen log) (drop v.seen log) long) (record { facts = f; stands = st; verdicts = verdicts })
 
--- a plain access is an entry of the form that a thread's list has, if its value is zero where a read raised
+-- an uncached access has the form of an entry, if its value is zero where a read raised
 plain_form : (t x n : ℕ) (write raised : Bool) (value : ℤ) → (raised ≡ true → write ≡ false → value ≡ pos 0)
     → EntryForm t (Plain x n false write value raised)
 plain_form t x n write true value none = (refl, none refl)
@@ -500,7 +500,7 @@ marks_plain key slots id v c s h x taken p q write value raised one may =
       right = mark_right key w b id v s h x taken p q write value raised may (w.draws x) w.log f.tails f.facts f.stands f.verdicts;
     })
 
--- where there is a place for a draw, at most one is there on that variable
+-- where there is a place for a draw, at most one draw on that variable waits for its entry
 place_few : (look : Option ℤ) (x : ℕ) (drawn : List Drawn) → HasPlace look x drawn → count_on x drawn ≤ 1
 place_few (Some value) x drawn h = omega arith
 place_few None x drawn h = h

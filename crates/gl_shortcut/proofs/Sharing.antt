@@ -14,7 +14,7 @@ use Rattle.gl_draws.proofs.Owners.{state_at}
 use Rattle.gl_shortcut.specs.Ordering.{IsOfNext, IsOrderedBefore}
 use Rattle.gl_shortcut.proofs.Monitors.{monitor_step, own_step, take_step, between}
 
--- an event of a thread is not in a list of one event that is not of the thread
+-- a list of one event of another thread has no event of this one
 only_one : (x : Stamp) (t p : ℕ) (s : Stamp) → (x.thread ≡ t → ⊥) → slice_get (x ∷ []) p ≡ Some s → s.thread ≡ t → p < 0
 only_one x t zero s other e own = absurd (other (let k : x ≡ s = cc in ap (λ (z : Stamp). z.thread) k ∙ own))
 only_one x t (suc p) s other e own = absurd (cc)
@@ -99,7 +99,7 @@ got zero h p s e = let z : p ≡ 0 + p = omega arith in subst (λ j. slice_get h
 got (suc k) [] p s e = absurd (cc)
 got (suc k) (x ∷ h) p s e = let z : suc (k + p) ≡ suc k + p = omega arith in subst (λ j. slice_get (x ∷ h) j ≡ Some s) z (got k h p s e)
 
--- an access of the thread, or one that reaches it, happens before its next event
+-- an access of a thread, or one that an event of it comes after, happens before its next access
 by_thread : (h : List Stamp) (a : Access) (u : ℕ) (v : Option (List ℕ)) → (a.thread ≡ u) ⊎ ReachesThread h a u → HappensBeforeNext h a u v
 by_thread h a u None k = k
 by_thread h a u (Some xs) (inl own) = inl own

@@ -35,7 +35,7 @@ load_tells key slots id v c s rule long here fits =
       },
     )
 
--- a pass may load the word that tells whether the table is closed
+-- the first word may be loaded, and by it a pass has what a closed table tells
 pub may_close : (key key' : Key) (slots id : ℕ) (me : table.Me Slot View) (u : View) → u ≡ me.0 → key' ≡ key
     → table.Allows (Rule key) slots id me 0 (λ n. n) (λ n w. ClosedTold key' u w)
 may_close key key' slots id me u is same =

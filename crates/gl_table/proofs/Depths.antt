@@ -23,13 +23,13 @@ Before s o a t d = ((d' : ℕ) × (s.monitors o ≡ Owned t d') × (d ≤ d'))
 same_before : (s new : State) (o a t d : ℕ) → new.monitors ≡ s.monitors → new.monitors o ≡ Owned t d → Before s o a t d
 same_before s new o a t d e p = inl (d, sym (ap (λ (f : ℕ → MonitorState). f o) e) ∙ p, omega arith)
 
--- a monitor that a thread owns after an entering was owned before it, to a depth one lower if it is the one that entered
+-- who owns a monitor that was entered is who entered it, at most one deeper than before
 entered_before : (s : State) (o a t d : ℕ) (old m : MonitorState) → s.monitors o ≡ old → Entered a old m → m ≡ Owned t d → Before s o a t d
 entered_before s o a t d Free m is e p = let q = owned_same a t 1 d (sym e ∙ p) in inr (q.0, inl (let x = q.1 in omega arith))
 entered_before s o a t d (Owned w k) m is e p = let q = owned_same a t (k + 1) d (sym e.1 ∙ p)
     in inr (q.0, inr (k, is ∙ ap (λ z. Owned z k) (e.0 ∙ q.0), (let x = q.1 in omega arith)))
 
--- a monitor that a thread owns after a leaving was owned before it, to a depth one higher if it is the one that left
+-- who owns a monitor that was left owned it before, no less deep
 left_before : (s : State) (o a t d k : ℕ) → s.monitors o ≡ Owned a (k + 1) → left_once a k ≡ Owned t d → Before s o a t d
 left_before s o a t d zero is p = absurd (cc)
 left_before s o a t d (suc k) is p =
@@ -38,7 +38,7 @@ left_before s o a t d (suc k) is p =
     let q = owned_same a t (suc k) d (sym z ∙ p) in
     inl (suc k + 1, is ∙ ap (λ z. Owned z (suc k + 1)) q.0, (let x = q.1 in omega arith))
 
--- when one monitor changes, each monitor was owned before as it is now, if that one was
+-- where one monitor is set, who owns a monitor owned it before or entered it, if that is so of the one that was set
 at_monitor : (s : State) (g : ℕ) (m : MonitorState) (o a t d : ℕ) → (m ≡ Owned t d → Before s g a t d) → with_at s.monitors g m o
     ≡ Owned t d → Before s o a t d
 at_monitor s g m o a t d here p = elim (ℕ_discrete o g) [
@@ -47,7 +47,7 @@ at_monitor s g m o a t d here p = elim (ℕ_discrete o g) [
   | no ne ↦ inl (d, sym (with_else s.monitors g o m ne) ∙ p, omega arith)
 ]
 
--- whatever an event does, a monitor owned after it was owned before, at a depth of at most one less
+-- who owns a monitor after an event owned it before as deep, or made the event and is at most one deeper
 effect_before : (setting : Setting) (s new : State) (a : ℕ) (event : Event) (value : ℤ) → Effect setting s a event value new → (o t d : ℕ)
     → new.monitors o ≡ Owned t d → Before s o a t d
 effect_before setting s new a (Commit xs) value e o t d p = same_before s new o a t d (ap (λ (z : State). z.monitors) e) p
@@ -83,7 +83,7 @@ at_least n a t = by_bool (a == t)
     by_bool true = omega arith
     by_bool false = omega arith
 
--- in a run the depth of a monitor rises by at most the events of the thread that owns it
+-- if depths were within counts at the start of a run, they are within the counts and each thread's events at its end
 run_depth : (setting : Setting) (s now : State) (log : List Stamp) (n : ℕ → ℕ) → Run setting s log now
     → ((o t d : ℕ) → s.monitors o ≡ Owned t d → d ≤ n t) → (o t d : ℕ) → now.monitors o ≡ Owned t d → d ≤ n t + events_by t log
 run_depth setting s now [] n run low o t d p = let a = low o t d (sym (ap (λ (z : State). z.monitors o) run) ∙ p) in omega arith

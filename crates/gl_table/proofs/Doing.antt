@@ -80,7 +80,7 @@ state_runs setting p l told runs now is =
 some_owned : (m : Option (ℕ × ℕ)) (k : ℕ × ℕ) → m ≡ Some k → monitor_state m ≡ Owned k.0 k.1
 some_owned m k e = ap monitor_state e
 
--- in a pass that was told the state of the list no monitor is deeper than its events allow
+-- in the state that a pass was told of, no monitor was entered so often that it could not be counted
 pub shallow : (setting : Setting) (v : View) (l : ListView) (o : ℕ) → StateTold setting v l → IsShallow l o
 shallow setting v l o told = record {
   few = λ m is.
@@ -137,7 +137,7 @@ may_put_back setting p l = record {
       λ e. absurd (cc);
 }
 
--- a pass may put back the full list, with its room told
+-- a pass that read how much room there is may put the list back as it took it
 pub may_put_full : (setting : Setting) (p : PassView) (l : ListView) (low tail : ℕ)
     → MayPutBack setting (shelf_of (with_room p l low tail)) (view_of (with_room p l low tail)) 0 (slot.List l) false
 may_put_full setting p l low tail = record {
@@ -149,7 +149,7 @@ may_put_full setting p l low tail = record {
   quiet = λ e. absurd (cc);
 }
 
--- the list may be left where it was taken and is the same
+-- the list may be left where it is as it was taken
 leave_list : (setting : Setting) (s : Shelf) (v : View) (h : Held) (k : ℕ) (x y : Slot) → k ≡ 0 → y ≡ x → MayLeaveAt setting s v h k x y
 leave_list setting s v h k x y e is = subst (λ z. MayLeaveAt setting s v h z x y) (sym e) is
 

@@ -43,7 +43,7 @@ use Rattle.gl_riders.proofs.Sparings.{spares_note}
 use Rattle.gl_riders.proofs.Telling.{LifeFor}
 use Rattle.gl_threads.specs.Aboard.{IsFinished}
 
--- a thread that asks to go on is answered without an entry
+-- to go on leaves no entry, inside an attempt or outside
 quiet_go : (o : Option Attempt) (p : Progress) → is_quiet o p Go Gone ≡ true
 quiet_go None p = refl
 quiet_go (Some a) p = refl

@@ -123,7 +123,7 @@ var_is_no_thread x e = cc
 thread_is : (t : ℕ) → Thread t ≡ Thread 0 → t ≡ 0
 thread_is t e = cc
 
--- against an access at place 1 whose set is thread 0 alone, a commit of another thread fails
+-- an info at position 1 whose set is thread 0 alone fails the test of another thread's commit
 fails_at : (setting : Setting) (t : ℕ) (xs : List ℕ) (i : Info) → t ≢ 0 → i.pos ≡ 1
     → ((y : Element) → Has i.set y ↔ (y ≡ Thread 0)) → Fails (begun setting) i t (Some xs)
 fails_at setting t xs i other stands set ordered = elim at_one [

@@ -217,7 +217,7 @@ unused_fewer held rows r u = record {
   unused = u.unused;
 }
 
--- where no row is unused, nothing is held
+-- where the unused rows are none, nothing is held
 pub unused_none : (held : List Held) → AreUnused held [] → held ≡ []
 unused_none held u = held_none held u.tails u.drew u.holds
 
