@@ -43,7 +43,7 @@ pub record IsPaid (ws : Words) (x : ℕ) (own new : Own) : Type 0 where
   pub owns : Owns (cleaned x ws) new
   pub less : length new.owed < length own.owed
 
--- when a changed word is paid, what is owed is as before without it
+-- a changed word is paid where what is owed is as before without it
 pub paid :
     (ws : Words) (own new : Own) (x : ℕ) (a : ℤ) → Owns ws own → x < VARIABLES → IsChanged ws x a → new
     ≡ record own { owed = without_owed x own.owed } →

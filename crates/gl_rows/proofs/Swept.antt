@@ -79,7 +79,7 @@ holds_far t x to hold steps row holds (inr (before, below, same, is, some)) =
           in omega arith),
     )
 
--- loading a hold takes at most eight steps
+-- loading and raising a hold takes at most eight steps
 few_steps : (x to hold steps : ℕ) (holds : List Read) → LoadedHolds x to hold holds steps → steps ≤ 8
 few_steps x to hold steps holds (inl (le, is, some)) = omega arith
 few_steps x to hold steps holds (inr (before, below, same, is, some)) = omega arith

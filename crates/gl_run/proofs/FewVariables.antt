@@ -293,7 +293,7 @@ no_read_made p x (Abort tx why) running = refl
 no_read_made p x (Trim low) running = refl
 no_read_made p x (Ended ending) running = refl
 
--- within an attempt a write has no entry, and so none gives a reply
+-- within an attempt no entry answers a write
 no_write_made : (p : Progress) (x : ℕ) (a : ℤ) (e : Entry) → is_none p.config.attempt ≡ false → reply_in p (Write x a) e ≡ None
 no_write_made p x a (Sync at act value) running = no_write x a act value
 no_write_made p x a (Plain var nth cached write value raised) running = rw running refl
