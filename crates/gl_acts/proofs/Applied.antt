@@ -45,6 +45,7 @@ pub owned_as : (m : Option (ℕ × ℕ)) (t depth : ℕ) → monitor_state m ≡
 owned_as None t depth e = absurd (cc)
 owned_as (Some o) t depth e = let a : o.0 ≡ t = cc in let b : o.1 ≡ depth = cc in ap Some (λ i. (a i, b i))
 
+-- a stage that means never forked is the stage of a thread that was not
 never : (s : Stage) → thread_state s ≡ NeverForked → s ≡ stage.Never
 never stage.Never e = refl
 never (stage.Forked f v) e = absurd (cc)
@@ -159,6 +160,7 @@ pub class_in : (P : Bytecode) (inputs : List ℤ) (c : ℕ) (o : Option (ℕ × 
     → slice_get (setting_of P inputs).classes c ≡ Some fields
 class_in P inputs c o fields same is = slice_get-map (λ (F : Fields). (F.plain, F.volatile)) P.classes c ∙ sym same ∙ is
 
+-- a number from a to below a + n that passes the test is among the range's that do
 in_range : (p : ℕ → Bool) (a n f : ℕ) → a ≤ f → f < a + n → p f ≡ true → Contains (filter p (range_with_len a n)) f
 in_range p a zero f low high is = absurd (omega arith)
 in_range p a (suc n) f low high is = elim (ℕ_discrete a f) [
@@ -170,6 +172,7 @@ in_range p a (suc n) f low high is = elim (ℕ_discrete a f) [
   by_test true there = (suc there.0, (let less = there.1 in omega arith), there.2)
   by_test false there = there
 
+-- a function of one argument that a program has stands below its number of functions
 function_below : (P : Bytecode) (f : ℕ) (o : Option Function) → function_at P f ≡ o → (args_of o == 1) ≡ true → f < length P.functions
 function_below P f None there one = absurd (cc)
 function_below P f (Some F) there one = elim ((slice_get_cases P.functions f).1)
@@ -190,6 +193,7 @@ forkable P f n is = by (args_of (function_at P f) == 1) refl (ap (λ k. k == 1) 
         (forkable_of P) f (filter_passes (λ g. args_of (function_at P g) == 1) (range_with_len 0 (length P.functions))) in' in absurd
         (cc))
 
+-- the depth to which a monitor is owned, zero where nobody owns it
 abbrev depth_in : Option (ℕ × ℕ) → ℕ
 depth_in None = 0
 depth_in (Some m) = m.1

@@ -80,6 +80,7 @@ at_before [] i e there = absurd (cc)
 at_before (x ∷ es) zero e there = (x, refl)
 at_before (x ∷ es) (suc i) e there = at_before es i e there
 
+-- an entry that ends the list is not a trim
 over_no_trim : (e : Entry) → IsOver e → IsTrim e → ⊥
 over_no_trim (Over ending) over trim = trim
 over_no_trim (Trim low) over trim = over
@@ -88,6 +89,7 @@ over_no_trim (Commit at tx) over trim = trim
 over_no_trim (Plain var nth cached write value raised) over trim = trim
 over_no_trim (Abort tx why) over trim = trim
 
+-- an entry that ends the list is not a begin
 over_no_begin : (e : Entry) → IsOver e → IsBegin e → ⊥
 over_no_begin (Over ending) over begins = begins
 over_no_begin (Trim low) over begins = over
@@ -96,6 +98,7 @@ over_no_begin (Commit at tx) over begins = over
 over_no_begin (Plain var nth cached write value raised) over begins = over
 over_no_begin (Abort tx why) over begins = over
 
+-- the entry of an end is an act with a position and a value
 end_entry : (e : Entry) → IsEnd e → (p : ℕ) × ((value : ℤ) × (e ≡ Sync p End value))
 end_entry (Sync at End value) is = (at, (value, refl))
 end_entry (Sync at (Begin f) value) is = absurd is

@@ -19,6 +19,7 @@ use Rattle.gl_acts.proofs.Ending.{all_ended, AreAllBelow, none_live}
 pub at_below : {A : Type 0} (xs : List A) (p : ℕ) (x : A) → slice_get xs p ≡ Some x → p < length xs
 at_below xs p x there = elim ((slice_get_cases xs p).1) [ inl in' ↦ in'.1 | inr out ↦ absurd (let none = out.1 in cc) ]
 
+-- below the length of a list there is an element
 pub some_below : {A : Type 0} (xs : List A) (p : ℕ) → p < length xs → (x : A) × (slice_get xs p ≡ Some x)
 some_below xs p less = elim ((slice_get_cases xs p).1) [ inl in' ↦ (in'.0, in'.2) | inr out ↦ absurd (let le = out.0 in omega arith) ]
 
@@ -44,6 +45,7 @@ lists_agree R h k a b = same_length (length h) (length k) (up h k a b) (up k h b
     up : (x y : List Stamp) → IsEventList x R → IsEventList y R → (p : ℕ) → p < length x → p < length y
     up x y a b p less = let e = list_events R x a p less in list_below R y b e.0 p e.1.0 e.1.1
 
+-- places of the same thread and the same index are the same
 place_same : (c d : Place) → c.thread ≡ d.thread → c.index ≡ d.index → c ≡ d
 place_same c d thread index = λ i. record { thread = thread i; index = index i }
 

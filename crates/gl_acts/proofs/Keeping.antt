@@ -39,6 +39,7 @@ some_list ls kept t es is none =
     let short : length es ≡ 0 = ap length empty in
     absurd (omega arith)
 
+-- a thread without a list in a record has the empty one
 pub no_list : (ls : List (ℕ × List Entry)) (t : ℕ) → list_of ls t ≡ None → lists_of ls t ≡ []
 no_list ls t is = ap (λ o. unwrap_or o []) is
 

@@ -56,6 +56,7 @@ settled setting R n events a b (suc p) le =
 pub same_entry : (es : List Entry) (i : ℕ) (e f : Entry) → At es i e → At es i f → e ≡ f
 same_entry es i e f a b = let z : Some e ≡ Some f = sym a ∙ b in cc
 
+-- equal entries have the same event
 same_event : (e f : Entry) (x y : Event) → e ≡ f → event_of e ≡ Some x → event_of f ≡ Some y → x ≡ y
 same_event e f x y same a b = let z : Some x ≡ Some y = sym a ∙ ap event_of same ∙ b in cc
 

@@ -10,13 +10,16 @@ use Rattle.gl_model.specs.declared.event.Stamp.{Stamp}
 use Rattle.gl_model.specs.Machine.{Setting, State, ThreadState, NeverForked, Forked, Running, Ended, MonitorState, Free, Owned, Entered, MayStep, ActEffect, Effect, Step, with_at, left_once}
 use Rattle.gl_draws.proofs.DrawTies.{with_here, with_else}
 
+-- a monitor that a thread enters becomes one and the same
 one_entered : (t : ℕ) (old m n : MonitorState) → Entered t old m → Entered t old n → m ≡ n
 one_entered t Free m n x y = x ∙ sym y
 one_entered t (Owned owner depth) m n x y = x.1 ∙ sym y.1
 
+-- a monitor that is owned to one more than two depths is owned to one depth
 one_depth : (s : MonitorState) (t d e : ℕ) → s ≡ Owned t (d + 1) → s ≡ Owned t (e + 1) → d ≡ e
 one_depth s t d e x y = let z : d + 1 ≡ e + 1 = cc in omega arith
 
+-- an act from one state, with one value, gives one state
 same_act : (setting : Setting) (old a b : State) (t : ℕ) (act : Act) (value : ℤ) → ActEffect setting old t act value a
     → ActEffect setting old t act value b → a ≡ b
 same_act setting old a b t (Begin f) value x y = x ∙ sym y
@@ -45,6 +48,7 @@ same_act setting old a b t Print value x y = x ∙ sym y
 same_act setting old a b t Input value x y = x.1 ∙ sym y.1
 same_act setting old a b t (Fail k) value x y = x.1 ∙ sym y.1
 
+-- an event from one state, with one value, gives one state
 same_effect : (setting : Setting) (old a b : State) (t : ℕ) (event : Event) (value : ℤ) → Effect setting old t event value a
     → Effect setting old t event value b → a ≡ b
 same_effect setting old a b t (Does act) value x y = same_act setting old a b t act value x y
@@ -55,6 +59,7 @@ pub one_next : (setting : Setting) (old a b : State) (s : Stamp) (value : ℤ) �
     → a ≡ b
 one_next setting old a b s value x y = same_effect setting old a b s.thread s.event value x.effect y.effect
 
+-- equal states have equal threads
 threads_of : (a b : State) → a ≡ b → (t : ℕ) → a.threads t ≡ b.threads t
 threads_of a b e t = ap (λ (s : State). s.threads t) e
 
@@ -65,9 +70,11 @@ pub data Becomes (old new : State) (s : Stamp) (t : ℕ) : Type 0 where
   steps : t ≡ s.thread → old.threads t ≢ NeverForked → old.threads t ≢ Ended → Becomes old new s t
   is_forked : (f : ℕ) → s.event ≡ Does (Fork t f) → old.threads t ≡ NeverForked → Becomes old new s t
 
+-- a running thread is neither never forked nor ended
 runs_on : (x : ThreadState) → x ≡ Running → (x ≢ NeverForked) × (x ≢ Ended)
 runs_on x e = ((λ n. absurd (cc)), (λ n. absurd (cc)))
 
+-- a thread that was forked and has not begun is neither never forked nor ended
 was_forked : (x : ThreadState) (f : ℕ) (value : ℤ) → x ≡ Forked f value → (x ≢ NeverForked) × (x ≢ Ended)
 was_forked x f value e = ((λ n. absurd (cc)), (λ n. absurd (cc)))
 
@@ -128,6 +135,7 @@ ends setting old new t value step = ap (λ (z : State). z.threads t) step.effect
 abbrev pub AreWithin : ℕ → State → Type 0
 AreWithin most s = (o t d : ℕ) → s.monitors o ≡ Owned t d → d ≤ most
 
+-- two ways of being owned that are equal have one depth
 owned_depth : (t u d e : ℕ) → Owned t d ≡ Owned u e → d ≡ e
 owned_depth t u d e p = cc
 

@@ -22,9 +22,11 @@ pub record IsFar (setting : Setting) (R : Lists) (k : ℕ) (l : ListView) : Type
   pub run : StepsUpTo setting R k
   pub is : IsStateOf l (run.at k)
 
+-- at one place of the walk stands one place of the record
 place_one : (cs : List Place) (k : ℕ) (c d : Place) → slice_get cs k ≡ Some c → slice_get cs k ≡ Some d → d ≡ c
 place_one cs k c d a b = let z : Some d ≡ Some c = sym b ∙ a in cc
 
+-- a fork with a position has that position as its own
 fork_at : (e : Entry) (at p u f : ℕ) (value : ℤ) → e ≡ Sync at (Fork u f) value → position_of e ≡ Some p → e ≡ Sync p (Fork u f) value
 fork_at e at p u f value is position =
     let told : Some at ≡ Some p = sym (ap position_of is) ∙ position in

@@ -14,6 +14,7 @@ use Rattle.gl_follow.specs.Beginnings.{ProgramFailsAt}
 use Rattle.gl_audit.specs.Clauses.{OfForm, OfList, OfNumbers, OfMachine, OfRaces, OfWords, OfProgram}
 use Rattle.gl_audit.specs.Findings.{ClausesAreApart, FirstPlacesAreOne}
 
+-- where the clauses before it hold, no clause both holds and fails
 pub apart : FormedExactly → ListedExactly → NumberedExactly → RunsDoNotFail → LegalWhereWordsHold → FirstWordIsOne → ClausesAreApart
 apart formed listed numbered runs legal words P inputs steps made OfForm c kept below says fails = (formed (lists_of made)).0 says c fails.0
 apart formed listed numbered runs legal words P inputs steps made OfList c kept below says fails = (listed made kept).0 says c fails.0
@@ -30,6 +31,7 @@ apart formed listed numbered runs legal words P inputs steps made OfWords c kept
 apart formed listed numbered runs legal words P inputs steps made OfProgram c kept below says fails =
     (let f = fails.0 in f.1.not_whole (says c.thread f.0))
 
+-- where the clauses before it hold, no clause fails first at two places
 pub once : OneActFailsFirst → FirstWordIsOne → FirstPlacesAreOne
 once acts words P inputs steps made OfForm c d kept below one other = first_once (FormFailsAt (lists_of made)) c d one other
 once acts words P inputs steps made OfList c d kept below one other = first_once (PositionFailsAt made) c d one other

@@ -22,6 +22,7 @@ use Rattle.gl_bytecode.specs.Validity.{IsValid}
 use Rattle.gl_acts.specs.Acting.{RunsMachine}
 use Rattle.gl_follow.specs.Beginnings.{BeginsAreRight}
 
+-- a function is main or may be forked in a setting
 abbrev MayStart : Setting → ℕ → Type 0
 MayStart setting f = (f ≡ setting.main) ⊎ Contains setting.forkable f
 
@@ -29,12 +30,15 @@ MayStart setting f = (f ≡ setting.main) ⊎ Contains setting.forkable f
 abbrev ForkedRight : Setting → State → Type 0
 ForkedRight setting s = (t f : ℕ) (v : ℤ) → s.threads t ≡ Forked f v → MayStart setting f
 
+-- two forks that are the same are of the same function
 forked_same : (f g : ℕ) (v w : ℤ) → Forked f v ≡ Forked g w → f ≡ g
 forked_same f g v w e = cc
 
+-- what was set for a thread is what it has
 at_here : (threads : ℕ → ThreadState) (u : ℕ) (x : ThreadState) → with_at threads u x u ≡ x
 at_here threads u x = (let here : (u == u) ≡ true = eq-eqb u u refl in rw here refl)
 
+-- setting one thread leaves another as it was
 at_other : (threads : ℕ → ThreadState) (u t : ℕ) (x : ThreadState) → t ≢ u → with_at threads u x t ≡ threads t
 at_other threads u t x other = rw (other_false t u other) refl
 
@@ -48,6 +52,7 @@ one_changed setting s u x right here t f v is = elim (ℕ_discrete t u) [
   | no other ↦ right t f v (sym (at_other s.threads u t x other) ∙ is)
 ]
 
+-- after an event forked threads have functions that may be forked, if they had before
 effect_right :
     (setting : Setting) (s new : State) (t : ℕ) (event : Event) (value : ℤ) → ForkedRight setting s → Effect setting s t event value new →
     ForkedRight setting new
@@ -69,6 +74,7 @@ effect_right setting s new t (Does Print) value right e = subst (ForkedRight set
 effect_right setting s new t (Does Input) value right e = subst (ForkedRight setting) (sym e.1) right
 effect_right setting s new t (Does (Fail code)) value right e = subst (ForkedRight setting) (sym e.1) right
 
+-- at the start forked threads have functions that may be forked
 start_right : (setting : Setting) → ForkedRight setting (start setting)
 start_right setting t f v is = elim (ℕ_discrete t 0) [
   | yes same ↦
@@ -106,11 +112,13 @@ module _ (setting : Setting) (R : Lists) (h : List Stamp) (is_list : IsEventList
       let step = machine.steps place at s e in
       always_right at (omega arith) t f value step.may
 
+-- a function of one argument is there and has fewer than two
 has_one : (P : Bytecode) (f : ℕ) (o : Option Function) → function_at P f ≡ o → (args_of o == 1) ≡ true → (F : Function)
     × (function_at P f ≡ Some F) × (F.args < 2)
 has_one P f None there one = cc
 has_one P f (Some F) there one = (F, there, (let is : F.args ≡ 1 = grind (arith, nat_tests) in omega arith))
 
+-- in a run of a valid program each thread begins in main or in a function that it may be forked with
 pub begins_are_right : (P : Bytecode) (inputs : List ℤ) (R : Lists) → IsValid P → RunsMachine (setting_of P inputs) R → BeginsAreRight P R
 begins_are_right P inputs R valid runs t i at f value there =
     by_start (begins_rightly (setting_of P inputs) R runs.0 runs.1 runs.2 t i at f value there) where

@@ -12,9 +12,11 @@ use Rattle.gl_audit.specs.Clauses.{Clause, FailsFirst, Says, number_of}
 use Rattle.gl_audit.specs.Findings.{HoldBelow, IsFinding}
 use Rattle.gl_audit.proofs.Seven.{by_seven, same_clause}
 
+-- the place of a thread's entry, from thread and index
 abbrev at_place : ℕ → ℕ → Place
 at_place t i = record { thread = t; index = i }
 
+-- findings that fail at the same place with the same number are the same
 same_not : (t u i j n m : ℕ) → at_place t i ≡ at_place u j → n ≡ m → Not t i n ≡ Not u j m
 same_not t u i j n m is same =
     let thread : t ≡ u = ap (λ (c : Place). c.thread) is in

@@ -38,6 +38,7 @@ module _ (P : Bytecode) (inputs : List ℤ) (steps : ℕ) (R : Lists) where
 
 -- ## The number of a clause tells it
 
+-- the clause of a number, if there is one
 clause_of : ℕ → Option Clause
 clause_of n =
     if n == 1 then Some OfForm
@@ -49,6 +50,7 @@ clause_of n =
     else if n == 7 then Some OfProgram
     else None
 
+-- the clause of a clause's number is that clause
 told : (k : Clause) → clause_of (number_of k) ≡ Some k
 unfolding clause_of
 told OfForm = refl
@@ -59,10 +61,12 @@ told OfRaces = refl
 told OfWords = refl
 told OfProgram = refl
 
+-- a clause, or that of the form where there is none
 or_form : Option Clause → Clause
 or_form None = OfForm
 or_form (Some k) = k
 
+-- clauses of the same number are the same
 pub same_clause : (j k : Clause) → number_of j ≡ number_of k → j ≡ k
 unfolding or_form
 same_clause j k same = ap or_form (sym (told j) ∙ ap clause_of same ∙ told k)

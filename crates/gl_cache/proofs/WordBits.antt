@@ -8,6 +8,7 @@ use Rattle.std.proofs.lemmas.List.{get_or-set_same, get_or-set_other, get_or-rep
 use Rattle.std.proofs.lemmas.Nat.Bits.{bit_at-zero, bit_at_set_same, bit_at_set_other, bit_at_clear_same, bit_at_clear_other}
 use Rattle.gl_cache.specs.Bits.{HasBit}
 
+-- two numbers are the same or not
 pub same_or_other : (j k : ℕ) → (j ≡ k) ⊎ (j ≢ k)
 same_or_other j k = go (j == k) refl
   where
@@ -15,6 +16,7 @@ same_or_other j k = go (j == k) refl
     go true e = inl (eqb-true j k e)
     go false e = inr (λ same. let t = eq-eqb j k same in cc)
 
+-- a word that is zero has no bit set
 zero_word : (w i : ℕ) → w ≡ 0 → bit_at w i ≡ 1 → ⊥
 zero_word w i e is =
     let z : bit_at w i ≡ 0 = ap (λ v. bit_at v i) e ∙ bit_at-zero i in
@@ -85,6 +87,7 @@ module _ (words : List ℕ) (k : ℕ) (n : k / 64 < length words) where
 
 -- ## The least
 
+-- if no bit below 64 k is set and the word at k is zero, none below 64 (k + 1) is
 pub none_more : (words : List ℕ) (k : ℕ) → get_or words k 0 ≡ 0 → ((y : ℕ) → y < 64 * k → HasBit words y → ⊥) → (y : ℕ) → y < 64 * (k + 1)
     → HasBit words y → ⊥
 unfolding HasBit
@@ -97,6 +100,7 @@ pub record IsLeast (words : List ℕ) (x : ℕ) : Type 0 where
   pub there : HasBit words x
   pub least : (y : ℕ) → HasBit words y → x ≤ y
 
+-- if no bit below 64 k is set, the least bit of the word at k is the least of all
 pub least_there :
     (words : List ℕ) (k z : ℕ) → z < 64 → bit_at (get_or words k 0) z ≡ 1 → ((i : ℕ) → i < z → bit_at (get_or words k 0) i ≡ 0) →
     ((y : ℕ) → y < 64 * k → HasBit words y → ⊥) → IsLeast words (64 * k + z)

@@ -41,6 +41,7 @@ run_from setting f (s ∷ ys) n m is steps =
     let k = steps 0 n s refl (omega arith) in
     (k.0, f (n + 1), k.1, run_from setting f ys (n + 1) m (omega arith) (λ p q t e w. steps (suc p) q t e (omega arith)))
 
+-- the history that a record's entries make is allowed, if the machine runs it
 allowed_of : (setting : Setting) (R : Lists) (h : List Stamp) → IsEventList h R → (run : IsMachineRun setting R h)
     → Allows setting h (run.at (length h))
 allowed_of setting R h is run = subst (λ o. Run setting o h (run.at (length h))) run.first
@@ -63,13 +64,16 @@ racy_of R c (Commit at tx) x right e = absurd (cc)
 racy_of R c (Trim low) x right e = absurd (cc)
 racy_of R c (Over ending) x right e = absurd (cc)
 
+-- the entries that are laid out are of threads that there are
 pub of_threads : (R : Lists) (stands : List Stand) → AreStands R (record { thread = THREADS; index = 0 }) stands → AreOfThreads stands
 of_threads R stands are i s e =
     elim (are.each i s e).1 [ inl lt ↦ lt | inr w ↦ absurd (let z = w.1 in omega arith) ]
 
+-- what is in a list stands at some place of it
 pub in_list : {A : Type 0} (xs : List A) (x : A) → Contains xs x → (i : ℕ) × (slice_get xs i ≡ Some x)
 in_list xs x w = (w.0, slice_get-get_or xs w.0 x w.1 ∙ ap Some w.2)
 
+-- what stands at a place of a list is in it
 pub of_list : {A : Type 0} (xs : List A) (i : ℕ) (x : A) → slice_get xs i ≡ Some x → Contains xs x
 of_list xs i x e = (i, slice_get_within xs i x e, get_or_from_slice_get xs i x x e)
 
@@ -78,6 +82,7 @@ some_means : (o : Option ℕ) → is_some o ≡ true → (k : ℕ) × (o ≡ Som
 some_means None e = absurd (cc)
 some_means (Some k) e = (k, refl)
 
+-- an entry among the races of a refused one stands among the entries and has a race number
 filtered_means : (a : Asked) (xs : List Stand) (j : ℕ) (s : Stand) → slice_get (races_among a xs) j ≡ Some s → (i : ℕ)
     × ((slice_get xs i ≡ Some s) × ((k : ℕ) × (race_number a s ≡ Some k)))
 filtered_means a [] j s e = absurd (cc)
@@ -93,6 +98,7 @@ filtered_means a (x ∷ xs) j s e = by (is_some (race_number a x)) refl j e (λ 
     by true is (suc j) e' rec = let w = rec j e' in (suc w.0, w.1)
     by false is j e' rec = let w = rec j e' in (suc w.0, w.1)
 
+-- an entry that stands among the entries and has a race number is among the races of the refused one
 filtered_there : (a : Asked) (xs : List Stand) (i : ℕ) (s : Stand) (k : ℕ) → slice_get xs i ≡ Some s → race_number a s ≡ Some k → (j : ℕ)
     × (slice_get (races_among a xs) j ≡ Some s)
 filtered_there a [] i s k e some = absurd (cc)
@@ -111,6 +117,7 @@ filtered_there a (x ∷ xs) (suc i) s k e some = by (is_some (race_number a x)) 
 abbrev pub AreRising : List Stand → Type 0
 AreRising xs = (i j : ℕ) (r s : Stand) → slice_get xs i ≡ Some r → slice_get xs j ≡ Some s → i < j → Before r.place s.place
 
+-- the races of a refused one rise, if the entries do
 filtered_rise : (a : Asked) (xs : List Stand) → AreRising xs → AreRising (races_among a xs)
 filtered_rise a [] rise = λ i j r s e f lt. absurd (cc)
 filtered_rise a (x ∷ xs) rise = by (is_some (race_number a x))
@@ -133,6 +140,7 @@ at_mapped [] j c e = absurd (cc)
 at_mapped (x ∷ xs) zero c e = (x, (refl, let z : x.place ≡ c = cc in z))
 at_mapped (x ∷ xs) (suc j) c e = at_mapped xs j c e
 
+-- a record that is well-formed and numbered, with the clocks of its blocks, is laid out
 pub laid_of :
     (R : Lists) (rows : List (List ℕ)) (stands : List Stand) → Form R → Numbered R → (run : AreSteps R) → length rows < 2 ^ 64
     → ((h : List Stamp) → IsEventList h R → AreBlockClocks h rows)

@@ -20,12 +20,15 @@ use Rattle.gl_causes.specs.declared.refusals.Refusal.{Refusal}
 use Rattle.gl_causes.specs.Judging.{attempt_where, is_plain, number_on, own_number, refusal_of, writes_one, writes_to}
 use Rattle.gl_causes.specs.Learning.{commits_before, is_lower, is_lower_than, refused_numbers}
 
+-- a number made of a variable and its place
 abbrev pub named : ℕ → ℕ → Number
 named x k = record { var = x; nth = k }
 
+-- the first is in its list
 pub contains_first : {A : Type 0} (x : A) (xs : List A) → Contains (x ∷ xs) x
 contains_first x xs = Contains-append_left (x ∷ []) xs x (zero, omega arith, refl)
 
+-- what is in a one-element list is its element
 one_contains : {A : Type 0} (x y : A) → Contains (x ∷ []) y → x ≡ y
 one_contains x y (zero, l, e) = e
 one_contains x y (suc i, l, e) = absurd (omega arith)
@@ -81,6 +84,7 @@ writes_means (w ∷ ws) x = by (w.var == x) refl (writes_means ws x)
       ],
     )
 
+-- a plain entry that tests as having a number of x is an uncached one of x under that number that did not raise
 plain_own : (x var nth k : ℕ) (cached raised : Bool) → (if var == x && (not cached && not raised) then Some nth else None) ≡ Some k
     → (cached ≡ false) × (var ≡ x) × (nth ≡ k) × (raised ≡ false)
 plain_own x var nth k cached raised e = by (var == x) refl cached raised e
@@ -100,6 +104,7 @@ pub record IsDone (e : Entry) (x k : ℕ) : Type 0 where
   pub is_access : IsAccess e
   pub kind : IsPlain e ⊎ IsCommit e
 
+-- an entry that tests as having a number of x is done there
 pub own_means : (e : Entry) (x k : ℕ) → own_number x e ≡ Some k → IsDone e x k
 own_means (Commit at tx) x k e =
     let n = number_means tx.numbers x k e in record { drawn = n; performed = tt; number = n; is_access = tt; kind = inr tt }
@@ -111,6 +116,7 @@ own_means (Abort tx why) x k e = absurd (cc)
 own_means (Trim low) x k e = absurd (cc)
 own_means (Over ending) x k e = absurd (cc)
 
+-- a kept and performed entry that draws a number of x tests as having it
 pub own_there : (e : Entry) (x k : ℕ) → IsEntryKept e → NumberDraws e x k → IsPerformed e → own_number x e ≡ Some k
 own_there (Commit at tx) x k kept d p = number_there tx.numbers kept.2.1 x k d
 own_there (Plain var nth cached write value raised) x k kept d p =
@@ -129,6 +135,7 @@ writes_told (Abort tx why) x k p n = absurd p
 writes_told (Trim low) x k p n = absurd n
 writes_told (Over ending) x k p n = absurd n
 
+-- an entry tests as plain exactly where it is
 pub plain_told' : (e : Entry) → (is_plain e ≡ true) ↔ IsPlain e
 plain_told' (Plain var nth cached write value raised) = (λ e. tt, λ p. refl)
 plain_told' (Commit at tx) = (λ e. absurd (cc), λ p. absurd p)
@@ -146,6 +153,7 @@ pub record IsRefused (f : Entry) (r : Refusal) : Type 0 where
   pub plain : (r.plain ≡ true) ↔ IsPlain f
   pub kind : IsPlain f ⊎ IsRefusedCommit f
 
+-- a dropped attempt that names its race is refused there
 attempt_means : (tx : Tx) (x : ℕ) (o : Option ℕ) → number_on tx.numbers x ≡ o → (r : Refusal) → attempt_where tx x o ≡ Some r
     → IsRefused (Abort tx (Raised x)) r
 attempt_means tx x None eq r e = absurd (cc)
@@ -160,6 +168,7 @@ attempt_means tx x (Some k) eq r e =
       kind = inr tt;
     })
 
+-- an entry that names a refusal is refused there
 pub refusal_means : (f : Entry) (r : Refusal) → refusal_of f ≡ Some r → IsRefused f r
 refusal_means (Plain var nth cached write value true) r e =
     let is : record { var = var; nth = nth; plain = true; write = write } ≡ r = cc in
@@ -179,6 +188,7 @@ refusal_means (Commit at tx) r e = absurd (cc)
 refusal_means (Trim low) r e = absurd (cc)
 refusal_means (Over ending) r e = absurd (cc)
 
+-- an attempt with a number on x names a refusal of x
 attempt_there : (tx : Tx) (x : ℕ) (o : Option ℕ) (k : ℕ) → o ≡ Some k → (r : Refusal) × (attempt_where tx x o ≡ Some r) × (r.var ≡ x)
 attempt_there tx x None k e = absurd (cc)
 attempt_there tx x (Some j) k e = (record { var = x; nth = j; plain = false; write = writes_one tx.writes x }, refl, refl)
@@ -219,10 +229,12 @@ pub record IsLower (earlier later : List Number) : Type 0 where
   pub second : Contains later (named var above)
   pub less : number < above
 
+-- a number that is below an option's is below a number that is there
 lower_than : (k : ℕ) (o : Option ℕ) → is_lower_than k o ≡ true → (m : ℕ) × (o ≡ Some m) × (m < k)
 lower_than k None e = absurd (cc)
 lower_than k (Some m) e = (m, refl, ltb-true m k e)
 
+-- numbers that test as lower are lower
 pub lower_means : (ns ms : List Number) → is_lower ns ms ≡ true → IsLower ns ms
 lower_means ns [] e = absurd (cc)
 lower_means ns (m ∷ ms) e = elim (or_cases (is_lower_than m.nth (number_on ns m.var)) (is_lower ns ms) e) [
@@ -244,6 +256,7 @@ lower_means ns (m ∷ ms) e = elim (or_cases (is_lower_than m.nth (number_on ns 
   })
 ]
 
+-- rising numbers that are lower test as lower
 pub lower_there : (ns ms : List Number) → Rises (map (λ n. n.var) ns) → IsLower ns ms → is_lower ns ms ≡ true
 lower_there ns ms rises l = among ms l.second
   where
@@ -269,6 +282,7 @@ pub record IsCommitBefore (g f : Entry) : Type 0 where
   pub second : NumberOn f var above
   pub less : number < above
 
+-- the refused numbers of a refused commit are the numbers that it has
 refused_number : (f : Entry) (x k : ℕ) → IsRefusedCommit f → Contains (refused_numbers f) (named x k) ↔ NumberOn f x k
 refused_number (Abort tx (Raised var)) x k i = (λ c. c, λ n. n)
 refused_number (Abort tx (Changed var read found)) x k i = absurd i
@@ -278,6 +292,7 @@ refused_number (Plain var nth cached write value raised) x k i = absurd i
 refused_number (Trim low) x k i = absurd i
 refused_number (Over ending) x k i = absurd i
 
+-- an entry that tests as a commit before a refused one is one
 pub before_means : (g f : Entry) → IsRefusedCommit f → commits_before (refused_numbers f) g ≡ true → IsCommitBefore g f
 before_means (Commit at tx) f i e = let l = lower_means tx.numbers (refused_numbers f) e in record {
   commit = tt;
@@ -294,6 +309,7 @@ before_means (Abort tx why) f i e = absurd (cc)
 before_means (Trim low) f i e = absurd (cc)
 before_means (Over ending) f i e = absurd (cc)
 
+-- a kept entry that is a commit before a refused one tests as one
 pub before_there : (g f : Entry) → IsEntryKept g → IsRefusedCommit f → IsCommitBefore g f → commits_before (refused_numbers f) g ≡ true
 before_there (Commit at tx) f kept i b = lower_there tx.numbers (refused_numbers f) kept.2.1
     (record {

@@ -21,6 +21,7 @@ listed made u es is = ap (λ o. unwrap_or o []) is
 
 -- ## Ways
 
+-- a commit that touches something hands on by committing
 way_of_commit : (at : ℕ) (tx : Tx) → touches tx ≡ true → entry_way (Commit at tx) ≡ Some Commits
 way_of_commit at tx some = ap (λ b. if b then Some Commits else None) some
 
@@ -32,6 +33,7 @@ way_back e (Forks u) (at, (f, (value, same))) = ap entry_way same
 way_back e Commits (at, (tx, (same, some))) = ap entry_way same ∙ way_of_commit at tx some
 way_back e Ends (at, (value, same)) = ap entry_way same
 
+-- a commit that tests as handing on hands on so
 of_commit : (at : ℕ) (tx : Tx) (b : Bool) (way : Way) → touches tx ≡ b → (if b then Some Commits else None) ≡ Some way
     → HandsOn (Commit at tx) way
 of_commit at tx true way some told = (let one : Commits ≡ way = cc in subst (HandsOn (Commit at tx)) one (at, (tx, (refl, some))))
@@ -82,6 +84,7 @@ none_more R c n e none there test i d way behind before at hands = elim (cases_l
       ∙ passes_not c n e (nat_lt c.index n) refl (subst (λ j. c.index < j) same behind) test in cc)
 ]
 
+-- an entry below n that tests as handing on does so
 pub hands_on : (c : Place) (n : ℕ) (e : Entry) (way : Way) → (if nat_lt c.index n then entry_way e else None) ≡ Some way
     → (c.index < n) × HandsOn e way
 hands_on c n e way told = by_test (nat_lt c.index n) refl told where

@@ -24,13 +24,16 @@ all_push : (P : ℕ → Type 0) (xs : List ℕ) (x : ℕ) → AllByRecursion P x
 all_push P [] x all p = (p, tt)
 all_push P (y ∷ xs) x all p = (all.0, all_push P xs x all.1 p)
 
+-- nothing is in an empty list
 in_none : (y : ℕ) → Contains [] y → ⊥
 in_none y (k, near, at) = absurd (omega arith)
 
+-- what is in a one-element list is its element
 in_one : (x y : ℕ) → Contains (x ∷ []) y → y ≡ x
 in_one x y (zero, near, at) = sym at
 in_one x y (suc k, near, at) = absurd (omega arith)
 
+-- what is in a list with one put last was in it, or is that one
 in_push : (xs : List ℕ) (x y : ℕ) → Contains (xs ++ x ∷ []) y ↔ (Contains xs y ⊎ (y ≡ x))
 in_push xs x y = (
   λ c. elim (Contains-append_cases xs (x ∷ []) y c) [ inl a ↦ inl a | inr b ↦ inr (in_one x y b) ],
@@ -40,6 +43,7 @@ in_push xs x y = (
   ],
 )
 
+-- a rising list with a greater one put last rises
 rises_push : (xs : List ℕ) (x : ℕ) → ((y : ℕ) → Contains xs y → y < x) → Rises xs → Rises (xs ++ x ∷ [])
 rises_push [] x below rises = (tt, tt)
 rises_push (y ∷ xs) x below rises = (
@@ -103,6 +107,7 @@ act_near m Print far near = refl
 act_near m Input far near = refl
 act_near m (Fail k) far near = refl
 
+-- a kept entry leaves a monitor that there is not free
 entry_near : (m : ℕ) (e : Entry) → MONITORS ≤ m → IsEntryKept e → depth_after m 0 e ≡ 0
 entry_near m (Sync at act value) far kept = act_near m act far kept
 entry_near m (Commit at tx) far kept = refl
@@ -111,6 +116,7 @@ entry_near m (Abort tx why) far kept = refl
 entry_near m (Trim low) far kept = refl
 entry_near m (Over ending) far kept = refl
 
+-- kept entries leave a monitor that there is not free
 left_alone : (m n : ℕ) (es : List Entry) → MONITORS ≤ m → AllByRecursion IsEntryKept es → depth m (take n es) ≡ 0
 left_alone m zero [] far kept = refl
 left_alone m (suc n) [] far kept = refl

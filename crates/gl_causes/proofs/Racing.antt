@@ -27,9 +27,11 @@ use Rattle.gl_raised.proofs.Blocks.{goes_on}
 use Rattle.gl_causes.proofs.EntryTests.{IsDone, IsRefused, one_number, own_means, own_there, plain_told', refusal_means, writes_told}
 use Rattle.gl_causes.proofs.Telling.{Laid, block_is, commit_access, commit_place, commit_tick, not_plain_commit, plain_access, plain_stands, plain_tick, stand_of, told_plain, told_refused}
 
+-- a test that two numbers are not the same tells that they are not
 other_means : (x y : ℕ) → not (x == y) ≡ true → x ≢ y
 other_means x y e same = let z : (x == y) ≡ true = eq-eqb x y same in cc
 
+-- two numbers that are not the same pass the test
 other_there : (x y : ℕ) → x ≢ y → not (x == y) ≡ true
 other_there x y other = by (x == y) refl
   where
@@ -37,9 +39,11 @@ other_there x y other = by (x == y) refl
     by true same = absurd (other (eqb-true x y same))
     by false e = refl
 
+-- a test that a number is no greater tells that it is not
 least_means : (x y : ℕ) → nat_le x y ≡ true → x ≤ y
 least_means x y e = grind (arith, nat_tests)
 
+-- a number that is no greater passes the test
 least_there : (x y : ℕ) → x ≤ y → nat_le x y ≡ true
 least_there x y l = grind (arith, nat_tests)
 
@@ -51,6 +55,7 @@ pub record IsRaceBy (a : Asked) (s : Stand) (k : ℕ) : Type 0 where
   pub plain : (is_plain s.entry ≡ true) ⊎ (a.refusal.plain ≡ true)
   pub unknown : at a.known s.place.thread ≤ tick_in s.block s.entry
 
+-- an entry that tests as a race under a number is one
 test_means : (a : Asked) (s : Stand) (k : ℕ) → is_race a s k ≡ true → IsRaceBy a s k
 test_means a s k e =
     let w1 = and_both (not (s.place.thread == a.thread)) _ e in
@@ -64,10 +69,12 @@ test_means a s k e =
       unknown = least_means (at a.known s.place.thread) (tick_in s.block s.entry) w4.1;
     }
 
+-- a disjunction is true where one of its parts is
 either_true : (a b : Bool) → (a ≡ true) ⊎ (b ≡ true) → (a || b) ≡ true
 either_true a b (inl e) = or_left a b e
 either_true a b (inr e) = or_right a b e
 
+-- an entry that is a race under a number tests as one
 test_there : (a : Asked) (s : Stand) (k : ℕ) → IsRaceBy a s k → is_race a s k ≡ true
 test_there a s k w =
     and_true (not (s.place.thread == a.thread)) _ (other_there s.place.thread a.thread w.another)
@@ -77,6 +84,7 @@ test_there a s k w =
     (and_true (is_plain s.entry || a.refusal.plain) _ (either_true (is_plain s.entry) a.refusal.plain w.plain)
     (least_there (at a.known s.place.thread) (tick_in s.block s.entry) w.unknown))))
 
+-- the number that a race has is the one that was looked up, and is one of a race
 where_means : (a : Asked) (s : Stand) (o : Option ℕ) (k : ℕ) → race_where a s o ≡ Some k → (o ≡ Some k) × (is_race a s k ≡ true)
 where_means a s None k e = absurd (cc)
 where_means a s (Some j) k e = by (is_race a s j) refl e

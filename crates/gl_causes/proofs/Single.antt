@@ -16,9 +16,11 @@ use Rattle.gl_causes.proofs.Answering.{in_list, of_list}
 abbrev pub Has : List Place → Place → Type 0
 Has xs c = (i : ℕ) × (slice_get xs i ≡ Some c)
 
+-- each place of the list is before those after it
 abbrev pub Rise : List Place → Type 0
 Rise xs = (i j : ℕ) (b c : Place) → slice_get xs i ≡ Some b → slice_get xs j ≡ Some c → i < j → Before b c
 
+-- of two places each is not before the other
 not_before : (c d : Place) → Before c d → Before d c → ⊥
 not_before c d (inl l) (inl m) = omega arith
 not_before c d (inl l) (inr m) = let z = m.0 in omega arith
@@ -30,9 +32,11 @@ has_cases : (x : Place) (xs : List Place) (c : Place) → Has (x ∷ xs) c → (
 has_cases x xs c (zero, e) = inl (let z : x ≡ c = cc in z)
 has_cases x xs c (suc i, e) = inr (i, e)
 
+-- the rest of rising places rises
 rest_rises : (x : Place) (xs : List Place) → Rise (x ∷ xs) → Rise xs
 rest_rises x xs rise i j b c e f lt = rise (suc i) (suc j) b c e f (omega arith)
 
+-- the first of rising places is before each of the others
 first_before : (x : Place) (xs : List Place) → Rise (x ∷ xs) → (c : Place) → Has xs c → Before x c
 first_before x xs rise c w = rise zero (suc w.0) x c refl w.1 (omega arith)
 
@@ -56,6 +60,7 @@ rest_in x y xs ys same rise all c w = elim (has_cases y ys c (all c (suc w.0, w.
       (let own : Before c c = subst (λ z. Before z c) (same ∙ first) (first_before x xs rise c w) in absurd (not_before c c own own))
 ]
 
+-- rising places that have the same elements are equally many
 same_length : (xs ys : List Place) → Rise xs → Rise ys → ((c : Place) → Has xs c → Has ys c) → ((c : Place) → Has ys c → Has xs c)
     → length xs ≡ length ys
 same_length [] [] rise rise' all back = refl
@@ -66,6 +71,7 @@ same_length (x ∷ xs) (y ∷ ys) rise rise' all back =
     ap suc (same_length xs ys (rest_rises x xs rise) (rest_rises y ys rise') (rest_in x y xs ys same rise all)
     (rest_in y x ys xs (sym same) rise' back))
 
+-- stored places that look the same are the same
 same_stored : (p q : StoredPlace) → seen p ≡ seen q → p ≡ q
 same_stored p q e =
     let thread : p.thread ≡ q.thread = ap (λ (c : Place). c.thread) e in
@@ -94,6 +100,7 @@ one_led R d u (Some k) (Some l) a b = ap Some (λ i. record { thread = thread i;
       | inr ge ↦ elim (cases_lt l.index k.index) [ inl lt ↦ absurd (not_behind l k b a lt) | inr le ↦ omega arith ]
     ]
 
+-- two causes of one entry are the same
 pub one_cause_law : OneCause
 one_cause_law R numbered e f a b at = (λ i. record { at = at i; var = var i; other = other i; others = others i; leading = leading i })
   where

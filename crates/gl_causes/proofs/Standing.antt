@@ -12,15 +12,18 @@ use Rattle.gl_model.specs.Records.{Lists, Place, position_of}
 use Rattle.gl_places.specs.Places.{Before}
 use Rattle.gl_causes.specs.Stands.{Stand, IsStand, AreStands, block_after, block_before}
 
+-- what stood at a place stands there with more put after
 pub kept_at : {A : Type 0} (xs more : List A) (k : ℕ) (x : A) → slice_get xs k ≡ Some x → slice_get (xs ++ more) k ≡ Some x
 kept_at [] more k x a = cc
 kept_at (y ∷ xs) more zero x a = a
 kept_at (y ∷ xs) more (suc k) x a = kept_at xs more k x a
 
+-- what is put last stands at the old length
 pub new_at : {A : Type 0} (xs : List A) (x : A) → slice_get (xs ++ x ∷ []) (length xs) ≡ Some x
 new_at [] x = refl
 new_at (y ∷ xs) x = new_at xs x
 
+-- what stands in a list with one put last stood there before, or is that one at the old length
 pub at_cases : {A : Type 0} (xs : List A) (x y : A) (k : ℕ) → slice_get (xs ++ x ∷ []) k ≡ Some y → (slice_get xs k ≡ Some y)
     ⊎ ((k ≡ length xs) × (y ≡ x))
 at_cases [] x y zero a = inr (refl, let s : x ≡ y = cc in sym s)
@@ -33,14 +36,17 @@ or_nested : (o p q : Option ℕ) → or_else (or_else o p) q ≡ or_else o (or_e
 or_nested (Some x) p q = refl
 or_nested None p q = refl
 
+-- something, or else nothing, is that something
 or_none : (o : Option ℕ) → or_else o None ≡ o
 or_none (Some x) = refl
 or_none None = refl
 
+-- the last position of a list with an entry more is that of the entry, or else of the list
 pub last_more : (es : List Entry) (e : Entry) → last_position (es ++ e ∷ []) ≡ or_else (position_of e) (last_position es)
 last_more [] e = sym (or_none (position_of e))
 last_more (x ∷ es) e = ap (λ o. or_else o (position_of x)) (last_more es e) ∙ or_nested (position_of e) (last_position es) (position_of x)
 
+-- the block after an entry is its position, or else the block before it
 after_means : (o : Option ℕ) (e : Entry) → unwrap_or (or_else (position_of e) o) 0 ≡ block_after (unwrap_or o 0) e
 after_means o (Sync at act value) = refl
 after_means o (Commit at tx) = refl
@@ -49,6 +55,7 @@ after_means o (Abort tx why) = refl
 after_means o (Trim low) = refl
 after_means o (Over ending) = refl
 
+-- the block before the next place is that after the entry there
 pub block_more : (es : List Entry) (i b : ℕ) (e : Entry) → slice_get es i ≡ Some e → b ≡ block_before es i → block_after b e
     ≡ block_before es (i + 1)
 block_more es i b e there is =
@@ -66,6 +73,7 @@ next_cases c t i (inr s) = elim (cases_lt c.index i) [
   | inr ge ↦ inr (same_place c (record { thread = t; index = i }) s.0 (let z : c.index ≡ i = (let w = s.1 in omega arith) in z))
 ]
 
+-- a place before one entry of a thread is before the next
 next_before : (c : Place) (t i : ℕ) → Before c (record { thread = t; index = i }) → Before c (record { thread = t; index = i + 1 })
 next_before c t i (inl lt) = inl lt
 next_before c t i (inr s) = inr (s.0, let w = s.1 in omega arith)

@@ -38,6 +38,7 @@ use Rattle.gl_raised.proofs.Blocks.{has_block, goes_on}
 use Rattle.gl_causes.proofs.EntryTests.{IsCommitBefore, before_means, before_there, none_before}
 use Rattle.gl_raised.proofs.Orders.{block_told, plain_told, refused_told, ByCommit, other_reaches, own_reaches}
 
+-- a plain entry is no commit
 pub not_plain_commit : (e : Entry) → IsPlain e → IsCommit e → ⊥
 not_plain_commit (Plain var nth cached write value raised) i r = r
 not_plain_commit (Commit at tx) i r = i
@@ -46,6 +47,7 @@ not_plain_commit (Abort tx why) i r = i
 not_plain_commit (Trim low) i r = i
 not_plain_commit (Over ending) i r = i
 
+-- a commit that was performed is not a refused one
 no_two : (e : Entry) → IsCommit e → IsRefusedCommit e → ⊥
 no_two (Commit at tx) i r = r
 no_two (Sync at act value) i r = i
@@ -54,6 +56,7 @@ no_two (Abort tx why) i r = i
 no_two (Trim low) i r = i
 no_two (Over ending) i r = i
 
+-- a plain entry is an access
 pub plain_access : (e : Entry) → IsPlain e → IsAccess e
 plain_access (Plain var nth cached write value raised) i = tt
 plain_access (Sync at act value) i = absurd i
@@ -62,6 +65,7 @@ plain_access (Abort tx why) i = absurd i
 plain_access (Trim low) i = absurd i
 plain_access (Over ending) i = absurd i
 
+-- a commit is an access
 pub commit_access : (e : Entry) → IsCommit e → IsAccess e
 commit_access (Commit at tx) i = tt
 commit_access (Plain var nth cached write value raised) i = absurd i
@@ -80,6 +84,7 @@ draws_itself (Sync at act value) x k w n = absurd n
 draws_itself (Trim low) x k w n = absurd n
 draws_itself (Over ending) x k w n = absurd n
 
+-- the tick of a plain entry is one above its block's
 pub plain_tick : (e : Entry) (b : ℕ) → IsPlain e → b + 1 < 2 ^ 64 → tick_in b e ≡ b + 1
 plain_tick (Plain var nth cached write value raised) b p l = omega arith
 plain_tick (Sync at act value) b p l = absurd p
@@ -88,6 +93,7 @@ plain_tick (Abort tx why) b p l = absurd p
 plain_tick (Trim low) b p l = absurd p
 plain_tick (Over ending) b p l = absurd p
 
+-- the tick of a commit is its block's
 pub commit_tick : (e : Entry) (b : ℕ) → IsCommit e → tick_in b e ≡ b
 commit_tick (Commit at tx) b p = refl
 commit_tick (Plain var nth cached write value raised) b p = absurd p
@@ -103,6 +109,7 @@ commit_block [] i at tx e = absurd (cc)
 commit_block (x ∷ es) zero at tx e = let z : x ≡ Commit at tx = cc in rw z refl
 commit_block (x ∷ es) (suc i) at tx e = rw (commit_block es i at tx e) refl
 
+-- a commit has an event, that of a commit, which is its own block
 pub commit_event : (R : Lists) (c : Place) (e : Entry) → EntryAt R c e → IsCommit e → (p : ℕ) × (s : Stamp) × IsEventAt R c p s
     × ((xs : List ℕ) × (s.event ≡ Commits xs)) × BlockAt (R c.thread) c.index p
 commit_event R c (Commit at tx) here is = (

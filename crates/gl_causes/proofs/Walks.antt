@@ -25,6 +25,7 @@ use Rattle.gl_causes.proofs.Standing.{at_cases, kept_at, new_at}
 pub at_seen : {A B : Type 0} (f : A → B) (xs : List A) (i : ℕ) (d : A) → i < length xs → slice_get (map f xs) i ≡ Some (f (get_or xs i d))
 at_seen f xs i d l = slice_get-map f xs i ∙ ap (option_map f) (slice_get-get_or xs i d l)
 
+-- the first i + 1 of a list are the first i and then what stands at i
 pub taken : {A : Type 0} (xs : List A) (i : ℕ) (x : A) → slice_get xs i ≡ Some x → take (i + 1) xs ≡ take i xs ++ x ∷ []
 taken xs i x e = take_more xs i x (slice_get_within xs i x e) ∙ ap (λ z. take i xs ++ z ∷ []) (get_or_from_slice_get xs i x x e)
 
@@ -47,6 +48,7 @@ lower_one ns (x ∷ ms) zero m e is =
 lower_one ns (x ∷ ms) (suc i) m e is =
     or_right (is_lower_than x.nth (number_on ns x.var)) (is_lower ns ms) (lower_one ns ms i m e is)
 
+-- what is below the greater of two is below one of them
 below_max : (k a b : ℕ) → (k < max a b) ↔ ((k < a) ⊎ (k < b))
 below_max k a b = (
   λ l. elim (cases_lt k a) [ inl x ↦ inl x | inr x ↦ inr (omega arith) ],
@@ -105,6 +107,7 @@ module _ (rows : List (List ℕ)) (stands : List Stand) (numbers : List Number) 
         ])),
       )
 
+-- past the last entry, what is known is what was known first and what was learned from all
 pub learned_all :
     (rows : List (List ℕ)) (stands : List Stand) (numbers : List Number) (i : ℕ) → length stands ≤ i → (known first : List ℕ) →
     ((u n : ℕ) → (n < at known u) ↔ ((n < at first u) ⊎ IsLearnedBelow rows stands numbers i u n)) →
@@ -132,6 +135,7 @@ latest_none a xs s (Some w) none l = (
   ],
 )
 
+-- the latest race with one entry more that races is the later of it and that entry
 pub latest_some :
     (a : Asked) (xs : List Stand) (s : Stand) (o : Option Latest) (p : StoredPlace) (k : ℕ) → race_number a s ≡ Some k → s.place ≡ seen p
     → IsLatest a xs o → IsLatest a (xs ++ s ∷ []) (later o (record { place = p; nth = k }))
@@ -174,6 +178,7 @@ count_none a (x ∷ xs) s none = by (is_some (race_number a x)) (count_none a xs
     by true rec = ap suc rec
     by false rec = rec
 
+-- one entry more that races makes one race more
 pub count_some : (a : Asked) (xs : List Stand) (s : Stand) (k : ℕ) → race_number a s ≡ Some k → length (races_among a (xs ++ s ∷ []))
     ≡ length (races_among a xs) + 1
 count_some a [] s k some = rw some refl

@@ -29,6 +29,7 @@ in_range setting t l Print value may = tt
 in_range setting t l Input value may = tt
 in_range setting t l (Fail k) value may = tt
 
+-- an act that failed has value zero, if its code is one that has no value
 fail_form : (setting : Setting) (t : ℕ) (l : ListView) (k : ℕ) (value : ℤ) → MayFail setting t l k value → HasNoValue t (Fail k) → value
     ≡ pos 0
 fail_form setting t l k value (inl m) h = absurd (h.0 m.0)
@@ -37,6 +38,7 @@ fail_form setting t l k value (inr (inr (inl m))) h = m.1
 fail_form setting t l k value (inr (inr (inr (inl m)))) h = m.1
 fail_form setting t l k value (inr (inr (inr (inr m)))) h = absurd (h.2 m.0)
 
+-- an act that may be done makes an entry of the form that its thread's list has
 pub form : (setting : Setting) (t : ℕ) (l : ListView) (act : Act) (value : ℤ) (n : ℕ) → MayAct setting t l act value
     → EntryForm t (Sync n act value)
 form setting t l (Begin f) value n may = may.2
@@ -52,6 +54,7 @@ form setting t l Print value n may = λ h. absurd h
 form setting t l Input value n may = λ h. absurd h
 form setting t l (Fail k) value n may = fail_form setting t l k value may
 
+-- an act that may fail is a step of the machine
 fails_step : (setting : Setting) (t : ℕ) (l : ListView) (now : State) (k : ℕ) (value : ℤ) → now.threads t ≡ Running → IsStateOf l now
     → MayFail setting t l k value → IsStep setting t l (Fail k) value now
 fails_step setting t l now k value runs is (inl m) =
@@ -86,6 +89,7 @@ Runs t Print now = now.threads t ≡ Running
 Runs t Input now = now.threads t ≡ Running
 Runs t (Fail k) now = now.threads t ≡ Running
 
+-- a thread that runs may do any act
 pub runs_at : (t : ℕ) (act : Act) (now : State) → now.threads t ≡ Running → Runs t act now
 runs_at t (Begin f) now runs = tt
 runs_at t End now runs = runs
@@ -152,6 +156,7 @@ pub may_leave : (l : ListView) (t o owner depth : ℕ) → monitor_of l o ≡ So
 may_leave l t o owner depth is same some = let e : depth ≡ (depth - 1) + 1 = omega arith
     in (depth - 1, is ∙ ap (λ n. Some (n, depth)) same ∙ ap (λ n. Some (t, n)) e)
 
+-- a thread that owns a monitor may leave it
 pub may_rel : (setting : Setting) (t : ℕ) (l : ListView) (o : ℕ) (a : Act) (value : ℤ) → a ≡ Rel o → value ≡ pos 0
     → o < Rattle.gl_model.specs.declared.limits.TheConstants.MONITORS → ((d : ℕ) × (monitor_of l o ≡ Some (t, d + 1)))
     → MayAct setting t l a value

@@ -6,9 +6,11 @@ use Rattle.gl_events.specs.Calls.{IsFor, HasCode, act_of, value_of, done_of}
 use Rattle.gl_events.specs.declared.call.Call.{Call}
 use Rattle.gl_events.specs.declared.call.Call.TheVariants as call
 
+-- what a call's answer says of the act that was published
 abbrev pub Says : Call → ℕ → ℤ → Act → Type 0
 Says c n v a = (act_of c (done_of n a v) ≡ a) × (value_of c (done_of n a v) ≡ v) × HasCode c (done_of n a v)
 
+-- the answer made from an act that is one for the call says that act and its value
 pub says : (c : Call) (n : ℕ) (v : ℤ) (a : Act) → IsFor c a v → Says c n v a
 says call.Begin n v a is = subst (Says call.Begin n v) (sym is.1) (refl, refl, refl)
 says call.End n v a is = subst (Says call.End n v) (sym is.0) (refl, sym is.1, refl)

@@ -30,9 +30,11 @@ record IsGood (setting : Setting) (s : State) : Type 0 where
   forked : (t f : ℕ) (v : ℤ) → s.threads t ≡ Forked f v → MayStart setting f × (t ≡ 0 → v ≡ pos 0)
   entered : (o u d : ℕ) → s.monitors o ≡ Owned u d → 0 < d
 
+-- two forks that are the same are of the same function and value
 forked_same : (f g : ℕ) (v w : ℤ) → Forked f v ≡ Forked g w → (f ≡ g) × (v ≡ w)
 forked_same f g v w e = (cc, cc)
 
+-- two ways of being owned that are equal have one depth
 owned_depth : (u t d k : ℕ) → Owned u d ≡ Owned t k → d ≡ k
 owned_depth u t d k e = cc
 
@@ -54,10 +56,12 @@ monitors_good setting s g m good here o u d is = elim (ℕ_discrete o g) [
   | no ne ↦ good.entered o u d (sym (with_else s.monitors g o m ne) ∙ is)
 ]
 
+-- a monitor that was entered is owned to a depth above zero
 entered_deep : (a : ℕ) (old m : MonitorState) → Entered a old m → (u d : ℕ) → m ≡ Owned u d → 0 < d
 entered_deep a Free m e u d is = let k = owned_depth a u 1 d (sym e ∙ is) in omega arith
 entered_deep a (Owned w k) m e u d is = let j = owned_depth w u (k + 1) d (ap (λ z. Owned z (k + 1)) e.0 ∙ sym e.1 ∙ is) in omega arith
 
+-- a monitor that was left and is owned still is owned to a depth above zero
 left_deep : (a k : ℕ) (u d : ℕ) → left_once a k ≡ Owned u d → 0 < d
 left_deep a zero u d is = absurd (cc)
 left_deep a (suc k) u d is =
@@ -66,6 +70,7 @@ left_deep a (suc k) u d is =
     let j = owned_depth a u (suc k) d (sym z ∙ is) in
     omega arith
 
+-- the effect of an event keeps a good state good
 effect_good : (setting : Setting) (s new : State) (a : ℕ) (event : Event) (value : ℤ) → IsGood setting s
     → Effect setting s a event value new → IsGood setting new
 effect_good setting s new a (Commit xs) value good e = subst (IsGood setting) (sym e) good
@@ -104,11 +109,13 @@ effect_good setting s new a (Does Input) value good e =
     subst (IsGood setting) (sym e.1) (record { forked = good.forked; entered = good.entered })
 effect_good setting s new a (Does (Fail k)) value good e = subst (IsGood setting) (sym e.1) good
 
+-- a run keeps a good state good
 run_good : (setting : Setting) (s now : State) (log : List Stamp) → IsGood setting s → Run setting s log now → IsGood setting now
 run_good setting s now [] good run = subst (IsGood setting) (sym run) good
 run_good setting s now (x ∷ log) good run =
     run_good setting run.1 now log (effect_good setting s run.1 x.thread x.event run.0 good run.2.effect) run.3
 
+-- the first state is good
 start_good : (setting : Setting) → IsGood setting (start setting)
 start_good setting = record {
   forked = λ t f v is. elim (ℕ_discrete t 0) [
@@ -119,6 +126,7 @@ start_good setting = record {
   entered = λ o u d is. absurd (cc);
 }
 
+-- the state that a pass was told of is good
 state_good : (setting : Setting) (v : View) (l : ListView) → (told : StateTold setting v l) → IsGood setting told.now
 state_good setting v l told = run_good setting (start setting) told.now told.log (start_good setting) told.allowed
 
@@ -127,6 +135,7 @@ pub starts_with : (setting : Setting) (v : View) (l : ListView) (t f : ℕ) (val
     ≡ stage.Forked f value → MayStart setting f
 starts_with setting v l t f value told is = ((state_good setting v l told).forked t f value (told.is.threads t ∙ ap thread_state is)).0
 
+-- a list that a pass was told of is sound, if functions that a thread may start with are ones that there are
 pub sound : (setting : Setting) (v : View) (l : ListView) (t : ℕ) → StateTold setting v l → ((f : ℕ) → MayStart setting f → f < FUNCTIONS)
     → IsSound setting t l
 sound setting v l t told near =

@@ -20,6 +20,7 @@ use Rattle.gl_events.specs.Calls.{HasCode, act_of, value_of, not_owner}
 use Rattle.gl_events.specs.declared.call.Call.TheVariants as call
 use Rattle.gl_events.specs.declared.done.Done.{Done}
 
+-- one-element lists that are equal have equal elements
 first_shelf : (s t : Shelf) → s ∷ [] ≡ t ∷ [] → s ≡ t
 first_shelf s t e = cc
 
@@ -32,6 +33,7 @@ told_level setting p l told o d near =
     subst (λ m. (m ≡ Owned p.own.id d) ↔ ((slice_index_or (levels_of p.own.mine) o 0 ≡ d) × (0 < d))) (told.is.monitors o)
     (levels_tell setting told.log told.now p.own.id p.own.mine told.allowed k o d near)
 
+-- a monitor whose state is owned by a thread to a depth is told as that thread and depth
 owned_as : (m : Option (ℕ × ℕ)) (t d : ℕ) → monitor_state m ≡ Owned t d → m ≡ Some (t, d)
 owned_as None t d e = absurd (let w : Free ≡ Owned t d = e in cc)
 owned_as (Some o) t d e = let a : o.0 ≡ t = cc in let b : o.1 ≡ d = cc in (λ i. Some (a i, b i))
@@ -45,6 +47,7 @@ left_code setting p l o told may =
     let is = level.0 in
     ap (λ (b : Bool). if b then not_owner else 0) (ne_eqb (slice_index_or (levels_of p.own.mine) o 0) 0 (λ e. absurd (omega arith)))
 
+-- a thread to whom leaving a monitor may fail is outside it
 outside : (setting : Setting) (t o : ℕ) (l : ListView) → MayFail setting t l not_owner (pos o) → IsOutside l t o
 outside setting t o l (inl w) = let same : o ≡ w.1.0 = (let e = w.1.1 in cc) in subst (IsOutside l t) (sym same) w.1.3
 outside setting t o l (inr (inl w)) = absurd (let e = w.0 in omega arith)
@@ -65,10 +68,12 @@ failed_code setting p l o near told may = by (slice_index_or (levels_of p.own.mi
         let owned = (told_level setting p l told o (suc n) near).1 (is, omega arith) in
         absurd (outside setting p.own.id o l may (suc n) (owned_as (monitor_of l o) p.own.id (suc n) owned))
 
+-- an exit with code zero did a release with no value
 code_left : (o : ℕ) (d : Done) → d.code ≡ 0 → (act_of (call.Exit o) d ≡ Rel o) × (value_of (call.Exit o) d ≡ pos 0)
 code_left o d e = let b = eq-eqb d.code 0 e
     in (ap (λ (c : Bool). if c then Rel o else Fail not_owner) b, ap (λ (c : Bool). if c then pos 0 else pos o) b)
 
+-- an exit with the code of no owner did a failure with the monitor as its value
 code_failed : (o : ℕ) (d : Done) → d.code ≡ not_owner → (act_of (call.Exit o) d ≡ Fail not_owner) × (value_of (call.Exit o) d ≡ pos o)
 code_failed o d e = let b = ne_eqb d.code 0 (λ z. absurd (omega arith))
     in (ap (λ (c : Bool). if c then Rel o else Fail not_owner) b, ap (λ (c : Bool). if c then pos 0 else pos o) b)

@@ -83,6 +83,7 @@ loaded_none p least = record {
   risen = λ x n m new old. absurd (let k = new.1 in omega arith);
 }
 
+-- after all holds are loaded a pass may raise the first segment to what they allow
 pub may_trim : (key : Key) (p q : PassView) (least to : ℕ) → AreLoaded VARIABLES p q least → to * key.cells ≤ least → IsOpen p.own.mine
     → MayTrim key (shelf_of q) (view_of q) to
 may_trim key p q least to l far goes_on = subst (λ (z : PassView). MayTrim key (shelf_of z) (view_of z) to) (sym l.is) (record {
@@ -101,6 +102,7 @@ may_trim key p q least to l far goes_on = subst (λ (z : PassView). MayTrim key 
     still (inl u) = ((λ i e at. (none_ended p.own.mine u i e at).0), (λ i e at. (none_ended p.own.mine u i e at).1))
     still (inr r) = (no_end p.own.mine r, no_over p.own.mine r)
 
+-- raising the first segment puts its trims after the list, and leaves the rest of a thread's own
 own_lowered : (p : PassView) (n to : ℕ) → (lowered_pass p n to).own ≡ record p.own { mine = p.own.mine ++ trims n to }
 own_lowered p n to = by (nat_lt n to)
   where
@@ -114,6 +116,7 @@ one_less : (b : Bool) (s : ℕ) → s - 1 ≤ (if b then s - 1 else s)
 one_less true s = omega arith
 one_less false s = omega arith
 
+-- loading the holds and then raising the first segment to what they allow settles the pass
 pub settled : (z : TableView) (p q r : PassView) (least n low : ℕ) → AreLoaded VARIABLES p q least → low ≡ max n (least / z.key.cells) → r
     ≡ lowered_pass q n (least / z.key.cells) → IsSettled z p r low
 settled z p q r least n low l is to = record {

@@ -7,12 +7,14 @@ use Rattle.gl_model.specs.Form.{At, EntryForm, IsEnd, IsOver}
 use Rattle.gl_draws.specs.Forming.{MayStore}
 use Rattle.gl_rule.specs.Lives.{Life, Unbegun, Running, Ended, Closed, life_act, life_after, life_from, life_of}
 
+-- whether a life has begun
 has_begun : Life → Bool
 has_begun Unbegun = false
 has_begun Running = true
 has_begun Ended = true
 has_begun Closed = true
 
+-- after an act a life has begun
 act_begins : (act : Act) → has_begun (life_act act) ≡ true
 unfolding has_begun
 act_begins (Begin f) = refl
@@ -28,6 +30,7 @@ act_begins Print = refl
 act_begins Input = refl
 act_begins (Fail k) = refl
 
+-- a life that has begun has begun after any entry
 begun_after : (life : Life) (x : Entry) → has_begun life ≡ true → has_begun (life_after life x) ≡ true
 unfolding has_begun
 begun_after Unbegun x e = absurd (cc)
@@ -40,15 +43,18 @@ begun_after Running (Over ending) e = refl
 begun_after Ended x e = refl
 begun_after Closed x e = refl
 
+-- a life that has begun has begun after any list
 begun_stays : (life : Life) (es : List Entry) → has_begun life ≡ true → has_begun (life_from life es) ≡ true
 begun_stays life [] e = e
 begun_stays life (x ∷ es) e = begun_stays (life_after life x) es (begun_after life x e)
 
+-- a life that has begun is not, after any list, one that has not
 begun_not : (life : Life) (es : List Entry) → has_begun life ≡ true → life_from life es ≡ Unbegun → ⊥
 unfolding has_begun
 begun_not life es e none = let a : has_begun (life_from life es) ≡ true = begun_stays life es e in let c : has_begun (life_from life es)
     ≡ false = ap has_begun none in absurd (cc)
 
+-- what stands in two equal options is equal
 some_same : (a c : Entry) → Some a ≡ Some c → a ≡ c
 some_same a c e = cc
 
@@ -63,6 +69,7 @@ first_none (Abort tx why) es e = (refl, (λ h. h), (λ h. h))
 first_none (Trim low) es e = (refl, (λ h. h), (λ h. h))
 first_none (Over ending) es e = absurd (begun_not Closed es refl e)
 
+-- a list that has not begun has no end and is not over
 pub none_ended : (es : List Entry) → life_of es ≡ Unbegun → (i : ℕ) (e : Entry) → At es i e → (IsEnd e → ⊥) × (IsOver e → ⊥)
 none_ended [] u i e at = absurd (cc)
 none_ended (x ∷ es) u zero e at = let f = first_none x es u in let same = some_same x e at

@@ -124,9 +124,11 @@ publishable c z p l l' low tail act value call told is may to room = record {
     last_read [] x = (0, omega arith, refl)
     last_read (y ∷ xs) x = let r = last_read xs x in let near = r.1 in (suc r.0, omega arith, r.2)
 
+-- one if the test is true, and zero otherwise
 abbrev one_if : Bool → ℕ
 one_if b = cond b 1 0
 
+-- a test that no thread in the list and not the default passes is false of each
 none_of : (p : Stage → Bool) (d : Stage) → p d ≡ false → (xs : List Stage) → count_by p xs ≡ 0 → (t : ℕ) → p (slice_index_or xs t d) ≡ false
 none_of p d out [] none t = out
 none_of p d out (x ∷ xs) none zero = first (p x) (let n : one_if (p x) + count_by p xs ≡ 0 = sym (sum_by-cons (λ y. one_if (p y)) x xs)
@@ -206,6 +208,7 @@ done_is c z p q l l' low tail act value d call told plan to room later here answ
     or_no true = refl
     or_no false = refl
 
+-- what is done is done at the place that it is said to be
 at_of : (n : ℕ) (act : Act) (value : ℤ) → (done_of n act value).at ≡ n
 at_of n (Begin f) value = refl
 at_of n End value = refl

@@ -4,6 +4,7 @@ use Rattle.gl_model.specs.declared.row.Judged.{Judged}
 use Rattle.gl_model.specs.TraceSteps.{Step}
 use Rattle.gl_example.specs.Steps.{lines_of}
 
+-- the lines of steps with verdicts, with one of each more, are the others and then that one
 pub lines_push : (ss : List Step) (js : List Judged) (s : Step) (j : Judged) → length js ≡ length ss
     → lines_of (ss ++ s ∷ []) (js ++ j ∷ []) ≡ lines_of ss js ++ record { thread = s.0; item = s.1; judged = j } ∷ []
 lines_push [] [] s j e = refl

@@ -11,17 +11,21 @@ use Rattle.gl_explain.specs.Races.{IsPassed}
 use Rattle.gl_explain.specs.Told.{step_of, told_of}
 use Rattle.gl_model.specs.TraceSteps.{Step, IsLineItem}
 
+-- what an option's image has comes from what the option has
 mapped : {A B : Type 0} (f : A → B) (o : Option A) (b : B) → option_map f o ≡ Some b → (a : A) × (o ≡ Some a) × (f a ≡ b)
 mapped f None b e = absurd (cc)
 mapped f (Some a) b e = (a, refl, let same : Some (f a) ≡ Some b = e in cc)
 
+-- what stands in the image of a list is the image of what stands there
 pub map_at : {A B : Type 0} (f : A → B) (xs : List A) (i : ℕ) (b : B) → slice_get (map f xs) i ≡ Some b → (a : A)
     × (slice_get xs i ≡ Some a) × (f a ≡ b)
 map_at f xs i b e = mapped f (slice_get xs i) b (sym (slice_get-map f xs i) ∙ e)
 
+-- what stands in a list stands in its image, mapped
 pub map_there : {A B : Type 0} (f : A → B) (xs : List A) (i : ℕ) (a : A) → slice_get xs i ≡ Some a → slice_get (map f xs) i ≡ Some (f a)
 map_there f xs i a e = slice_get-map f xs i ∙ ap (option_map f) e
 
+-- the told line of a kept one
 abbrev pub told : Kept → Told
 told k = k.told
 
@@ -84,5 +88,6 @@ get_taken (suc n) [] i x at = absurd (cc)
 get_taken (suc n) (y ∷ xs) zero x at = at
 get_taken (suc n) (y ∷ xs) (suc i) x at = get_taken n xs i x at
 
+-- the first n kept lines, as they are told, are the first n told
 pub told_taken : (n : ℕ) (kept : List Kept) → told_of (take n kept) ≡ take n (told_of kept)
 told_taken n kept = sym (take-map told n kept)

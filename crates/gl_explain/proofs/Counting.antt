@@ -14,9 +14,11 @@ abbrev pub IsLastBelow : (ℕ → Type 0) → ℕ → Option ℕ → Type 0
 IsLastBelow P n None = (i : ℕ) → i < n → P i → ⊥
 IsLastBelow P n (Some j) = (j < n) × P j × ((i : ℕ) → j < i → i < n → P i → ⊥)
 
+-- if it is true of n, then n is the last below n + 1
 pub last_new : (P : ℕ → Type 0) (n : ℕ) → P n → IsLastBelow P (n + 1) (Some n)
 last_new P n p = (omega arith, p, λ i less near q. omega arith)
 
+-- if it is not true of n, the last below n is the last below n + 1
 pub last_on : (P : ℕ → Type 0) (n : ℕ) (o : Option ℕ) → (P n → ⊥) → IsLastBelow P n o → IsLastBelow P (n + 1) o
 last_on P n None never last = λ i near p. elim (cases_lt i n) [
   | inl below ↦ last i below p
@@ -32,6 +34,7 @@ last_on P n (Some j) never last = (
   ],
 )
 
+-- if nothing from n on has the property, the last below n is the last of all
 pub last_all : (P : ℕ → Type 0) (n : ℕ) (o : Option ℕ) → ((i : ℕ) → P i → i < n) → IsLastBelow P n o → IsLastOf P o
 last_all P n None near last = λ i p. last i (near i p) p
 last_all P n (Some j) near last = (last.1, λ i less p. last.2 i less (near i p) p)
@@ -41,6 +44,7 @@ pub last_same : (P Q : ℕ → Type 0) (o : Option ℕ) → ((i : ℕ) → P i �
 last_same P Q None same last = λ i q. last i ((same i).1 q)
 last_same P Q (Some j) same last = ((same j).0 last.0, λ i less q. last.1 i less ((same i).1 q))
 
+-- as many numbers below n have one property as have an equal one
 pub counts_same : (P Q : ℕ → Type 0) → ((i : ℕ) → P i ↔ Q i) → (n c : ℕ) → Counts P n c → Counts Q n c
 counts_same P Q same n c none_yet = none_yet
 counts_same P Q same n c (one_more m d counts p) = one_more m d (counts_same P Q same m d counts) ((same m).0 p)
@@ -76,9 +80,11 @@ pub last_there : (P : ℕ → Type 0) (o : Option ℕ) → (i : ℕ) × P i → 
 last_there P None some last = absurd (last some.0 some.1)
 last_there P (Some j) some last = refl
 
+-- where something has a property, the count of those that have it is not zero
 pub count_there : (P : ℕ → Type 0) (n c : ℕ) (o : Option ℕ) → ((i : ℕ) → P i → i < n) → (i : ℕ) × P i → Counts P n c → 0 < c
 count_there P n c o near some counts = counts_some P n c counts some.0 (near some.0 some.1) some.1
 
+-- the last told line of one property is that of an equal one
 pub last_told_same : (P Q : ℕ → Type 0) (before : List Told) (o : Option Told) → ((i : ℕ) → P i ↔ Q i) → IsLastTold P before o
     → IsLastTold Q before o
 last_told_same P Q before None same last = last_same P Q None same last

@@ -13,6 +13,7 @@ use Rattle.gl_lines.specs.TraceStates.{AreSound}
 use Rattle.gl_explain.specs.Marks.{plain_behind}
 use Rattle.gl_explain.proofs.Taken.{own_known, commit_known}
 
+-- a thread's own clock is one above the tick of its next plain access
 pub own_mark : (lines : List Line) (l : Line) (t n : ℕ) → AreSound (lines ++ l ∷ []) → l.thread ≡ t → n
     ≡ clocks (history lines) (Thread t) t → n ≡ tick (plain_behind lines t) + 1
 own_mark lines l t n sound mine is =
@@ -22,9 +23,11 @@ own_mark lines l t n sound mine is =
     let all : n ≡ block_of t (traced lines) + 2 = is ∙ own in
     omega arith
 
+-- a line of a trace from its thread, item and verdict
 abbrev line : ℕ → Item → Judged → Line
 line t item judged = record { thread = t; item = item; judged = judged }
 
+-- the mark of a commit, one below its thread's clock after it, is one above the tick of its access
 pub mark_commit : (lines : List Line) (t : ℕ) (item : Item) (judged : Judged) (reads writes : List ℕ) (n m : ℕ) → item
     ≡ CommitsOn reads writes → judged ≡ Performed → n ≡ clocks (history (lines ++ line t item judged ∷ [])) (Thread t) t → m ≡ n - 1 → m
     ≡ tick (access_at lines (line t item judged)) + 1

@@ -17,9 +17,11 @@ use Rattle.gl_explain.specs.Explained.{IsExplained, races_of}
 use Rattle.gl_explain.specs.Written.{IsWritten}
 use Rattle.gl_explain.specs.Texts.{explanation_text}
 
+-- whether a told line was raised as a race
 abbrev raised : Told → Bool
 raised k = is_race k.judged
 
+-- the races with a line more are those before and, if it is raised, that line
 races_push : (done : List Told) (t : Told) (b : Bool) → raised t ≡ b → (more : List Told)
     × (races_of (done ++ t ∷ []) ≡ races_of done ++ more) × (b ≡ true → more ≡ t ∷ []) × (b ≡ false → more ≡ [])
 races_push done t true is = (
@@ -37,21 +39,25 @@ races_push done t false is = (
   λ e. refl,
 )
 
+-- what stands in a list with one put last stood there before, or is that one
 get_cases : {A : Type 0} (xs : List A) (x : A) (i : ℕ) (y : A) → slice_get (xs ++ x ∷ []) i ≡ Some y → (slice_get xs i ≡ Some y) ⊎ (x ≡ y)
 get_cases [] x zero y e = inr (let same : Some x ≡ Some y = e in let is : x ≡ y = cc in is)
 get_cases [] x (suc i) y e = absurd (cc)
 get_cases (z ∷ xs) x zero y e = inl e
 get_cases (z ∷ xs) x (suc i) y e = get_cases xs x i y e
 
+-- each explanation is of one of the told lines, by the lines before it
 abbrev Each : List Told → List Explanation → Type 0
 Each told es = (i : ℕ) (e : Explanation) → slice_get es i ≡ Some e → (before : List Told) × (behind : List Told)
     × (told ≡ before ++ e.at ∷ behind) × IsExplained before e
 
+-- explanations of the told lines are explanations of them with a line more
 each_more : (done : List Told) (t : Told) (es : List Explanation) → Each done es → Each (done ++ t ∷ []) es
 each_more done t es each i e there =
     let w = each i e there in
     (w.0, w.1 ++ t ∷ [], ap (λ ls. ls ++ t ∷ []) w.2 ∙ append_assoc w.0 (e.at ∷ w.1) (t ∷ []), w.3)
 
+-- the text with one explanation more is written, if the line is raised and explained
 pub written_more : (names : Naming) (done : List Told) (t : Told) (e : Explanation) (bytes : List ℕ) → is_race t.judged ≡ true → e.at ≡ t
     → IsExplained done e → IsWritten names done bytes → IsWritten names (done ++ t ∷ []) (bytes ++ explanation_text names e)
 written_more names done t e bytes race here is w =
@@ -73,10 +79,12 @@ written_more names done t e bytes race here is w =
           ∙ ap (λ bs. flat_map (explanation_text names) w.explained ++ bs) (append-nil (explanation_text names e)));
     }
 
+-- what follows from a fact about a right result is true of it
 pub more_on_ok : {T E : Type 0} (P Q : Type 0) (r : Result T E) → (P → Q) → OnOk r P → OnOk r Q
 more_on_ok P Q (Ok x) f p = f p
 more_on_ok P Q (Err e) f p = tt
 
+-- nothing is written for no lines
 pub none_written : (names : Naming) → IsWritten names [] []
 none_written names = record { explained = []; are = record { all = refl; each = λ i e there. absurd (cc) }; text = refl }
 

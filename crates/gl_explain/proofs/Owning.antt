@@ -26,13 +26,16 @@ all_push : (P : ℕ → Type 0) (xs : List ℕ) (x : ℕ) → AllByRecursion P x
 all_push P [] x all p = (p, tt)
 all_push P (y ∷ xs) x all p = (all.0, all_push P xs x all.1 p)
 
+-- nothing is in an empty list
 in_none : (y : ℕ) → Contains [] y → ⊥
 in_none y (k, near, at) = absurd (omega arith)
 
+-- what is in a one-element list is its element
 in_one : (x y : ℕ) → Contains (x ∷ []) y → y ≡ x
 in_one x y (zero, near, at) = sym at
 in_one x y (suc k, near, at) = absurd (omega arith)
 
+-- what is in a list with one put last was in it, or is that one
 in_push : (xs : List ℕ) (x y : ℕ) → Contains (xs ++ x ∷ []) y ↔ (Contains xs y ⊎ (y ≡ x))
 in_push xs x y = (
   λ c. elim (Contains-append_cases xs (x ∷ []) y c) [ inl a ↦ inl a | inr b ↦ inr (in_one x y b) ],
@@ -42,6 +45,7 @@ in_push xs x y = (
   ],
 )
 
+-- a rising list with a greater one put last rises
 rises_push : (xs : List ℕ) (x : ℕ) → ((y : ℕ) → Contains xs y → y < x) → Rises xs → Rises (xs ++ x ∷ [])
 rises_push [] x below rises = (tt, tt)
 rises_push (y ∷ xs) x below rises = (
@@ -104,11 +108,13 @@ act_near m t Print held far near = refl
 act_near m t Input held far near = refl
 act_near m t (Fail k) held far near = refl
 
+-- an item of a line leaves what is held of a monitor that there is not
 item_near : (m t : ℕ) (item : Item) (held : Hold) → MONITORS ≤ m → IsLineItem item → item_leaves m t item held ≡ held
 item_near m t (Acts act) held far near = act_near m t act held far near
 item_near m t (Access x write) held far near = refl
 item_near m t (Commit reads writes) held far near = refl
 
+-- the items of a record leave what is held of a monitor that there is not
 left_alone : (m : ℕ) (steps : List Step) (held : Hold) → MONITORS ≤ m → ((i : ℕ) (s : Step) → slice_get steps i ≡ Some s → IsLineItem s.1)
     → fold (λ held s. item_leaves m s.0 s.1 held) held steps ≡ held
 left_alone m [] held far near = refl

@@ -37,6 +37,7 @@ use Rattle.gl_explain.proofs.Taken.{IsSaidOf, thread_runs}
 behind : (lines : List Line) (l : Line) → lists_behind (lines ++ l ∷ []) ≡ (after_line l (traced lines)).tracing.lists
 behind lines l = sym (lists_are (lines ++ l ∷ [])) ∙ ap (λ (z : Traced). z.tracing.lists) (traced_push lines l)
 
+-- the last line of a trace whose verdicts are right is judged rightly
 last_right : (lines : List Line) (l : Line) → AreVerdicts (lines ++ l ∷ [])
     → IsJudgedRightly (after_line l (traced lines)).tracing.lists (last_place (after_line l (traced lines)).tracing.lists l.thread) l.item
     l.judged
@@ -56,6 +57,7 @@ fits R c (CommitsOn reads writes) NoAccess j = absurd j
 fits R c (CommitsOn reads writes) Performed j = tt
 fits R c (CommitsOn reads writes) (Raised var) j = tt
 
+-- what was said of the last line of such a trace is said of its item
 pub said_fits : (lines : List Line) (l : Line) → AreVerdicts (lines ++ l ∷ []) → IsSaidOf l.item l.judged
 said_fits lines l right = fits (after_line l (traced lines)).tracing.lists
     (last_place (after_line l (traced lines)).tracing.lists l.thread) l.item l.judged (last_right lines l right)

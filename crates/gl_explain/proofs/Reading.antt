@@ -16,6 +16,7 @@ pub record AreTaken (text : List ℕ) (reader : TraceReader) (x : Explainer) : T
   pub told : IsTold done x
   pub named : x.writer.names ≡ text
 
+-- a line that is read and told is taken, with the texts that the reader and the writer have
 unfoldable pub taken_on : (text : List ℕ) (done : List Told) (line : TraceLine) (reader : TraceReader) (x : Explainer)
     (found : Option Explanation)
     → IsReadTo text (trace_of done ++ line ∷ []) reader → IsToldOn done line x found → x.writer.names ≡ text → AreTaken text reader x
@@ -28,6 +29,7 @@ taken_on text done line reader x found read on named =
       named = named;
     }
 
+-- what follows from a fact about what a right result gives is true of it
 pub more_if_ok : {T E : Type 0} (P Q : T → Type 0) (r : Result T E) → ((x : T) → P x → Q x) → IfOk r P → IfOk r Q
 more_if_ok P Q (Ok x) f p = f x p
 more_if_ok P Q (Err e) f p = tt

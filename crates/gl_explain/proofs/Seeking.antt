@@ -21,15 +21,18 @@ pub record AreSeen (text : List ℕ) (reader : TraceReader) (x : Explainer) (fir
   pub taken : AreTaken text reader x
   pub first_is : IsFirstIn taken.done first
 
+-- what stood at a place stands there with one put last
 pub at_before : {A : Type 0} (xs : List A) (y x : A) (i : ℕ) → slice_get xs i ≡ Some x → slice_get (xs ++ y ∷ []) i ≡ Some x
 at_before [] y x i e = absurd (cc)
 at_before (z ∷ xs) y x zero e = e
 at_before (z ∷ xs) y x (suc i) e = at_before xs y x i e
 
+-- what is put last stands at the old length
 pub at_last : {A : Type 0} (xs : List A) (y : A) → slice_get (xs ++ y ∷ []) (length xs) ≡ Some y
 at_last [] y = refl
 at_last (z ∷ xs) y = at_last xs y
 
+-- what stands in a list with one put last stood there before, or is that one at the old length
 pub at_cases : {A : Type 0} (xs : List A) (y x : A) (i : ℕ) → slice_get (xs ++ y ∷ []) i ≡ Some x
     → (slice_get xs i ≡ Some x) ⊎ ((i ≡ length xs) × (y ≡ x))
 at_cases [] y x zero e = inr (refl, let same : Some y ≡ Some x = e in cc)
@@ -71,6 +74,7 @@ module _ (done : List Told) (next : Told) where
     | inr new ↦ ap (λ (t : Told). is_race t.judged) (sym new.1) ∙ is
   ]
 
+-- before any line is read, nothing is seen
 pub seen_none : (text : List ℕ) (reader : TraceReader) (x : Explainer) → IsReadTo text [] reader → IsTold [] x → x.writer.names ≡ text
     → AreSeen text reader x None
 seen_none text reader x read told named = record {
@@ -78,6 +82,7 @@ seen_none text reader x read told named = record {
   first_is = λ i k at. absurd (cc);
 }
 
+-- after a line is read and told, the first race is that of the told lines
 pub seen_on : (text : List ℕ) (done : List Told) (line : TraceLine) (reader : TraceReader) (x : Explainer) (found : Option Explanation)
     (first : Option First) → IsReadTo text (trace_of done ++ line ∷ []) reader → (on : IsToldOn done line x found) → x.writer.names ≡ text
     → IsFirstIn (done ++ told_as line on.0 ∷ []) first → AreSeen text reader x first

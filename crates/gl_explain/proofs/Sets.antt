@@ -6,10 +6,12 @@ use Rattle.gl_model.specs.Trace.{is_in}
 use Rattle.gl_draws.proofs.EntryKinds.{is_in-contains, contains-is_in}
 use Rattle.gl_lines.proofs.LineSets.{is_in-touches}
 
+-- a choice with a test that is one of two is true exactly where one of them is
 by_sets : (a b c : Bool) → c ≡ (if a then true else b) → (c ≡ true) ↔ ((a ≡ true) ⊎ (b ≡ true))
 by_sets true b c e = (λ t. inl refl, λ w. e)
 by_sets false b c e = (λ t. inr (sym e ∙ t), λ w. elim w [ inl t ↦ absurd (cc) | inr t ↦ e ∙ t ])
 
+-- a variable is in a commit's set exactly where it is among its reads or its writes
 pub in_either : (reads writes : List ℕ) (x : ℕ) → Contains (with_all writes reads) x ↔ (Contains reads x ⊎ Contains writes x)
 in_either reads writes x =
     let s = by_sets (is_in x reads) (is_in x writes) (is_in x (with_all writes reads)) (is_in-touches reads writes x) in (

@@ -34,9 +34,11 @@ use Rattle.gl_explain.proofs.Ordered.{tells}
 use Rattle.gl_explain.proofs.Raised.{culprit_there, said_fits}
 use Rattle.gl_explain.proofs.Taken.{IsSaidOf, kept_push}
 
+-- each of a list of steps is a step
 step_at : (ss : List Step) → All IsStep ss → (k : ℕ) (s : Step) → slice_get ss k ≡ Some s → IsStep s
 step_at ss h k s there = subst IsStep (get_or_from_slice_get ss k s s there) (h k s (slice_get_within ss k s there))
 
+-- the steps of the told lines are those of their trace
 steps_same : (done : List Told) → record_steps (lines_of done) ≡ steps_of (trace_of done)
 steps_same [] = refl
 steps_same (p ∷ ps) = ap (λ r. step_of p ∷ r) (steps_same ps)
@@ -62,6 +64,7 @@ pub record Facts (kept : List Kept) (t : Told) (known : List ℕ) (new : Detecto
   pub few : length kept ≤ 2 ^ 32 - 2
   pub race : (var : ℕ) → t.judged ≡ Raised var → (i : ℕ) × IsCulprit (told_of kept) t var i
 
+-- the lines with one more are sound, if the trace of them is lines
 pub sound_on : (kept : List Kept) (t : Told) → AreLines (trace_of (told_of kept) ++ trace_line_of t ∷ [])
     → AreSound (lines_of (told_of kept) ++ line_of t ∷ [])
 sound_on kept t are =
@@ -69,6 +72,7 @@ sound_on kept t are =
     ∷ [] = map-append trace_line_of (told_of kept) (t ∷ []) in
     subst AreSound (map-append line_of (told_of kept) (t ∷ [])) (lines_sound (told_of kept ++ t ∷ []) (subst AreLines (sym more) are))
 
+-- what is known before a line is taken, from the lines and what the detector keeps
 pub facts : (kept : List Kept) (t : Told) (known : List ℕ) (old new : Detector)
     → AreLines (trace_of (told_of kept) ++ trace_line_of t ∷ []) → AreVerdicts (lines_of (told_of kept))
     → Follows (lines_of (told_of kept)) old → AreKept (lines_of (told_of kept)) kept →

@@ -44,11 +44,13 @@ get_grown [] more i x e = absurd (cc)
 get_grown (y ∷ xs) more zero x e = e
 get_grown (y ∷ xs) more (suc i) x e = get_grown xs more i x e
 
+-- a place within the first of two lists has what stands there in it
 get_left : {A : Type 0} (xs more : List A) (i : ℕ) → i < length xs → slice_get (xs ++ more) i ≡ slice_get xs i
 get_left [] more i near = absurd (omega arith)
 get_left (x ∷ xs) more zero near = refl
 get_left (x ∷ xs) more (suc i) near = get_left xs more i (omega arith)
 
+-- an access that the history has is one that a longer history has
 access_grown : (h more : List Stamp) (a : Access) → IsAccessOf h a → IsAccessOf (h ++ more) a
 access_grown h more a is = record {
   event = is.event;
@@ -58,6 +60,7 @@ access_grown h more a is = record {
   commit = is.commit;
 }
 
+-- an item puts something after the history or nothing
 item_more : (t : ℕ) (item : Item) (judged : Judged) (s : Traced) → (more : List Stamp)
     × ((after_item t item judged s).history ≡ s.history ++ more)
 item_more t (Acts act) judged s = let m = act_more t act s in (m.0, m.1)
@@ -68,10 +71,12 @@ item_more t (CommitsOn reads writes) NoAccess s = (record { thread = t; event = 
 item_more t (CommitsOn reads writes) Performed s = (record { thread = t; event = Commits (with_all writes reads) } ∷ [], refl)
 item_more t (CommitsOn reads writes) (Raised var) s = ([], sym (Rattle.std.proofs.lemmas.List.append-nil s.history))
 
+-- a line puts something after the history of the lines before it or nothing
 pub history_more : (lines : List Line) (l : Line) → (more : List Stamp) × (history (lines ++ l ∷ []) ≡ history lines ++ more)
 history_more lines l = let m = item_more l.thread l.item l.judged (traced lines)
     in (m.0, ap (λ (s : Traced). s.history) (traced_push lines l) ∙ m.1)
 
+-- what is placed in the history of lines is placed in that with one more
 placed_grown : (lines : List Line) (l : Line) (before : List Line) (m : Line) → IsPlacedIn (history lines) before m
     → IsPlacedIn (history (lines ++ l ∷ [])) before m
 placed_grown lines l before m p =
@@ -112,9 +117,11 @@ IsSaidOf (CommitsOn reads writes) (Raised var) = Unit {0}
 entry_is : (t q : ℕ) (d : Draw) (e f : Entry) → d ≡ draw t q (Entered f) → d.what ≡ Entered e → f ≡ e
 entry_is t q d e f is what = let same : Entered f ≡ Entered e = sym (ap (λ (z : Draw). z.what) is) ∙ what in cc
 
+-- a draw of a look is not of an entry
 looked_not : (t q : ℕ) (d : Draw) (e : Entry) → d ≡ draw t q (Looked (pos 0)) → d.what ≡ Entered e → ⊥
 looked_not t q d e is what = let same : Looked (pos 0) ≡ Entered e = sym (ap (λ (z : Draw). z.what) is) ∙ what in cc
 
+-- a draw that is among those after one more was among them, or is that one of x
 plain_news : (draws : ℕ → List Draw) (x y : ℕ) (new d : Draw) → Among (with_at draws x (new ∷ draws x) y) d → Among (draws y) d
     ⊎ ((x ≡ y) × (d ≡ new))
 plain_news draws x y new d among = elim (ℕ_discrete y x) [

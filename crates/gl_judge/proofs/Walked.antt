@@ -21,6 +21,7 @@ pub drop_window : (h w : List Stamp) (from p : ℕ) → from ≤ p → drop from
 drop_window h w from p le e = let back : from + (p - from) ≡ p = omega arith in ap (drop (p - from)) (sym e) ∙ drop-drop (p - from) from h
     ∙ ap (λ k. drop k h) back
 
+-- as many events as are left after the first a, taken from after them, are all of those
 pub take_rest : (w : List Stamp) (a : ℕ) → take (length w - a) (drop a w) ≡ drop a w
 take_rest w a = take_all (length w - a) (drop a w) (omega (arith, length-drop a w))
 

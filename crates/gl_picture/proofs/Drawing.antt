@@ -15,18 +15,21 @@ use Rattle.gl_picture.specs.declared.picture.TheConstants.{LEAD, HALF}
 use Rattle.gl_picture.specs.declared.picture.Row.{Row}
 use Rattle.gl_picture.specs.Drawn.{IsRow, rows_of, span}
 
+-- what stands in a list after n were left out stands n further in the list
 pub get_dropped : {A : Type 0} (n : ℕ) (xs : List A) (i : ℕ) (x : A) → slice_get (drop n xs) i ≡ Some x → slice_get xs (n + i) ≡ Some x
 get_dropped zero xs i x at = subst (λ k. slice_get xs k ≡ Some x) (let e : i ≡ zero + i = omega arith in e) at
 get_dropped (suc n) [] i x at = absurd (cc)
 get_dropped (suc n) (y ∷ xs) i x at =
     subst (λ k. slice_get (y ∷ xs) k ≡ Some x) (let e : suc (n + i) ≡ suc n + i = omega arith in e) (get_dropped n xs i x at)
 
+-- what stands below n in a list stands there in its first n
 pub at_taken : {A : Type 0} (n : ℕ) (xs : List A) (i : ℕ) (x : A) → i < n → slice_get xs i ≡ Some x → slice_get (take n xs) i ≡ Some x
 at_taken zero xs i x near at = absurd (omega arith)
 at_taken (suc n) [] i x near at = absurd (cc)
 at_taken (suc n) (y ∷ xs) zero x near at = at
 at_taken (suc n) (y ∷ xs) (suc i) x near at = at_taken n xs i x (omega arith) at
 
+-- what stands at n or above in a list stands n earlier after n were left out
 pub at_dropped : {A : Type 0} (n : ℕ) (xs : List A) (i : ℕ) (x : A) → n ≤ i → slice_get xs i ≡ Some x → slice_get (drop n xs)
     (i - n) ≡ Some x
 at_dropped zero xs i x near at = subst (λ k. slice_get xs k ≡ Some x) (let e : i ≡ i - zero = omega arith in e) at
@@ -35,17 +38,20 @@ at_dropped (suc n) (y ∷ xs) zero x near at = absurd (omega arith)
 at_dropped (suc n) (y ∷ xs) (suc i) x near at =
     subst (λ k. slice_get (drop n xs) k ≡ Some x) (let e : i - n ≡ suc i - suc n = omega arith in e) (at_dropped n xs i x (omega arith) at)
 
+-- what stands in the first of two lists stands there in both together
 pub at_front : {A : Type 0} (xs ys : List A) (i : ℕ) (x : A) → slice_get xs i ≡ Some x → slice_get (xs ++ ys) i ≡ Some x
 at_front [] ys i x at = absurd (cc)
 at_front (z ∷ xs) ys zero x at = at
 at_front (z ∷ xs) ys (suc i) x at = at_front xs ys i x at
 
+-- what stands in the second of two lists stands further by the length of the first in both together
 pub at_back : {A : Type 0} (xs ys : List A) (i : ℕ) (x : A) → slice_get ys i ≡ Some x → slice_get (xs ++ ys) (length xs + i) ≡ Some x
 at_back [] ys i x at = subst (λ k. slice_get ys k ≡ Some x) (let e : i ≡ zero + i = omega arith in e) at
 at_back (z ∷ xs) ys i x at =
     subst (λ k. slice_get (z ∷ (xs ++ ys)) k ≡ Some x) (let e : suc (length xs + i) ≡ suc (length xs) + i = omega arith in e)
     (at_back xs ys i x at)
 
+-- what stands in two lists together stands in the first or somewhere in the second
 pub at_either : {A : Type 0} (xs ys : List A) (i : ℕ) (x : A) → slice_get (xs ++ ys) i ≡ Some x
     → (slice_get xs i ≡ Some x) ⊎ ((h : ℕ) × (slice_get ys h ≡ Some x))
 at_either [] ys i x at = inr (i, at)
@@ -65,17 +71,21 @@ rows_by lines false e = inr (
   rw e refl,
 )
 
+-- the rows of lines are all of them or, of too many, the first and the last
 pub rows_cases : {A : Type 0} (lines : List A) → ((length lines ≤ HALF + HALF) × (rows_of lines ≡ lines))
     ⊎ ((HALF + HALF < length lines) × (rows_of lines ≡ take HALF lines ++ drop (length lines - HALF) lines))
 rows_cases lines = rows_by lines (nat_le (length lines) (HALF + HALF)) refl
 
+-- lines that are not too many are all rows
 pub rows_all : {A : Type 0} (lines : List A) → length lines ≤ HALF + HALF → rows_of lines ≡ lines
 rows_all lines few = elim (rows_cases lines) [ inl all ↦ all.1 | inr cut ↦ absurd (let over = cut.0 in omega arith) ]
 
+-- the rows of too many lines are the first and the last of them
 pub rows_cut : {A : Type 0} (lines : List A) → HALF + HALF < length lines → rows_of lines ≡ take HALF lines ++ drop
     (length lines - HALF) lines
 rows_cut lines many = elim (rows_cases lines) [ inl all ↦ absurd (let few = all.0 in omega arith) | inr cut ↦ cut.1 ]
 
+-- the span of a race in mapped lines is the mapped span
 pub span_map : {A B : Type 0} (f : A → B) (place race : ℕ) (lines : List A) → map f (span place race lines) ≡ span place race (map f lines)
 span_map f place race lines = sym (drop-map f (place - LEAD) (take (race + 1) lines)) ∙ ap (drop (place - LEAD)) (sym (take-map f
     (race + 1) lines))
@@ -107,9 +117,11 @@ drawn_front lines i k near at = elim (rows_cases lines) [
       (at_front (take HALF lines) (drop (length lines - HALF) lines) i k (at_taken HALF lines i k near at))
 ]
 
+-- a told line is the last of the rows
 abbrev pub IsEnd : Told → List Told → Type 0
 IsEnd k rows = (1 ≤ length rows) × (slice_get rows (length rows - 1) ≡ Some k)
 
+-- the last of the lines is the last of the rows
 pub drawn_last : (lines : List Told) (i : ℕ) (k : Told) → slice_get lines i ≡ Some k → i + 1 ≡ length lines → IsEnd k (rows_of lines)
 drawn_last lines i k at last = elim (rows_cases lines) [
   | inl short ↦ subst (IsEnd k) (sym short.1)
@@ -170,10 +182,12 @@ rows_more rows left drawn r is each i q at = elim (at_cases drawn r q i at) [
   | inr new ↦ subst (λ n. IsRow rows left n q) (sym new.0) (subst (IsRow rows left (length drawn)) new.1 is)
 ]
 
+-- what follows from a fact about what a right result gives is true of it
 pub if_ok : {T E : Type 0} (P Q : T → Type 0) (r : Result T E) → ((x : T) → P x → Q x) → IfOk r P → IfOk r Q
 if_ok P Q (Ok x) g p = g x p
 if_ok P Q (Err e) g p = tt
 
+-- the rows of mapped lines are the mapped rows, where they are cut
 pub rows_map : {A B : Type 0} (f : A → B) (lines : List A) → HALF + HALF < length lines
     → map f (take HALF lines) ++ map f (drop (length lines - HALF) lines) ≡ rows_of (map f lines)
 rows_map f lines many =
@@ -183,6 +197,7 @@ rows_map f lines many =
     (length lines - HALF) lines))
     ∙ ap (λ n. take HALF (map f lines) ++ drop (n - HALF) (map f lines)) (sym long) ∙ sym (rows_cut (map f lines) (omega arith))
 
+-- the rows of the span of a race, made from the kept lines, are those of the told ones
 pub rows_are : (kept : List Kept) (f : First) (lines : List Kept) (rows : List Told) → lines ≡ span f.explanation.place f.race kept
     → rows ≡ rows_of (told_of lines) → rows ≡ rows_of (span f.explanation.place f.race (told_of kept))
 rows_are kept f ls rows spanned drawn =

@@ -14,6 +14,7 @@ pub two : {T E : Type 0} (r : Result T E) (a b c x y : List ℕ) → b ≡ a ++ 
 two (Ok v) a b c x y first second = second ∙ ap (λ t. t ++ y) first ∙ append_assoc a x y
 two (Err e) a b c x y first second = tt
 
+-- what follows from a fact about a right result is true of it
 pub on_ok : {T E : Type 0} (P Q : Type 0) (r : Result T E) → (P → Q) → OnOk r P → OnOk r Q
 on_ok P Q (Ok x) g p = g p
 on_ok P Q (Err e) g p = tt

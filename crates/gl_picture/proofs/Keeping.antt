@@ -7,6 +7,7 @@ use Rattle.gl_explain.specs.declared.told.Told.{Told}
 use Rattle.gl_picture.specs.Arrows.{Leads}
 use Rattle.gl_picture.specs.Order.{Goes, down, along, HasWay, OrderIsKept}
 
+-- a step and then a way of steps is a way of steps
 step_first : {A : Type 0} (Step : A → A → Type 0) (a b c : A) → Step a b → TransitiveClosure Step b c → TransitiveClosure Step a c
 step_first Step a b c s (one_step t) = then_step (one_step s) t
 step_first Step a b c s (then_step {b = d} way t) = then_step (step_first Step a b d s way) t
@@ -34,5 +35,6 @@ kept_within (suc n) rows i j a b near order there here leads none = elim (ℕ_di
   })))
 ]
 
+-- where a row synchronizes with a later one, it cannot be that no way of arrows leads there
 pub order_kept : OrderIsKept
 order_kept rows i j a b = kept_within (j - i) rows i j a b (omega arith)

@@ -14,6 +14,7 @@ use Rattle.gl_picture.specs.Arrows.{HasRow, IsArrow, IsBetween, Leads, by_events
 abbrev pub Met : ℕ → ℕ → Option Event → Option Event → Type 0
 Met t u g k = (e : Event) × (f : Event) × (g ≡ Some e) × (k ≡ Some f) × SynchronizesWith (stamped t e) (stamped u f)
 
+-- a test that two events synchronize tells whether the two rows meet
 pub meet_by : (t u : ℕ) (g k : Option Event) (e f : Event) (r : Bool) → g ≡ Some e → k ≡ Some f
     → IsTrue r ↔ SynchronizesWith (stamped t e) (stamped u f) → IsTrue r ↔ Met t u g k
 meet_by t u g k e f r given taken test = (
@@ -80,6 +81,7 @@ module _ (rows : List Told) (a b : Told) (i j : ℕ) where
 abbrev pub HasBetween : List Told → Told → Told → ℕ → ℕ → ℕ → Type 0
 HasBetween rows a b i j n = (k : ℕ) × (c : Told) × (i < k) × (k < n) × (slice_get rows k ≡ Some c) × IsBetween rows a b i j k c
 
+-- where no row below k leads between two, and the row at k does not, none up to k does
 pub between_on : (rows : List Told) (a b : Told) (i j k : ℕ) (c : Told) → slice_get rows k ≡ Some c → (IsBetween rows a b i j k c → ⊥)
     → (HasBetween rows a b i j k → ⊥) → HasBetween rows a b i j (k + 1) → ⊥
 between_on rows a b i j k c there never none (h, q, after, near, at, is) = elim (cases_lt h k) [
@@ -91,6 +93,7 @@ between_on rows a b i j k c there never none (h, q, after, near, at, is) = elim 
       never (subst (λ z. IsBetween rows a b i j z c) here (subst (IsBetween rows a b i j h) same is)))
 ]
 
+-- below the length of a list there is an element
 pub some_at : {A : Type 0} (xs : List A) (i : ℕ) → i < length xs → (x : A) × (slice_get xs i ≡ Some x)
 some_at [] i near = absurd (omega arith)
 some_at (y ∷ xs) zero near = (y, refl)
@@ -174,5 +177,6 @@ module _ (rows : List Told) (i j : ℕ) where
             )),
       )
 
+-- a test that is false tells that what it tests is not so
 pub false_no : (b : Bool) (P : Type 0) → b ≡ false → IsTrue b ↔ P → P → ⊥
 false_no b P fails test p = (let yes = test.1 p in cc)

@@ -9,10 +9,12 @@ use Rattle.gl_explain.specs.Told.{step_of, trace_of}
 use Rattle.gl_explain.proofs.Behind.{map_there}
 use Rattle.gl_picture.specs.Arrows.{AreNarrow}
 
+-- the steps of the trace of told lines are the steps of each
 steps_told : (told : List Told) → steps_of (trace_of told) ≡ map step_of told
 steps_told [] = refl
 steps_told (k ∷ ks) = ap (λ r. step_of k ∷ r) (steps_told ks)
 
+-- told lines whose trace is well-formed have no commit that is too wide
 pub are_narrow : (told : List Told) → AreLines (trace_of told) → AreNarrow told
 are_narrow told are i k there =
     let steps = map step_of told in

@@ -30,13 +30,16 @@ cell_old [] clock p u l = absurd (omega arith)
 cell_old (r ∷ rows) clock zero u l = refl
 cell_old (r ∷ rows) clock (suc p) u l = cell_old rows clock p u (omega arith)
 
+-- a cell in the row that is put last is that of the row's clock
 cell_new : (rows : List (List ℕ)) (clock : List ℕ) (u : ℕ) → cell (rows ++ clock ∷ []) (length rows) u ≡ at clock u
 cell_new [] clock u = refl
 cell_new (r ∷ rows) clock u = cell_new rows clock u
 
+-- rows with one more are longer by one
 one_longer : (rows : List (List ℕ)) (clock : List ℕ) → length (rows ++ clock ∷ []) ≡ length rows + 1
 one_longer rows clock = length-append rows (clock ∷ [])
 
+-- the history up to one event more is the history up to it, and then the event
 event_more : (h : List Stamp) (i : ℕ) (s : Stamp) → EventAt h i s → take (i + 1) h ≡ take i h ++ s ∷ []
 event_more h i s e = take_more h i s (slice_get_within h i s e) ∙ ap (λ z. take i h ++ z ∷ []) (get_or_from_slice_get h i s s e)
 
@@ -45,6 +48,7 @@ pub place_at : (ps : List StoredPlace) (i : ℕ) (d : StoredPlace) → i < lengt
     ≡ Some (seen_place (get_or ps i d))
 place_at ps i d l = slice_get-map seen_place ps i ∙ ap (option_map seen_place) (slice_get-get_or ps i d l)
 
+-- the rows and the tables go on being those of the events, with the clock of the next one put last
 pub next_row :
     (R : Lists) (cs : List Place) (i : ℕ) (c : Place) (rows : List (List ℕ)) (clock : List ℕ) (old new : Tables) → AreEventPlaces R cs
     → slice_get cs i ≡ Some c → AreRows R i rows old → IsSized new →

@@ -11,6 +11,7 @@ use Rattle.gl_model.specs.Records.{Lists, Place, EntryAt, IsBlockOf, position_of
 use Rattle.gl_draws.specs.Ties.{or_else, last_position, BlockAt}
 use Rattle.gl_raised.specs.Accesses.{IsAccess}
 
+-- where no position was found before a place, no entry before it has one
 no_event : (es : List Entry) (n : ℕ) → last_position (take n es) ≡ None → (j q : ℕ) (f : Entry) → At es j f → j < n → position_of f
     ≡ Some q → ⊥
 no_event [] n none j q f a near i = cc
@@ -32,6 +33,7 @@ trim_or_none (Abort tx why) = inr (λ t. t)
 trim_or_none (Trim low) = inl tt
 trim_or_none (Over ending) = inr (λ t. t)
 
+-- a begin has a position
 begin_event : (e : Entry) → IsBegin e → (p : ℕ) × (position_of e ≡ Some p)
 begin_event (Sync at (Begin f) value) b = (at, refl)
 begin_event (Sync at End value) b = absurd b
@@ -42,6 +44,7 @@ begin_event (Abort tx why) b = absurd b
 begin_event (Trim low) b = absurd b
 begin_event (Over ending) b = absurd b
 
+-- an access is no trim
 access_no_trim : (e : Entry) → IsAccess e → IsTrim e → ⊥
 access_no_trim (Trim low) a t = a
 access_no_trim (Sync at act value) a t = t
@@ -61,6 +64,7 @@ all_trims t es form n none (suc k) j f near within a = elim (trim_or_none f) [
       let p = begin_event f b in absurd (no_event es n none j p.0 f a within p.1))
 ]
 
+-- in a well-formed record each access stands in a block of its thread
 pub has_block : (R : Lists) → Form R → (c : Place) (e : Entry) → EntryAt R c e → IsAccess e → (q : ℕ) × BlockAt (R c.thread) c.index q
 has_block R form c e here is = from (last_position (take (suc c.index) (R c.thread))) refl
   where
@@ -77,6 +81,7 @@ end_entry (Sync at act value) i = let z : act ≡ End = cc in absurd (cc)
 end_entry (Commit at tx) i = absurd (cc)
 end_entry _ i = absurd (cc)
 
+-- an access is not an end
 access_no_end : (e : Entry) → IsAccess e → IsEnd e → ⊥
 access_no_end (Sync at act value) a i = a
 access_no_end (Commit at tx) a i = i
@@ -85,6 +90,7 @@ access_no_end (Abort tx why) a i = i
 access_no_end (Trim low) a i = i
 access_no_end (Over ending) a i = i
 
+-- an access does not end the list
 access_no_over : (e : Entry) → IsAccess e → IsOver e → ⊥
 access_no_over (Sync at act value) a i = a
 access_no_over (Commit at tx) a i = i
@@ -93,6 +99,7 @@ access_no_over (Abort tx why) a i = i
 access_no_over (Trim low) a i = i
 access_no_over (Over ending) a i = a
 
+-- the event of an access's block is not an end
 pub goes_on : (R : Lists) → Form R → (c : Place) (e : Entry) → EntryAt R c e → IsAccess e → (q : ℕ) → (b : IsBlockOf R c q)
     → b.event.event ≢ Does End
 goes_on R form c e here is q b ends = elim (eq-or-lt_of_le b.within) [

@@ -2,6 +2,7 @@
 use Rattle.std.proofs.Common.{◌≡◌, ◌≢◌, ℕ, zero, suc, List, [], ◌∷◌, refl, ap, sym, inl, inr, arith, Some}
 use Rattle.std.specs.Prelude.{◌⊎◌, slice_get, slice_set}
 
+-- what stands in a list where one element was set is the new one there, and the old ones elsewhere
 pub set_cells : {A : Type 0} (xs : List A) (i : ℕ) (y : A) (k : ℕ) (x : A) → slice_get (slice_set xs i y) k ≡ Some x → ((k ≡ i) × (x ≡ y))
     ⊎ ((k ≢ i) × (slice_get xs k ≡ Some x))
 set_cells [] i y k x e = inr ((λ z. absurd (cc)), e)

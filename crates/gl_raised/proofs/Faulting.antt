@@ -45,6 +45,7 @@ run_from setting f (s ∷ ys) n m is steps =
     let k = steps 0 n s refl (omega arith) in
     (k.0, f (n + 1), k.1, run_from setting f ys (n + 1) m (omega arith) (λ p q t e w. steps (suc p) q t e (omega arith)))
 
+-- the history that a record's entries make is allowed, if the machine runs it
 pub allowed_of : (setting : Setting) (R : Lists) (h : List Stamp) → IsEventList h R → (run : IsMachineRun setting R h)
     → Allows setting h (run.at (length h))
 allowed_of setting R h is run = subst (λ o. Run setting o h (run.at (length h))) run.first
@@ -63,6 +64,7 @@ plain_var R c var nth cached write raised value here x r =
     (subst (λ f. NumberOn f x r.before.later) (same_entry R c r.before.second (Plain var nth cached write value raised) r.before.here here)
     r.before.also_numbered).0
 
+-- an access is raised rightly exactly where the variable it raised on is the least of those it races on
 rightly : (R : Lists) (c : Place) (e : Entry) → EntryAt R c e → IsAccess e → IsRaisedRightly R c e ↔ IsLeast (IsRacy R c) (raised_on e)
 rightly R c (Plain var nth cached write value true) here is = (
   λ r. (r.0 refl, λ y l p. let z = plain_var R c var nth cached write true value here y p in omega arith),
@@ -89,6 +91,7 @@ access_or_right R c (Sync at act value) = inr tt
 access_or_right R c (Trim low) = inr tt
 access_or_right R c (Over ending) = inr tt
 
+-- two least numbers of one property are the same
 least_one : (P : ℕ → Type 0) (a b : Option ℕ) → IsLeast P a → IsLeast P b → a ≡ b
 least_one P None None l m = refl
 least_one P None (Some y) l m = absurd (l y m.0)
@@ -99,10 +102,12 @@ least_one P (Some x) (Some y) l m = ap Some
       | inr ge ↦ elim (eq-or-lt_of_le ge) [ inl same ↦ sym same | inr lt ↦ absurd (l.1 y lt m.0) ]
     ])
 
+-- the least number of a property is that of any property with the same numbers
 least_as : (P Q : ℕ → Type 0) → ((x : ℕ) → P x ↔ Q x) → (o : Option ℕ) → IsLeast P o → IsLeast Q o
 least_as P Q same None l = λ x q. l x ((same x).1 q)
 least_as P Q same (Some x) l = ((same x).0 l.0, λ y lt q. l.1 y lt ((same y).1 q))
 
+-- of two places each is not before the other
 not_before : (c d : Place) → Before c d → Before d c → ⊥
 not_before c d (inl l) (inl m) = omega arith
 not_before c d (inl l) (inr m) = let z = m.0 in omega arith
@@ -214,6 +219,7 @@ module _ (R : Lists) (claims : List Claim) (old us : List Access) (rows before k
         ],
       )
 
+-- each number of a list has a variable that there is, if all of their variables are
 map_all : (ns : List Number) → AllByRecursion (λ x. x < VARIABLES) (map (λ n. n.var) ns) → (x n : ℕ)
     → Contains ns (record { var = x; nth = n }) → x < VARIABLES
 map_all ns all x n (i, l, e) = all_at (λ y. y < VARIABLES) (λ (m : Number). m.var) ns all i (record { var = x; nth = n })

@@ -18,15 +18,18 @@ use Rattle.gl_raised.specs.Gathers.{AreGathered, IsClaimOf, block_before}
 use Rattle.gl_raised.specs.declared.access.Access.{Access}
 use Rattle.gl_raised.specs.declared.access.Claim.{Claim}
 
+-- a claim stands where it stood when more claims are put after
 claim_kept : (ls more : List Claim) (k : ℕ) (l : Claim) → slice_get ls k ≡ Some l → slice_get (ls ++ more) k ≡ Some l
 claim_kept [] more k l a = cc
 claim_kept (x ∷ ls) more zero l a = a
 claim_kept (x ∷ ls) more (suc k) l a = claim_kept ls more k l a
 
+-- a claim that is put last stands at the old length
 claim_new : (ls : List Claim) (l : Claim) → slice_get (ls ++ l ∷ []) (length ls) ≡ Some l
 claim_new [] l = refl
 claim_new (x ∷ ls) l = claim_new ls l
 
+-- a claim among those with one put last stood before, or is that one at the old length
 claim_cases : (ls : List Claim) (l m : Claim) (k : ℕ) → slice_get (ls ++ l ∷ []) k ≡ Some m → (slice_get ls k ≡ Some m)
     ⊎ ((k ≡ length ls) × (m ≡ l))
 claim_cases [] l m zero a = inr (refl, let s : l ≡ m = cc in sym s)
@@ -39,14 +42,17 @@ or_nested : (o p q : Option ℕ) → or_else (or_else o p) q ≡ or_else o (or_e
 or_nested (Some x) p q = refl
 or_nested None p q = refl
 
+-- something, or else nothing, is that something
 or_none : (o : Option ℕ) → or_else o None ≡ o
 or_none (Some x) = refl
 or_none None = refl
 
+-- the last position of a list with an entry more is that of the entry, or else of the list
 last_more : (es : List Entry) (e : Entry) → last_position (es ++ e ∷ []) ≡ or_else (position_of e) (last_position es)
 last_more [] e = sym (or_none (position_of e))
 last_more (x ∷ es) e = ap (λ o. or_else o (position_of x)) (last_more es e) ∙ or_nested (position_of e) (last_position es) (position_of x)
 
+-- the block after an entry is its position, or else the block before it
 after_means : (o : Option ℕ) (e : Entry) → unwrap_or (or_else (position_of e) o) 0 ≡ block_after (unwrap_or o 0) e
 after_means o (Sync at act value) = refl
 after_means o (Commit at tx) = refl
@@ -55,6 +61,7 @@ after_means o (Abort tx why) = refl
 after_means o (Trim low) = refl
 after_means o (Over ending) = refl
 
+-- the block before the next place is that after the entry there
 pub block_more : (es : List Entry) (i b : ℕ) (e : Entry) → slice_get es i ≡ Some e → b ≡ block_before es i → block_after b e
     ≡ block_before es (i + 1)
 block_more es i b e there is =
@@ -69,6 +76,7 @@ pub data ClaimKind (e : Entry) : Type 0 where
   one_claim : IsAccess e → ((p : StoredPlace) (b : ℕ) → claims_of p b e ≡ (record { place = p; block = b; raised = raised_on e }) ∷ [])
       → ClaimKind e
 
+-- each entry is no access, or has one claim
 kind_of : (e : Entry) → ClaimKind e
 kind_of (Sync at act value) = no_access (λ a. a) (λ p b. refl) (λ k t b. refl)
 kind_of (Commit at tx) = one_claim tt (λ p b. refl)
@@ -87,6 +95,7 @@ next_cases c t i (inr s) = elim (cases_lt c.index i) [
   | inr ge ↦ inr (same_place c (record { thread = t; index = i }) s.0 (let z : c.index ≡ i = (let w = s.1 in omega arith) in z))
 ]
 
+-- a place before one entry of a thread is before the next
 next_before : (c : Place) (t i : ℕ) → Before c (record { thread = t; index = i }) → Before c (record { thread = t; index = i + 1 })
 next_before c t i (inl lt) = inl lt
 next_before c t i (inr s) = inr (s.0, let w = s.1 in omega arith)

@@ -10,6 +10,7 @@ use Rattle.gl_model.specs.declared.record.Entry.{Entry as StoredEntry}
 use Rattle.gl_model.specs.Kept.{IsEntryKept, IsListKept, IsRecord}
 use Rattle.gl_model.specs.Lists.{list_of, lists_of}
 
+-- each thread that has a list in a record is one that there is, and its entries are kept
 pub list_kept : (ls : List (ℕ × List Entry)) → AllByRecursion IsListKept ls → (t : ℕ) (es : List Entry) → list_of ls t ≡ Some es
     → (t < THREADS) × AllByRecursion IsEntryKept es
 list_kept [] kept t es e = absurd (cc)
@@ -24,11 +25,13 @@ list_kept (l ∷ ls) kept t es e = by (l.0 == t) refl e (list_kept ls kept.1 t e
     )
     by false other e' rec = rec e'
 
+-- in a list of kept entries, the entry at each place is kept
 pub at_kept : (es : List Entry) → AllByRecursion IsEntryKept es → (i : ℕ) (e : Entry) → slice_get es i ≡ Some e → IsEntryKept e
 at_kept [] kept i e at = absurd (cc)
 at_kept (x ∷ es) kept zero e at = let z : x ≡ e = cc in subst IsEntryKept z kept.0
 at_kept (x ∷ es) kept (suc i) e at = at_kept es kept.1 i e at
 
+-- each entry that a record has at a place is kept, and its thread is one that there is
 pub entry_kept : (ls : List (ℕ × List Entry)) → IsRecord ls → (t i : ℕ) (e : Entry) → slice_get (lists_of ls t) i ≡ Some e → (t < THREADS)
     × IsEntryKept e
 entry_kept ls kept t i e at = by (list_of ls t) refl at

@@ -15,9 +15,11 @@ use Rattle.gl_raised.specs.Judged.{IsPerformedSince, AreLasts, IsRacyBy, IsRacyC
 use Rattle.gl_raised.proofs.Cells.{set_cells}
 use Rattle.gl_raised.proofs.Walked.{earlier_cases, earlier_old, earlier_new, not_true, not_false}
 
+-- a test that a number is no greater tells that it is not
 le_true : (n k : ℕ) → nat_le n k ≡ true → n ≤ k
 le_true n k e = search rules
 
+-- a number that is no greater passes the test
 true_le : (n k : ℕ) → n ≤ k → nat_le n k ≡ true
 true_le n k l = search rules
 
@@ -33,6 +35,7 @@ later_means (Some before) tick n = (
   ],
 )
 
+-- a mark noted where a test is true is at least n if it was, or the tick is and the test is true
 where_means : (ok b : Bool) (m : Option ℕ) (tick n : ℕ)
     → (at_least (if ok && b then later m tick else m) n ≡ true) ↔ ((at_least m n ≡ true) ⊎ ((ok ≡ true) × (b ≡ true) × (n ≤ tick)))
 where_means true true m tick n = let l = later_means m tick n
@@ -47,6 +50,7 @@ is_kind false true c w = not c && w
 is_kind true false c w = c && not w
 is_kind true true c w = c && w
 
+-- an access is of a kind exactly where commit and write agree
 kind_means : (commit write c w : Bool) → (is_kind commit write c w ≡ true) ↔ ((c ≡ commit) × (w ≡ write))
 kind_means false false c w = (
   λ e. let b = and_both (not c) (not w) e
@@ -57,6 +61,7 @@ kind_means false true c w = (λ e. let b = and_both (not c) w e in (not_true c b
 kind_means true false c w = (λ e. let b = and_both c (not w) e in (b.0, not_true w b.1), λ s. and_true c (not w) s.0 (not_false w s.1))
 kind_means true true c w = (λ e. and_both c w e, λ s. and_true c w s.0 s.1)
 
+-- noting by kind is noting where the access is of the kind
 noted_kind : (a : Access) (commit write : Bool) (t : ℕ) (m : Option ℕ) → noted a commit write t m
     ≡ noted_where a (is_kind commit write a.commit a.write) t m
 noted_kind a false false t m = refl
@@ -64,6 +69,7 @@ noted_kind a false true t m = refl
 noted_kind a true false t m = refl
 noted_kind a true true t m = refl
 
+-- a mark with an access noted is at least n if it was, or the access is of that kind and thread and its tick is
 noted_means :
     (a : Access) (commit write : Bool) (t n : ℕ) (m : Option ℕ) →
     (at_least (noted a commit write t m) n ≡ true) ↔ ((at_least m n ≡ true)
@@ -199,9 +205,11 @@ fails_cases p q r s c w e = elim (or_cases ((p || (w && q)) || (not c && r)) ((n
   | inr e1 ↦ (let b = and_both (not c && w) s e1 in let d = and_both (not c) w b.0 in inr (inr (inr (not_true c d.0, d.1, b.1))))
 ]
 
+-- two accesses may conflict: one of them writes and not both are commits
 abbrev MayConflict : Bool → Bool → Bool → Bool → Type 0
 MayConflict kc kw c w = ((kw ≡ true) ⊎ (w ≡ true)) × ((kc ≡ false) ⊎ (c ≡ false))
 
+-- a thread that fails has a kind that may conflict, and the mark of that kind is at least what was known
 fails_out : (l : Lasts) (known t : ℕ) (c w : Bool) → thread_fails l known t c w ≡ true → (kc : Bool) × (kw : Bool) × MayConflict kc kw c w
     × (at_least (mark_of l kc kw t) known ≡ true)
 fails_out l known t c w e = elim (fails_cases (at_least (mark_of l false true t) known) (at_least (mark_of l false false t) known)
@@ -212,6 +220,7 @@ fails_out l known t c w e = elim (fails_cases (at_least (mark_of l false true t)
       | inr (inr (inr s)) ↦ (true, false, (inr s.1, inr s.0), s.2)
     ]
 
+-- a thread whose mark of a kind that may conflict is at least what was known fails
 fails_in : (l : Lasts) (known t : ℕ) (c w kc kw : Bool) → MayConflict kc kw c w → at_least (mark_of l kc kw t) known ≡ true
     → thread_fails l known t c w ≡ true
 fails_in l known t c w false true m e = or_left _ _ (or_left _ _ (or_left _ _ e))
@@ -221,6 +230,7 @@ fails_in l known t c w true false m e = or_right _ _
     (and_true (not c && w) _ (and_true (not c) w (not_false c (elim m.1 [ inl z ↦ cc | inr z ↦ z ])) (elim m.0 [ inl z ↦ cc | inr z ↦ z ]))
     e)
 
+-- an answer that is true exactly where some other thread fails is true exactly where the access races
 pub racy_means :
     (known : List (List ℕ)) (us : List Access) (i : ℕ) (a : Access) (lasts : List Lasts) (l : Lasts) (answer : Bool)
     → slice_get lasts a.var ≡ Some l → AreOfThreads us → AreLasts us i lasts →
@@ -255,12 +265,14 @@ racy_means known us i a lasts l answer there threads know is = (
       ),
 )
 
+-- the least numbers with one cell changed are the new least there, and the old ones elsewhere
 pub least_cells :
     (old : List (Option ℕ)) (k x : ℕ) (was o : Option ℕ) → o ≡ least_of was x →
     (m : ℕ) (p : Option ℕ) → slice_get (slice_set old k o) m ≡ Some p → ((m ≡ k) × (p ≡ least_of was x))
     ⊎ ((m ≢ k) × (slice_get old m ≡ Some p))
 least_cells old k x was o is m p e = elim (set_cells old k o m p e) [ inl s ↦ inl (s.0, s.1 ∙ is) | inr w ↦ inr w ]
 
+-- accesses that lie within the limits have threads that there are
 pub threads_of : (n : ℕ) (us : List Access) → All (λ a. IsWithin n a) us → AreOfThreads us
 threads_of n us all j v e = let w = All-get_or (λ a. IsWithin n a) us j v (slice_get_within us j v e) all
     in subst (λ (a : Access). a.thread < THREADS) (get_or_from_slice_get us j v v e) w.1

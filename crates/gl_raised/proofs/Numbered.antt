@@ -22,6 +22,7 @@ taken_more f xs i x e =
     ap (map f) (take_more xs i x (slice_get_within xs i x e) ∙ ap (λ z. take i xs ++ z ∷ []) (get_or_from_slice_get xs i x x e))
     ∙ map-append f (take i xs) (x ∷ [])
 
+-- the variable of the next number is put last among those before it
 put_last : (ns : List Number) → Rises (map (λ n. n.var) ns) → (i : ℕ) (n : Number) → slice_get ns i ≡ Some n
     → with_one n.var (map (λ n. n.var) (take i ns)) ≡ map (λ n. n.var) (take (suc i) ns)
 put_last [] rises i n e = absurd (cc)
@@ -32,6 +33,7 @@ put_last (m ∷ ns) rises (suc i) n e =
     let over : nat_lt n.var m.var ≡ false = grind (arith, nat_tests) in
     rw (other, over) (ap (λ l. m.var ∷ l) (put_last ns rises.1 i n e))
 
+-- the variables up to one place more are those up to it, with its own put among them
 pub named_more :
     (ns : List Number) → Rises (map (λ n. n.var) ns) → (i : ℕ) (n : Number) (all new : List ℕ) → slice_get ns i ≡ Some n → all
     ≡ map (λ n. n.var) (take i ns) → new ≡ with_one n.var all →

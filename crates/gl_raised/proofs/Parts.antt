@@ -25,9 +25,11 @@ pub record IsPart (k t b : ℕ) (e : Entry) (a : Access) : Type 0 where
       ((IsCommit e × (a.commit ≡ true) × (a.performed ≡ true) × (a.tick ≡ b))
       ⊎ (IsRefusedCommit e × (a.commit ≡ true) × (a.performed ≡ false) × (a.tick ≡ b)))
 
+-- the first is in its list
 contains_first : {A : Type 0} (x : A) (xs : List A) → Contains (x ∷ xs) x
 contains_first x xs = Contains-append_left (x ∷ []) xs x (zero, omega arith, refl)
 
+-- what is in a one-element list is its element
 one_contains : {A : Type 0} (x y : A) → Contains (x ∷ []) y → x ≡ y
 one_contains x y (zero, l, e) = e
 one_contains x y (suc i, l, e) = absurd (omega arith)
@@ -52,9 +54,11 @@ writes_means (w ∷ ws) x = by (w.var == x) refl (writes_means ws x)
       ],
     )
 
+-- a number made of a variable and its place
 abbrev named : ℕ → ℕ → Number
 named x k = record { var = x; nth = k }
 
+-- the access that a plain entry makes is the part of it
 plain_part : (k t b x n : ℕ) (c w : Bool) (value : ℤ) (raised : Bool)
     → IsPart k t b (Plain x n c w value raised) (plain_of k t b x n w raised)
 plain_part k t b x n c w value raised = record {
@@ -73,6 +77,7 @@ plain_part k t b x n c w value raised = record {
     not_false true e = cc
     not_false false e = refl
 
+-- each access of an entry is a part of it
 pub part_means : (k t b : ℕ) (e : Entry) (a : Access) → Contains (accesses_of k t b e) a → IsPart k t b e a
 part_means k t b (Sync at act value) a c = absurd (let l = c.1 in omega arith)
 part_means k t b (Commit at tx) a c =

@@ -79,6 +79,7 @@ commit_block [] i at tx e = absurd (cc)
 commit_block (x ∷ es) zero at tx e = let z : x ≡ Commit at tx = cc in rw z refl
 commit_block (x ∷ es) (suc i) at tx e = rw (commit_block es i at tx e) refl
 
+-- a commit has an event, that of a commit, which is its own block
 commit_event : (R : Lists) (c : Place) (e : Entry) → EntryAt R c e → IsCommit e → (p : ℕ) × (s : Stamp) × IsEventAt R c p s
     × ((xs : List ℕ) × (s.event ≡ Commits xs)) × BlockAt (R c.thread) c.index p
 commit_event R c (Commit at tx) here is = (
@@ -94,6 +95,7 @@ commit_event R c (Abort tx why) here is = absurd is
 commit_event R c (Trim low) here is = absurd is
 commit_event R c (Over ending) here is = absurd is
 
+-- an entry that has a number is an access
 number_access : (e : Entry) (x k : ℕ) → NumberOn e x k → IsAccess e
 number_access (Plain var nth cached write value raised) x k n = tt
 number_access (Sync at act value) x k n = absurd n
@@ -103,6 +105,7 @@ number_access (Abort tx (Changed var read found)) x k n = absurd n
 number_access (Trim low) x k n = absurd n
 number_access (Over ending) x k n = absurd n
 
+-- a commit that was performed is not a refused one
 no_two : (e : Entry) → IsCommit e → IsRefusedCommit e → ⊥
 no_two (Commit at tx) i r = r
 no_two (Sync at act value) i r = i
@@ -111,6 +114,7 @@ no_two (Abort tx why) i r = i
 no_two (Trim low) i r = i
 no_two (Over ending) i r = i
 
+-- a plain entry is no commit
 not_plain_commit : (e : Entry) → IsPlain e → IsCommit e → ⊥
 not_plain_commit (Plain var nth cached write value raised) i r = r
 not_plain_commit (Commit at tx) i r = i
@@ -119,6 +123,7 @@ not_plain_commit (Abort tx why) i r = i
 not_plain_commit (Trim low) i r = i
 not_plain_commit (Over ending) i r = i
 
+-- a plain entry is no refused commit
 not_plain_refused : (e : Entry) → IsPlain e → IsRefusedCommit e → ⊥
 not_plain_refused (Plain var nth cached write value raised) i r = r
 not_plain_refused (Commit at tx) i r = i
@@ -137,6 +142,7 @@ draws_itself (Sync at act value) x k w n = absurd n
 draws_itself (Trim low) x k w n = absurd n
 draws_itself (Over ending) x k w n = absurd n
 
+-- a commit is performed
 commit_done : (e : Entry) → IsCommit e → IsPerformed e
 commit_done (Commit at tx) i = tt
 commit_done (Sync at act value) i = absurd i
@@ -145,6 +151,7 @@ commit_done (Abort tx why) i = absurd i
 commit_done (Trim low) i = absurd i
 commit_done (Over ending) i = absurd i
 
+-- a refused commit is not performed
 refused_not_done : (e : Entry) → IsRefusedCommit e → IsPerformed e → ⊥
 refused_not_done (Abort tx why) i p = p
 refused_not_done (Commit at tx) i p = i

@@ -6,6 +6,7 @@ use Rattle.gl_core.specs.Cells.{at, cell}
 use Rattle.gl_raised.specs.declared.access.Access.{Access}
 use Rattle.gl_raised.specs.Earlier.{Earlier, handed_on, IsHandedOn, IsLearned, VariablesKnow, ClaimsKnow}
 
+-- what is below the greater of two is below one of them
 below_max : (k a b : ℕ) → (k < max a b) ↔ ((k < a) ⊎ (k < b))
 below_max k a b = (
   λ l. elim (cases_lt k a) [ inl x ↦ inl x | inr x ↦ inr (omega arith) ],
@@ -15,15 +16,18 @@ below_max k a b = (
   ],
 )
 
+-- what comes earlier than the place after is earlier than the place, or stands at it
 pub earlier_cases : (us : List Access) (i : ℕ) (v : Access) → Earlier us (i + 1) v → Earlier us i v ⊎ (slice_get us i ≡ Some v)
 earlier_cases us i v (j, l, e) = elim (cases_lt j i) [
   | inl lt ↦ inl (j, lt, e)
   | inr ge ↦ inr (let s : j ≡ i = omega arith in subst (λ k. slice_get us k ≡ Some v) s e)
 ]
 
+-- what comes earlier than a place comes earlier than the place after it
 pub earlier_old : (us : List Access) (i : ℕ) (v : Access) → Earlier us i v → Earlier us (i + 1) v
 earlier_old us i v (j, l, e) = (j, omega arith, e)
 
+-- what stands at a place comes earlier than the place after it
 pub earlier_new : (us : List Access) (i : ℕ) (v : Access) → slice_get us i ≡ Some v → Earlier us (i + 1) v
 earlier_new us i v e = (i, omega arith, e)
 
@@ -143,10 +147,12 @@ module _ (rows : List (List ℕ)) (us : List Access) (i : ℕ) (a : Access) (her
     ],
   )
 
+-- what is true when negated is false
 pub not_true : (b : Bool) → not b ≡ true → b ≡ false
 not_true true e = cc
 not_true false e = refl
 
+-- what is false is true when negated
 pub not_false : (b : Bool) → b ≡ false → not b ≡ true
 not_false true e = cc
 not_false false e = refl

@@ -23,6 +23,7 @@ use Rattle.gl_riders.specs.Riding.{Rides, DrawsFor, life_at}
 use Rattle.gl_riders.proofs.Growing.{rides_few}
 use Rattle.gl_riders.proofs.Telling.{LifeFor}
 
+-- at an orderly stage that asks something, the thread's life is one in which that may be asked
 stage_life : (P : Bytecode) (c : Config) (stage : Stage) → StageIsOrderly P c stage → IsAsk (ask_of stage)
     → LifeFor (ask_of stage) (life_at stage)
 stage_life P c New orderly asks = absurd asks
@@ -50,10 +51,12 @@ stage_life P c (Leaves ending o) orderly asks = refl
 stage_life P c (Ends ending) orderly asks = refl
 stage_life P c (IsOver ending) orderly asks = absurd asks
 
+-- a thread that rides on its list may ask what it asks in the life that its list gives it
 pub rides_life : (P : Bytecode) (id : TableId) (c : Config) (own : Own) (txn : Option Attempting) → Rides P id c own txn
     → IsAsk (ask_of c.stage) → LifeFor (ask_of c.stage) (life_of own.mine)
 rides_life P id c own txn rides asks = rw rides.life (stage_life P c c.stage rides.orderly.stage asks)
 
+-- an option that is not something is nothing
 none_some : {A : Type 0} (o : Option A) → is_some o ≡ false → o ≡ None
 none_some None is = refl
 none_some (Some a) is = cc
@@ -67,12 +70,14 @@ outside_by : (o : Option Attempt) (ask : Ask) → Attends o ask → (IsAskedInsi
 outside_by None ask attends out = refl
 outside_by (Some a) ask attends out = absurd (out attends)
 
+-- what is not asked inside an attempt is asked outside one
 pub outside : (P : Bytecode) (id : TableId) (c : Config) (own : Own) (txn : Option Attempting) → Rides P id c own txn
     → (IsAskedInside (ask_of c.stage) → ⊥) → IsOutside c txn
 outside P id c own txn rides out =
     let none : c.attempt ≡ None = outside_by c.attempt (ask_of c.stage) rides.fits.attends out in
     record { attempt = none; idle = none_some txn (rides.running ∙ ap is_some none) }
 
+-- an event is not asked inside an attempt
 event_inside : (ask : Ask) → IsEvent ask → IsAskedInside ask → ⊥
 event_inside Go event inside = event
 event_inside Begin event inside = inside
@@ -92,6 +97,7 @@ event_inside Input event inside = inside
 event_inside TxBegin event inside = event
 event_inside (TxEnd keep) event inside = event
 
+-- an event is something that is asked
 event_asks : (ask : Ask) → IsEvent ask → IsAsk ask
 event_asks Go event = absurd event
 event_asks Begin event = tt
@@ -111,10 +117,12 @@ event_asks Input event = tt
 event_asks TxBegin event = absurd event
 event_asks (TxEnd keep) event = absurd event
 
+-- a thread that asks for an event is outside an attempt
 pub event_outside : (P : Bytecode) (id : TableId) (c : Config) (own : Own) (txn : Option Attempting) → Rides P id c own txn
     → IsEvent (ask_of c.stage) → IsOutside c txn
 event_outside P id c own txn rides event = outside P id c own txn rides (event_inside (ask_of c.stage) event)
 
+-- a thread that asks for an event may do so in its life
 pub event_life : (P : Bytecode) (id : TableId) (c : Config) (own : Own) (txn : Option Attempting) → Rides P id c own txn
     → IsEvent (ask_of c.stage) → LifeFor (ask_of c.stage) (life_of own.mine)
 event_life P id c own txn rides event = rides_life P id c own txn rides (event_asks (ask_of c.stage) event)
@@ -128,6 +136,7 @@ record MayBegin (z : TableView) (v : PassView) : Type 0 where
   spare : 0 < v.spare
   few : counted v.own.mine < 2 ^ 50
 
+-- a pass that may begin, of a thread whose life is the call's, may make the call
 may_call : (z : TableView) (v : PassView) (c : Call) → MayBegin z v → life_of v.own.mine ≡ life_for c → MayCall c z v
 may_call z v c may life = record {
   table = may.table;
@@ -139,6 +148,7 @@ may_call z v c may life = record {
   life = life;
 }
 
+-- a pass that may begin, of a thread whose life allows what is asked, may ask it
 may_by : (z : TableView) (v : PassView) (ask : Ask) → LifeFor ask (life_of v.own.mine) → MayBegin z v → MayAsk z v ask
 may_by z v Begin life may = may_call z v call.Begin may life
 may_by z v End life may = may_call z v call.End may life
@@ -158,9 +168,11 @@ may_by z v (Write x a) life may = tt
 may_by z v TxBegin life may = tt
 may_by z v (TxEnd keep) life may = tt
 
+-- outside an attempt a pass has drawn nothing
 pub no_draws : (txn : Option Attempting) (own : Own) → txn ≡ None → DrawsFor txn own → own.drawn ≡ []
 no_draws txn own none draws = (let d : DrawsFor None own = (rw none at draws) in d)
 
+-- a thread that owes nothing and has steps to spare may ask for an event
 pub may_ask : (P : Bytecode) (z : TableView) (c : Config) (v : PassView) (txn : Option Attempting) → Rides P z.id c v.own txn → v.own.owed
     ≡ [] → 0 < v.spare → IsEvent (ask_of c.stage) → MayAsk z v (ask_of c.stage)
 may_ask P z c v txn rides clear room event =

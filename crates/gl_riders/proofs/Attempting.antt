@@ -44,9 +44,11 @@ use Rattle.gl_riders.specs.Sparing.{allows}
 use Rattle.gl_riders.specs.Tries.{access_ask, access_reply, end_reply}
 use Rattle.gl_riders.proofs.Lists.{levels_push, life_push}
 
+-- a whole number is the same as itself
 same_int : (v : ℤ) → int_eq v v ≡ true
 same_int v = search rules
 
+-- a number is the same as itself
 same_nat : (n : ℕ) → (n == n) ≡ true
 same_nat n = eq-eqb n n refl
 
@@ -59,12 +61,14 @@ numbered (Some r) None n is = refl
 numbered (Some (k, true)) (Some a) n is = refl
 numbered (Some (k, false)) (Some a) n is = cc
 
+-- where no number is found for a repeat, the right does not allow it
 unnumbered : (r : Option (ℕ × Bool)) (write : Option ℤ) → repeat_number r write ≡ None → false ≡ allows r (is_some write)
 unnumbered None write is = refl
 unnumbered (Some r) None is = cc
 unnumbered (Some (k, true)) (Some a) is = cc
 unnumbered (Some (k, false)) (Some a) is = refl
 
+-- a plain access outside an attempt that has its entry is answered by what was seen
 pub access_answers :
     (P : Bytecode) (c : Config) (x : ℕ) (write : Option ℤ) (s : Seen) (own new : Own) → c.attempt ≡ None → life_of own.mine ≡ Running →
     own.drawn ≡ [] → repeat_number (right_of own.mine x) write ≡ None → HasEntry x write own s new
@@ -195,12 +199,15 @@ plain_answers P c x write s own new none runs drawn by = by_number (repeat_numbe
 
 -- ## Words of an attempt
 
+-- the variable and the value of a look
 abbrev look_pair : Look → ℕ × ℤ
 look_pair l = (l.var, l.value)
 
+-- the variable and the value of a write
 abbrev write_pair : Pair → ℕ × ℤ
 write_pair w = (w.var, w.value)
 
+-- the word of x among the writes is the value of the write on x
 word_written : (ws : List Pair) (x : ℕ) → word_of (map write_pair ws) x ≡ option_map (λ w. w.value) (find (λ p. p.var == x) ws)
 word_written [] x = refl
 word_written (w ∷ ws) x = by_test (w.var == x) (word_written ws x) where
@@ -211,6 +218,7 @@ word_written (w ∷ ws) x = by_test (w.var == x) (word_written ws x) where
   by_test true more = refl
   by_test false more = more
 
+-- the word of x among the looks is the value of the look on x
 word_looked : (ls : List Look) (x : ℕ) → word_of (map look_pair ls) x ≡ option_map (λ l. l.value) (find (λ p. p.var == x) ls)
 word_looked [] x = refl
 word_looked (l ∷ ls) x = by_test (l.var == x) (word_looked ls x) where
@@ -221,10 +229,12 @@ word_looked (l ∷ ls) x = by_test (l.var == x) (word_looked ls x) where
   by_test true more = refl
   by_test false more = more
 
+-- the variables of the pairs are those of the writes
 vars_written : (ws : List Pair) → map (λ w. w.0) (map write_pair ws) ≡ map (λ w. w.var) ws
 vars_written [] = refl
 vars_written (w ∷ ws) = ap (λ xs. w.var ∷ xs) (vars_written ws)
 
+-- the variables of the pairs are those of the looks
 vars_looked : (ls : List Look) → map (λ w. w.0) (map look_pair ls) ≡ map (λ l. l.var) ls
 vars_looked [] = refl
 vars_looked (l ∷ ls) = ap (λ xs. l.var ∷ xs) (vars_looked ls)
@@ -233,6 +243,7 @@ vars_looked (l ∷ ls) = ap (λ xs. l.var ∷ xs) (vars_looked ls)
 touches : (c : Config) (a : Attempting) → touched (progress_of c (Some a)) ≡ size a
 touches c a = λ i. length (with_all (vars_written a.writes i) (vars_looked a.looks i))
 
+-- whether two numbers are the same does not depend on their order
 turned : (x y : ℕ) → (x == y) ≡ (y == x)
 turned x y = by_tests (x == y) (y == x) refl refl where
   by_tests : (b d : Bool) → (x == y) ≡ b → (y == x) ≡ d → b ≡ d
@@ -241,6 +252,7 @@ turned x y = by_tests (x == y) (y == x) refl refl where
   by_tests true false p q = absurd (let e : x ≡ y = grind (arith, nat_tests) in let f : (y == x) ≡ true = eq-eqb y x (sym e) in cc)
   by_tests false true p q = absurd (let e : y ≡ x = grind (arith, nat_tests) in let f : (x == y) ≡ true = eq-eqb x y (sym e) in cc)
 
+-- putting a look among the looks is putting its word among their words
 put_looked : (x : ℕ) (value : ℤ) (nth : ℕ) (ls : List Look)
     → map look_pair (with_part (λ p. p.var) (record { var = x; value = value; nth = nth }) ls) ≡ with_word x value (map look_pair ls)
 put_looked x value nth [] = refl
@@ -257,6 +269,7 @@ put_looked x value nth (l ∷ ls) = rw (turned x l.var) (by_tests (l.var == x) (
   by_tests false true more = refl
   by_tests false false more = ap (λ ws. look_pair l ∷ ws) more
 
+-- putting a write among the writes is putting its word among their words
 put_written : (x : ℕ) (value : ℤ) (ws : List Pair) → map write_pair (with_part (λ p. p.var) (record { var = x; value = value }) ws)
     ≡ with_word x value (map write_pair ws)
 put_written x value [] = refl
@@ -272,12 +285,14 @@ put_written x value (w ∷ ws) = rw (turned x w.var) (by_tests (w.var == x) (nat
   by_tests false true more = refl
   by_tests false false more = ap (λ us. write_pair w ∷ us) more
 
+-- words are the same as themselves
 same_words_itself : (ws : List (ℕ × ℤ)) → same_words ws ws ≡ true
 same_words_itself [] = refl
 same_words_itself (w ∷ ws) = rw (same_nat w.0, same_int w.1, same_words_itself ws) refl
 
 -- ## Replies that leave no entry
 
+-- an answer without an entry answers rightly, if looks, writes, attempt, life and levels are as it tells
 quiet_answers :
     (P : Bytecode) (c : Config) (ask : Ask) (reply : Reply) (own new : Own) (txn after : Option Attempting) → new
     ≡ record own { drawn = new.drawn } →
@@ -307,9 +322,11 @@ quiet_answers P c ask reply own new txn after rest quiet fits leaves starts look
       drawn = draws;
     }
 
+-- nothing is in an empty list
 none_in : {A : Type 0} (xs : List A) (x : A) → xs ≡ [] → Contains xs x → ⊥
 none_in {A} xs x none there = (let none' : Contains {X = A} [] x = rw none at there in let less = none'.1 in omega arith)
 
+-- a pass that has drawn nothing has the draws of an attempt that did nothing
 draws_nothing : (o : Own) → o.drawn ≡ [] → Draws nothing o
 draws_nothing o none = record {
   looks = λ y k value. (
@@ -320,6 +337,7 @@ draws_nothing o none = record {
   each = λ y. rw none (omega arith);
 }
 
+-- an attempt that begins with nothing is answered rightly
 pub begin_answers :
     (P : Bytecode) (c : Config) (own new : Own) (a : Attempting) → c.attempt ≡ None → own.drawn ≡ [] → new ≡ own → a ≡ nothing →
     IsAnswered P c TxBegin Gone own new None (Some a)
@@ -327,6 +345,7 @@ begin_answers P c own new a none drawn same is =
     rw is (quiet_answers P c TxBegin Gone own new None (Some nothing) (rw same refl) (rw none refl) refl tt tt refl refl refl
     (λ l. refl) (λ ls. refl) (draws_nothing new (rw same drawn)))
 
+-- the machine knows a variable in the attempt exactly where the attempt has it
 knows_in : (c : Config) (a : Attempting) (x : ℕ) → knows (progress_of c (Some a)) x ≡ is_in a x
 knows_in c a x = rw (word_written a.writes x, word_looked a.looks x) (by_words (written a x) (looked a x)) where
   by_words : (w : Option Pair) (l : Option Look)
@@ -335,6 +354,7 @@ knows_in c a x = rw (word_written a.writes x, word_looked a.looks x) (by_words (
   by_words None (Some l) = refl
   by_words None None = refl
 
+-- a pass in which only the draws changed is the old one with the new draws
 drawn_rest : (own new : Own) (ds : List Drawn) → new ≡ record own { drawn = ds } → new ≡ record own { drawn = new.drawn }
 drawn_rest own new ds is = rw is refl
 
@@ -411,48 +431,57 @@ module _ (P : Bytecode) (c : Config) (att : Attempt) (runs : c.attempt ≡ Some 
 
 -- ## The end of an attempt
 
+-- a transaction that is the attempt's end is recognised as its end
 is_its : (c : Config) (a : Attempting) (keep : Bool) (tx : Tx) → IsEndOf a keep tx → is_its_end (progress_of c (Some a)) keep tx ≡ true
 is_its c a true tx end = rw (end.looks, end.writes, same_words_itself (map look_pair a.looks), same_words_itself (map write_pair a.writes))
     refl
 is_its c a false tx end = rw (end.looks, end.writes, same_words_itself (map look_pair a.looks)) refl
 
+-- the entry of an attempt's end gives the reply of how it ended
 end_gives : (c : Config) (a : Attempting) (keep : Bool) (e : HowEnded) (tx : Tx) → IsEndOf a keep tx
     → reply_of (progress_of c (Some a)) (TxEnd keep) (Made (entry_of e tx)) ≡ Some (end_reply e)
 end_gives c a keep (Done at) tx end = rw (is_its c a keep tx end) refl
 end_gives c a keep (WasRaised var) tx end = rw (is_its c a keep tx end) refl
 end_gives c a keep (Changed var read found) tx end = rw (is_its c a keep tx end) refl
 
+-- the entry of an attempt's end leaves a running thread's life
 end_lives : (l : Life) (e : HowEnded) (tx : Tx) → l ≡ Running → life_after l (entry_of e tx) ≡ l
 end_lives l (Done at) tx runs = rw runs refl
 end_lives l (WasRaised var) tx runs = rw runs refl
 end_lives l (Changed var read found) tx runs = rw runs refl
 
+-- the entry of an attempt's end changes the levels as the reply tells
 end_levels : (levels : List ℕ) (keep : Bool) (e : HowEnded) (tx : Tx) → levels_entry levels (entry_of e tx)
     ≡ levels_told (TxEnd keep) (end_reply e) levels
 end_levels levels keep (Done at) tx = refl
 end_levels levels keep (WasRaised var) tx = refl
 end_levels levels keep (Changed var read found) tx = refl
 
+-- the entry of an attempt's end is no trim and is kept
 end_kept : (e : HowEnded) (tx : Tx) → without_trims (entry_of e tx ∷ []) ≡ entry_of e tx ∷ []
 end_kept (Done at) tx = refl
 end_kept (WasRaised var) tx = refl
 end_kept (Changed var read found) tx = refl
 
+-- the reply of an attempt's end suits the question whether to commit
 end_suits : (o : Option Attempt) (keep : Bool) (e : HowEnded) → suits o (TxEnd keep) (end_reply e) ≡ true
 end_suits o keep (Done at) = refl
 end_suits o keep (WasRaised var) = refl
 end_suits o keep (Changed var read found) = refl
 
+-- the reply of an attempt's end starts no thread
 end_starts : (P : Bytecode) (e : HowEnded) → StartsRight P (end_reply e)
 end_starts P (Done at) = tt
 end_starts P (WasRaised var) = tt
 end_starts P (Changed var read found) = tt
 
+-- the entry of an attempt's end is no access, and so right about repeats
 end_repeats : (e : HowEnded) (tx : Tx) (own : Own) → IsRightly (entry_of e tx) own
 end_repeats (Done at) tx own = tt
 end_repeats (WasRaised var) tx own = tt
 end_repeats (Changed var read found) tx own = tt
 
+-- the end of an attempt of a running thread is answered rightly
 pub end_answers :
     (P : Bytecode) (c : Config) (a : Attempting) (keep : Bool) (e : HowEnded) (own new : Own) → life_of own.mine ≡ Running
     → HasEnded a keep e own new →

@@ -33,6 +33,7 @@ use Rattle.gl_riders.proofs.Lists.{IsOpen, counted_same, levels_swept, life_swep
 
 -- ## The machine takes what fits its ask
 
+-- at an orderly stage a suitable reply that leaves rightly is taken
 takes_stage :
     (P : Bytecode) (c : Config) (reply : Reply) (stage : Stage) → StageIsOrderly P c stage → suits c.attempt (ask_of stage) reply ≡ true →
     LeavesRightly c (ask_of stage) reply → takes_at stage c.attempt reply ≡ true
@@ -61,12 +62,14 @@ takes_stage P c reply (Leaves ending o) orderly fits leaves = leaves orderly.ent
 takes_stage P c reply (Ends ending) orderly fits leaves = fits
 takes_stage P c reply (IsOver ending) orderly fits leaves = cc
 
+-- an orderly thread takes a suitable reply that leaves rightly
 pub takes_told : (P : Bytecode) (c : Config) (reply : Reply) → IsOrderly P c → suits c.attempt (ask_of c.stage) reply ≡ true
     → LeavesRightly c (ask_of c.stage) reply → takes c reply ≡ true
 takes_told P c reply orderly fits leaves = takes_stage P c reply c.stage orderly.stage fits leaves
 
 -- ## One answer more
 
+-- a progress that goes along a list goes along it with one exchange more
 along_more :
     (P : Bytecode) (steps t : ℕ) (list : List Entry) (p q : Progress) (x : Exchange) → Along P steps t list p → told_one P x p ≡ Some q →
     without_trims (entries_of (x ∷ [])) ≡ entries_of (x ∷ []) → Along P steps t (list ++ entries_of (x ∷ [])) q
@@ -75,6 +78,7 @@ along_more P steps t list p q (Quiet r) along told kept =
     let at : List Entry → Type 0 = λ es. Along P steps t es q in
     subst at (sym (append-nil list)) (along_quiet P steps t list p q r along told)
 
+-- what an answer does to a life is what it does to a thread's state
 life_by : (ask : Ask) (s : ThreadState) → life_told ask (life_of_state s) ≡ life_of_state (state_told ask s)
 life_by Go s = refl
 life_by Begin s = refl
@@ -94,6 +98,7 @@ life_by Input s = refl
 life_by TxBegin s = refl
 life_by (TxEnd keep) s = refl
 
+-- a thread that rides on its list rides on after a right answer
 pub rides_on :
     (P : Bytecode) (id : TableId) (c : Config) (reply : Reply) (own new : Own) (txn after : Option Attempting) → Rides P id c own txn →
     IsAnswered P c (ask_of c.stage) reply own new txn after → AsksInRange P (ask_of (next P c reply).stage) →
@@ -132,6 +137,7 @@ rides_on P id c reply own new txn after rides answered range attempt =
 
 -- ## Trims
 
+-- a progress that goes along a list goes along it with trims after it
 along_trims : (P : Bytecode) (steps t : ℕ) (list ts : List Entry) (p : Progress) → Along P steps t list p → AreTrims ts
     → Along P steps t (list ++ ts) p
 along_trims P steps t list [] p along trims =
@@ -146,6 +152,7 @@ along_trims P steps t list (Plain x n k w v r ∷ ts) p along trims = absurd tri
 along_trims P steps t list (Abort tx why ∷ ts) p along trims = absurd trims
 along_trims P steps t list (Ended' e ∷ ts) p along trims = absurd trims
 
+-- draws stay right when what is drawn is the same
 draws_same : (txn : Option Attempting) (old new : Own) → new.drawn ≡ old.drawn → DrawsFor txn old → DrawsFor txn new
 draws_same None old new same draws = same ∙ draws
 draws_same (Some a) old new same draws = record {
@@ -157,6 +164,7 @@ draws_same (Some a) old new same draws = record {
   each = λ y. rw same (draws.each y);
 }
 
+-- a thread that rides rides on after its list was swept, if its life is open
 pub rides_swept : (P : Bytecode) (id : TableId) (c : Config) (old new : Own) (txn : Option Attempting) → Rides P id c old txn
     → IsOpen (life_of old.mine) → IsSwept old new → Rides P id c new txn
 rides_swept P id c old new txn rides goes swept =
@@ -183,6 +191,7 @@ rides_swept P id c old new txn rides goes swept =
 
 -- ## Words that are written back
 
+-- a thread that rides rides on after something owed was paid
 pub rides_paid : (P : Bytecode) (id : TableId) (c : Config) (old new : Own) (txn : Option Attempting) → Rides P id c old txn → new
     ≡ record old { owed = new.owed } → Rides P id c new txn
 rides_paid P id c old new txn rides paid = rw paid (record {
@@ -202,6 +211,7 @@ rides_paid P id c old new txn rides paid = rw paid (record {
 
 -- ## What the calls ask
 
+-- a thread that rides has fewer counted entries than 2 ^ 50
 pub rides_few : (P : Bytecode) (id : TableId) (c : Config) (own : Own) (txn : Option Attempting) → Rides P id c own txn
     → counted own.mine < 2 ^ 50
 rides_few P id c own txn rides =

@@ -22,14 +22,17 @@ use Rattle.gl_riders.proofs.Lists.{right_push, right_swept}
 use Rattle.gl_riders.proofs.Sparings.{unnumbered_right}
 use Rattle.gl_riders.proofs.OwedLists.{cons_cases, fewer, filter_has, filter_keeps, filter_says, is_other, its_own, last_new, last_other, last_raised, last_trims, not_other, others}
 
+-- the word of x that was set is the one that it was set to
 word_same : (ws : Words) (x : ℕ) (w : Option Word) → x < VARIABLES → length ws ≡ VARIABLES → word_at (set ws x w) x ≡ w
 word_same ws x w near long = (let within : x < length ws = rw long near in get_or-set_same ws x w None within)
 
+-- setting the word of x leaves that of another variable
 word_other : (ws : Words) (x y : ℕ) (w : Option Word) → y ≢ x → word_at (set ws x w) y ≡ word_at ws y
 word_other ws x y w apart = get_or-set_other ws x y w None apart
 
 -- ## Words that are written back
 
+-- a word that was made clean is never a dirty one
 never_changed : (o : Option Word) (a : ℤ) → clean_word o ≡ Some (record { value = a; dirty = true }) → ⊥
 never_changed None a is = cc
 never_changed (Some w) a is = (let e : (record w { dirty = false }) ≡ record { value = a; dirty = true } = cc in let t : false
@@ -40,6 +43,7 @@ pub record IsPaid (ws : Words) (x : ℕ) (own new : Own) : Type 0 where
   pub owns : Owns (cleaned x ws) new
   pub less : length new.owed < length own.owed
 
+-- a changed word is paid where what is owed is as before without it
 pub paid :
     (ws : Words) (own new : Own) (x : ℕ) (a : ℤ) → Owns ws own → x < VARIABLES → IsChanged ws x a → new
     ≡ record own { owed = without_owed x own.owed } →
@@ -78,6 +82,7 @@ paid ws own new x a owns near changed new_is = rw new_is (record {
   elsewhere : (y : ℕ) → HasWord ws own.mine y → y ≢ x → HasWord (cleaned x ws) own.mine y
   elsewhere y h apart = record { word = h.word; there = word_other ws x y (clean_word (word_at ws x)) apart ∙ h.there; last = h.last }
 
+-- two changes of what is owed, one after the other, are one change of what is owed
 pub rest_on : (a b d : Own) (ws : List (ℕ × ℤ)) → b ≡ record a { owed = b.owed } → d ≡ record b { owed = ws } → d
     ≡ record a { owed = d.owed }
 rest_on a b d ws first is = rw is (ap (λ (v : Own). let o : Own = record v { owed = ws } in o) first)
@@ -96,12 +101,14 @@ record IsRight (r : Option (ℕ × Bool)) (n : ℕ) (write : Option ℤ) : Type 
   is : r ≡ Some (n, by_write)
   enough : is_some write ≡ true → by_write ≡ true
 
+-- a number for a repeat comes from a right for it
 right_there : (r : Option (ℕ × Bool)) (n : ℕ) (write : Option ℤ) → repeat_number r write ≡ Some n → IsRight r n write
 right_there None n write is = cc
 right_there (Some (k, w)) n None is = (let same : k ≡ n = cc in record { by_write = w; is = rw same refl; enough = λ t. cc })
 right_there (Some (k, true)) n (Some a) is = (let same : k ≡ n = cc in record { by_write = true; is = rw same refl; enough = λ t. refl })
 right_there (Some (k, false)) n (Some a) is = cc
 
+-- where the list gives a number for a repeat, there is a private word of that variable
 pub has_word : (ws : Words) (own : Own) (x n : ℕ) (write : Option ℤ) → Owns ws own → repeat_number (right_of own.mine x) write ≡ Some n
     → HasWord ws own.mine x
 has_word ws own x n write owns may = (let r = right_there (right_of own.mine x) n write may in owns.kept x (n, r.by_write) r.is)
@@ -115,10 +122,12 @@ may_cache v x n write value held runs may last =
     let r = right_there (right_of v.own.mine x) n write may in
     record { held = held; runs = runs; by_write = r.by_write; right = r.is; enough = r.enough; word = last }
 
+-- the private word that is found has the value that was read there
 found : (ws : Words) (mine : List Entry) (x : ℕ) (value : ℤ) → (h : HasWord ws mine x) → option_map (λ (w : Word). w.value) (word_at ws x)
     ≡ Some value → h.word.value ≡ value
 found ws mine x value h is = (let e : Some h.word.value ≡ Some value = ap (option_map (λ (w : Word). w.value)) (sym h.there) ∙ is in cc)
 
+-- a running thread that holds nothing may repeat a read of its private word
 pub may_read :
     (v : PassView) (ws : Words) (x n : ℕ) (value : ℤ) → Owns ws v.own → v.own.held ≡ [] → life_of v.own.mine ≡ Running
     → repeat_number (right_of v.own.mine x) None ≡ Some n →
@@ -128,12 +137,14 @@ may_read v ws x n value owns held runs may is =
     let at : ℤ → Type 0 = λ a. IsLast v.own.mine x a in
     may_cache v x n None value held runs may (λ w. subst at (found ws v.own.mine x value h is) h.last)
 
+-- a running thread that holds nothing may repeat a write it has a number for
 pub may_write :
     (v : PassView) (x n : ℕ) (a : ℤ) → v.own.held ≡ [] → life_of v.own.mine ≡ Running → repeat_number (right_of v.own.mine x) (Some a)
     ≡ Some n →
     MayRepeat v x n true a
 may_write v x n a held runs may = may_cache v x n (Some a) a held runs may (λ w. cc)
 
+-- private words stay right after a repeated read
 pub owns_read :
     (ws : Words) (own new : Own) (x nth : ℕ) (value : ℤ) → Owns ws own → option_map (λ (w : Word). w.value) (word_at ws x) ≡ Some value
     → new ≡ repeated x nth false value own → Owns ws new
@@ -158,6 +169,7 @@ owns_read ws own new x nth value owns is new_is = rw new_is (record {
   same : (y : ℕ) → right_of (own.mine ++ Plain x nth true false value false ∷ []) y ≡ right_of own.mine y
   same y = unnumbered_right own.mine x nth true false false value y refl
 
+-- private words stay right after a repeated write, with the word written dirty
 pub owns_write :
     (ws : Words) (own new : Own) (x nth : ℕ) (a : ℤ) → Owns ws own → x < VARIABLES → repeat_number (right_of own.mine x) (Some a)
     ≡ Some nth → new ≡ repeated x nth true a own →
@@ -225,6 +237,7 @@ owns_write ws own new x nth a owns near may new_is = rw new_is (record {
 
 -- ## An access by the table
 
+-- a right that writes gives a number for each repeat
 first_right : (r : Option (ℕ × Bool)) (n : ℕ) (write : Option ℤ) → r ≡ Some (n, true) → repeat_number r write ≡ None → ⊥
 first_right None n write is may = cc
 first_right (Some (k, w)) n None is may = cc
@@ -239,6 +252,7 @@ unowed ws own x write owns may o there is =
     let m = owns.writes o.0 o.1 there in
     first_right (right_of own.mine x) m.nth write (ap (right_of own.mine) (sym is) ∙ m.right) may
 
+-- private words stay right after an access, with the word it saw or wrote, clean
 pub owns_access :
     (ws : Words) (own new : Own) (x : ℕ) (write : Option ℤ) (v : ℤ) → Owns ws own → x < VARIABLES
     → repeat_number (right_of own.mine x) write ≡ None →
@@ -298,6 +312,7 @@ owns_access ws own new x write v owns near may entry = rw entry.own (record {
     by_test true t = absurd (apart (let p : x ≡ y = grind (arith, nat_tests) in sym p))
     by_test false t = refl
 
+-- private words stay right after an access that raised
 pub owns_raised : (ws : Words) (own new : Own) (x k : ℕ) (write : Option ℤ) → Owns ws own → HasEntry x write own (Raised k) new
     → Owns ws new
 owns_raised ws own new x k write owns entry = rw entry.own (record {
@@ -314,6 +329,7 @@ owns_raised ws own new x k write owns entry = rw entry.own (record {
       ≡ right_of own.mine y
   same y = unnumbered_right own.mine x entry.number false (is_some write) true (value_told write (Raised k)) y refl
 
+-- the value to write or else the value seen is what the answer tells
 pub value_or : (write : Option ℤ) (v : ℤ) → unwrap_or write v ≡ value_told write (Value v)
 value_or None v = refl
 value_or (Some a) v = refl

@@ -33,11 +33,13 @@ record IsGiven (es : List Entry) (i x : ℕ) (write : Bool) : Type 0 where
   enough : write ≡ true → w ≡ true
   no_end : (l : ℕ) (f : Entry) → At es l f → j < l → l < i → EndsRights f → ⊥
 
+-- since the last event or abort before place i an entry gave a right to such an access of x
 abbrev Given : List Entry → ℕ → ℕ → Bool → Type 0
 Given es i x write =
     ((j : ℕ) × (j < i) × ((e : Entry) × At es j e × ((m : ℕ) × ((w : Bool) × GivesRight e x m w × (write ≡ true → w ≡ true)))) ×
     ((l : ℕ) (f : Entry) → At es l f → j < l → l < i → EndsRights f → ⊥))
 
+-- what says that there is a right to the access at i makes the record of it
 given_is : (es : List Entry) (i x : ℕ) (write : Bool) → Given es i x write → IsGiven es i x write
 given_is es i x write (j, less, (e, there, (m, (w, gives, enough))), no_end) = record {
   j = j;
@@ -51,9 +53,11 @@ given_is es i x write (j, less, (e, there, (m, (w, gives, enough))), no_end) = r
   no_end = no_end;
 }
 
+-- the record of a right to the access at i says that there is one
 is_given : (es : List Entry) (i x : ℕ) (write : Bool) → IsGiven es i x write → Given es i x write
 is_given es i x write g = (g.j, g.before, (g.entry, g.there, (g.nth, (g.w, g.gives, g.enough))), g.no_end)
 
+-- a right to the access at i is one still when the list has one entry more
 given_more : (es : List Entry) (e : Entry) (i x : ℕ) (write : Bool) → i < length es → IsGiven es i x write
     → IsGiven (es ++ e ∷ []) i x write
 given_more es e i x write less g = record {
@@ -68,6 +72,7 @@ given_more es e i x write less g = record {
   no_end = λ l f a after low ends. g.no_end l f (at_before es e f l (omega arith) a) after low ends;
 }
 
+-- a right to the access at i in a list with one entry more was one without it
 given_less : (es : List Entry) (e : Entry) (i x : ℕ) (write : Bool) → i < length es → IsGiven (es ++ e ∷ []) i x write
     → IsGiven es i x write
 given_less es e i x write less g =
@@ -99,6 +104,7 @@ granted_given es e x write w g enough = record {
   no_end = λ l f a after low ends. g.no_end l f (at_before es e f l low a) after ends;
 }
 
+-- a right to the entry that is put last was granted by the list before it
 given_granted : (es : List Entry) (e : Entry) (x : ℕ) (write : Bool) → (g : IsGiven (es ++ e ∷ []) (length es) x write) → Grants es x g.w
 given_granted es e x write g = record {
   index = g.j;
@@ -114,6 +120,7 @@ abbrev IsSparedNext : List Entry → Entry → Type 0
 IsSparedNext es e = (x k : ℕ) (cached write raised : Bool) (value : ℤ) → e ≡ Plain x k cached write value raised
     → (cached ≡ true) ↔ IsGiven (es ++ e ∷ []) (length es) x write
 
+-- a list that is spared stays so after an entry that is as sparing asks
 spared_more : (es : List Entry) (e : Entry) → IsSpared es → IsSparedNext es e → IsSpared (es ++ e ∷ [])
 spared_more es e spared next i x k cached write raised value a = elim (at_cases es e (Plain x k cached write value raised) i a) [
   | inl old ↦
@@ -154,6 +161,7 @@ granted_old es e x w other g = elim (at_cases es e g.entry g.index g.there) [
   | inr new ↦ absurd (let at : Entry → Type 0 = λ f. GivesRight f x g.nth w in other g.nth (subst at new.1 g.gives))
 ]
 
+-- a right that is granted stays granted after an entry that ends none
 granted_kept : (es : List Entry) (e : Entry) (x : ℕ) (w : Bool) → (EndsRights e → ⊥) → Grants es x w → Grants (es ++ e ∷ []) x w
 granted_kept es e x w goes g = record {
   index = g.index;
@@ -167,6 +175,7 @@ granted_kept es e x w goes g = record {
   ];
 }
 
+-- an entry that ends rights gives none
 ends_gives : (e : Entry) (x m : ℕ) (w : Bool) → EndsRights e → GivesRight e x m w → ⊥
 ends_gives (Sync at act value) x m w ends gives = gives
 ends_gives (Commit at tx) x m w ends gives = gives
@@ -175,12 +184,15 @@ ends_gives (Plain y n k v a r) x m w ends gives = ends
 ends_gives (Trim low) x m w ends gives = gives
 ends_gives (Over ending) x m w ends gives = gives
 
+-- an event or an abort is as sparing asks
 ends_spared : (es : List Entry) (e : Entry) → EndsRights e → IsSparedNext es e
 ends_spared es e ends x k cached write raised value is = absurd (let at : Entry → Type 0 = λ f. EndsRights f in subst at is ends)
 
+-- an empty list gives no right
 no_right : (x n : ℕ) (w : Bool) → right_of [] x ≡ Some (n, w) → ⊥
 no_right x n w is = absurd (let e : ◌≡◌ {A = Option (ℕ × Bool)} None (Some (n, w)) = is in cc)
 
+-- an empty list is sparing
 pub spares_new : Spares []
 spares_new = record {
   granted = λ x n w is. absurd (no_right x n w is);
@@ -197,6 +209,7 @@ right_ended es (Plain y n k v a r) x ends = absurd ends
 right_ended es (Trim low) x ends = absurd ends
 right_ended es (Over ending) x ends = absurd ends
 
+-- a sparing list stays so after an entry that ends rights
 pub spares_ends : (es : List Entry) (e : Entry) → Spares es → EndsRights e → Spares (es ++ e ∷ [])
 spares_ends es e s ends = record {
   granted = λ x n w is. absurd (let t : ◌≡◌ {A = Option (ℕ × Bool)} None (Some (n, w)) = sym (right_ended es e x ends) ∙ is in cc);
@@ -210,6 +223,7 @@ IsNote (Trim low) = Unit {0}
 IsNote (Over ending) = Unit {0}
 IsNote _ = ⊥
 
+-- a note gives no right
 note_gives : (e : Entry) (x m : ℕ) (w : Bool) → IsNote e → GivesRight e x m w → ⊥
 note_gives (Sync at act value) x m w note gives = note
 note_gives (Commit at tx) x m w note gives = note
@@ -218,6 +232,7 @@ note_gives (Plain y n k v a r) x m w note gives = note
 note_gives (Trim low) x m w note gives = gives
 note_gives (Over ending) x m w note gives = gives
 
+-- a note ends no right
 note_goes : (e : Entry) → IsNote e → EndsRights e → ⊥
 note_goes (Sync at act value) note ends = note
 note_goes (Commit at tx) note ends = note
@@ -226,6 +241,7 @@ note_goes (Plain y n k v a r) note ends = note
 note_goes (Trim low) note ends = ends
 note_goes (Over ending) note ends = ends
 
+-- a note leaves the right that a list gives
 right_noted : (es : List Entry) (e : Entry) (x : ℕ) → IsNote e → right_of (es ++ e ∷ []) x ≡ right_of es x
 right_noted es (Sync at act value) x note = absurd note
 right_noted es (Commit at tx) x note = absurd note
@@ -239,6 +255,7 @@ right_to : (es : List Entry) (e : Entry) (x : ℕ) (w : Bool) → right_of (es +
     → HasRightTo (es ++ e ∷ []) x w
 right_to es e x w same r = record { nth = r.nth; by_write = r.by_write; right = same ∙ r.right; enough = r.enough }
 
+-- a sparing list stays so after a note
 pub spares_note : (es : List Entry) (e : Entry) → Spares es → IsNote e → Spares (es ++ e ∷ [])
 spares_note es e s note = record {
   granted = λ x n w is. granted_kept es e x w (λ ends. note_goes e note ends) (s.granted x n w (sym (right_noted es e x note) ∙ is));
@@ -248,6 +265,7 @@ spares_note es e s note = record {
       in subst at is note));
 }
 
+-- a sparing list stays so after trims
 pub spares_trims : (es ts : List Entry) → Spares es → AreTrims ts → Spares (es ++ ts)
 spares_trims es [] s trims = (let at : List Entry → Type 0 = λ fs. Spares fs in subst at (sym (append-nil es)) s)
 spares_trims es (Trim low ∷ ts) s trims =
@@ -267,22 +285,26 @@ record IsAllowed (es : List Entry) (x : ℕ) (write : Bool) : Type 0 where
   grants : Grants es x w
   enough : write ≡ true → w ≡ true
 
+-- a repeat that the right of a sparing list allows is allowed by the list
 allowed_by : (es : List Entry) (x : ℕ) (write : Bool) (o : Option (ℕ × Bool)) → Spares es → right_of es x ≡ o → allows o write ≡ true
     → IsAllowed es x write
 allowed_by es x write None s is may = cc
 allowed_by es x true (Some (n, w)) s is may = record { w = w; grants = s.granted x n w is; enough = λ t. may }
 allowed_by es x false (Some (n, w)) s is may = record { w = w; grants = s.granted x n w is; enough = λ t. cc }
 
+-- a right that writes if the access does allows it
 allows_right : (write w : Bool) (n : ℕ) → (write ≡ true → w ≡ true) → allows (Some (n, w)) write ≡ true
 allows_right true w n enough = enough refl
 allows_right false w n enough = refl
 
+-- where a sparing list grants an access, its right allows it
 right_allows : (es : List Entry) (x : ℕ) (write w : Bool) → Spares es → Grants es x w → (write ≡ true → w ≡ true)
     → allows (right_of es x) write ≡ true
 right_allows es x write w s g enough =
     let r = s.complete x w g in
     ap (λ o. allows o write) r.right ∙ allows_right write r.by_write r.nth (λ t. r.enough (enough t))
 
+-- a plain entry that is cached exactly where the right allows it is as sparing asks
 plain_spared :
     (es : List Entry) (x n : ℕ) (cached write raised : Bool) (value : ℤ) → Spares es → cached ≡ allows (right_of es x) write →
     IsSparedNext es (Plain x n cached write value raised)
@@ -404,6 +426,7 @@ unnumbered es x n cached write raised value s is none = record {
   neither false true some is' is'' = cc
   neither false false some is' is'' = cc
 
+-- a sparing list stays so after an access that is cached exactly where the right allows it
 pub spares_plain :
     (es : List Entry) (x n : ℕ) (cached write raised : Bool) (value : ℤ) → Spares es → cached ≡ allows (right_of es x) write
     → Spares (es ++ Plain x n cached write value raised ∷ [])
@@ -413,6 +436,7 @@ spares_plain es x n false write false value s is = numbered es x n write value s
 
 -- ## An answer
 
+-- a sparing list stays so after an entry that repeats rightly
 spares_entry : (own : Own) (e : Entry) → Spares own.mine → IsRightly e own → Spares (own.mine ++ e ∷ [])
 spares_entry own (Sync at act value) s r = spares_ends own.mine (Sync at act value) s tt
 spares_entry own (Commit at tx) s r = spares_ends own.mine (Commit at tx) s tt
@@ -421,6 +445,7 @@ spares_entry own (Plain x n cached write value raised) s r = spares_plain own.mi
 spares_entry own (Trim low) s r = absurd r
 spares_entry own (Over ending) s r = absurd r
 
+-- a sparing list stays so after an exchange that repeats rightly
 pub spares_on : (own new : Own) (x : Exchange) → Spares own.mine → RepeatsRightly x own → new.mine ≡ own.mine ++ entries_of (x ∷ [])
     → Spares new.mine
 spares_on own new (Made e) s r mine = rw mine (spares_entry own e s r)

@@ -15,6 +15,7 @@ use Rattle.gl_bytecode.specs.Programs.{Bytecode, Function, function_at}
 use Rattle.gl_events.specs.Acting.{MayStart}
 use Rattle.gl_riders.specs.Riding.{IsSetFor}
 
+-- a number from a to below a + n that passes the test is among the range's that do
 in_range : (p : ℕ → Bool) (a n f : ℕ) → a ≤ f → f < a + n → p f ≡ true → Contains (filter p (range_with_len a n)) f
 in_range p a zero f low high is = absurd (omega arith)
 in_range p a (suc n) f low high is = elim (ℕ_discrete a f) [
@@ -26,9 +27,11 @@ in_range p a (suc n) f low high is = elim (ℕ_discrete a f) [
   by_test true there = (suc there.0, (let less = there.1 in omega arith), there.2)
   by_test false there = there
 
+-- a function that a program has stands below its number of functions
 function_below : (P : Bytecode) (f : ℕ) (F : Function) → function_at P f ≡ Some F → f < length P.functions
 function_below P f F there = elim ((slice_get_cases P.functions f).1) [ inl in' ↦ in'.1 | inr out ↦ absurd (let none = out.1 in cc) ]
 
+-- a function of one argument may be forked in a setting for the program
 pub may_fork : (P : Bytecode) (setting : Setting) (f : ℕ) (F : Function) → IsSetFor P setting → function_at P f ≡ Some F → F.args ≡ 1
     → Contains setting.forkable f
 may_fork P setting f F set there one =
@@ -37,11 +40,13 @@ may_fork P setting f F set there one =
     (let less = function_below P f F there in omega arith) one' in
     rw set in'
 
+-- a function of one argument has fewer than two
 has_one : (P : Bytecode) (f : ℕ) (o : Option Function) → function_at P f ≡ o → (args_of o == 1) ≡ true → (F : Function)
     × (function_at P f ≡ Some F) × (F.args < 2)
 has_one P f None there one = cc
 has_one P f (Some F) there one = (F, there, (let is : F.args ≡ 1 = grind (arith, nat_tests) in omega arith))
 
+-- a function that a thread may start with is there and has fewer than two arguments
 pub may_begin : (P : Bytecode) (setting : Setting) (c : Config) (f : ℕ) → IsSetFor P setting → Fits P c → MayStart setting f
     → (F : Function) × (function_at P f ≡ Some F) × (F.args < 2)
 may_begin P setting c f set fits (inl main) =

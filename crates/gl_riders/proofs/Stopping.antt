@@ -12,6 +12,7 @@ pays_on [] p q r x same owes stored =
     (r, subst (λ (v : PassView). Owes v x) same owes, subst (λ (v : PassView). IsWrittenBack v x r) same stored, refl)
 pays_on (y ∷ ys) p q r x (mid, owed, first, then) owes stored = (mid, owed, first, pays_on ys mid q r x then owes stored)
 
+-- what was paid from p to q and one word more from q to r is paid from p to r
 pub pays_more : (p q r : PassView) (x : ℕ) (value : ℤ) → ((vars : List ℕ) × HavePaid vars p q) → Contains q.own.owed (x, value)
     → IsWrittenBack q x r → (vars : List ℕ) × HavePaid vars p r
 pays_more p q r x value (vars, paid) owes stored = (vars ++ x ∷ [], pays_on vars p q r x paid (value, owes) stored)

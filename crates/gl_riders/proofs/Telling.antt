@@ -29,9 +29,11 @@ use Rattle.gl_riders.specs.Riding.{IsSetFor, progress_of}
 use Rattle.gl_riders.proofs.Lists.{levels_push, life_push}
 use Rattle.gl_riders.proofs.Starting.{may_begin}
 
+-- a whole number is the same as itself
 same_int : (v : ℤ) → int_eq v v ≡ true
 same_int v = search rules
 
+-- a number is the same as itself
 same_nat : (n : ℕ) → (n == n) ≡ true
 same_nat n = eq-eqb n n refl
 
@@ -110,6 +112,7 @@ module _ (c : Config) (none : c.attempt ≡ None) (life : Life) (levels : List �
 
 -- ## The answer
 
+-- after an event there are no looks
 no_looks : (c : Config) (ask : Ask) (reply : Reply) → IsEvent ask → ◌≡◌ {A = List (ℕ × ℤ)} [] (looks_after (progress_of c None) ask reply)
 no_looks c (Read x) reply event = absurd event
 no_looks c (TxEnd keep) reply event = absurd event
@@ -129,6 +132,7 @@ no_looks c (Print a) reply event = refl
 no_looks c Input reply event = refl
 no_looks c TxBegin reply event = refl
 
+-- after an event there are no writes
 no_writes : (c : Config) (ask : Ask) (reply : Reply) → IsEvent ask → ◌≡◌ {A = List (ℕ × ℤ)} [] (writes_after (progress_of c None) ask reply)
 no_writes c (Write x a) reply event = absurd event
 no_writes c (TxEnd keep) reply event = absurd event
@@ -148,6 +152,7 @@ no_writes c (Print a) reply event = refl
 no_writes c Input reply event = refl
 no_writes c TxBegin reply event = refl
 
+-- an event begins no attempt
 no_attempt : (ask : Ask) → IsEvent ask → false ≡ runs_after ask false
 no_attempt TxBegin event = absurd event
 no_attempt (TxEnd keep) event = absurd event
@@ -167,6 +172,7 @@ no_attempt (Alloc k) event = refl
 no_attempt (Print a) event = refl
 no_attempt Input event = refl
 
+-- an act that is told as its answer says is answered rightly
 by_act :
     (P : Bytecode) (c : Config) (ask : Ask) (reply : Reply) (own new : Own) (at : ℕ) (act : Act) (value : ℤ) → IsEvent ask → own.drawn
     ≡ [] →
@@ -210,18 +216,21 @@ LifeFor Input life = life ≡ Running
 LifeFor TxBegin life = life ≡ Running
 LifeFor (TxEnd keep) life = life ≡ Running
 
+-- a go, or an error, starts no thread
 go_starts : (P : Bytecode) (code : ℕ) → StartsRight P (go_or code)
 go_starts P code = by_test (code == 0) where
   by_test : (b : Bool) → StartsRight P (if b then Gone else Raise code)
   by_test true = tt
   by_test false = tt
 
+-- a value, or an error, starts no thread
 answer_starts : (P : Bytecode) (code : ℕ) (value : ℤ) → StartsRight P (answer_or code value)
 answer_starts P code value = by_test (code == 0) where
   by_test : (b : Bool) → StartsRight P (if b then Value value else Raise code)
   by_test true = tt
   by_test false = tt
 
+-- an event call that is done and told in the list is answered rightly
 pub event_answers :
     (P : Bytecode) (setting : Setting) (c : Config) (ask : Ask) (d : Done) (own new : Own) → IsSetFor P setting → Fits P c → c.attempt
     ≡ None →

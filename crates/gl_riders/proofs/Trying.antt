@@ -247,6 +247,7 @@ kept_none : (txn : Option Attempting) (own new : Own) (e : Entry) → EndsRights
 kept_none None own new e ends mine owed = owns_none new (λ x. ap (λ es. right_of es x) mine ∙ right_ended own.mine e x ends) owed
 kept_none (Some a) own new e ends mine owed = (refl, owed)
 
+-- the entry of an event ends rights
 entry_ends : (ask : Ask) (d : Done) → EndsRights (event_entry ask d)
 entry_ends Go d = tt
 entry_ends Begin d = tt
@@ -266,26 +267,31 @@ entry_ends Input d = tt
 entry_ends TxBegin d = tt
 entry_ends (TxEnd keep) d = tt
 
+-- after an event there are no private words, if nothing is owed
 pub event_kept : (txn : Option Attempting) (own new : Own) (ask : Ask) (d : Done) → own.owed ≡ [] → new ≡ told (event_entry ask d) own
     → AreKept txn no_words new
 event_kept txn own new ask d clear is = kept_none txn own new (event_entry ask d) (entry_ends ask d) (ap (λ (v : Own). v.mine) is)
     (ap (λ (v : Own). v.owed) is ∙ clear)
 
+-- the entry of an attempt's end ends rights
 attempt_ends : (e : HowEnded) (tx : Tx) → EndsRights (entry_of e tx)
 attempt_ends (WasDone at) tx = tt
 attempt_ends (WasRaised var) tx = tt
 attempt_ends (Changed var read found) tx = tt
 
+-- after an attempt's end there are no private words, if nothing is owed
 pub end_kept : (own new : Own) (after : Option Attempting) (a : Attempting) (keep : Bool) (e : HowEnded) → own.owed ≡ []
     → HasEnded a keep e own new → AreKept after no_words new
 end_kept own new after a keep e clear end =
     kept_none after own new (entry_of e end.tx) (attempt_ends e end.tx) (ap (λ (v : Own). v.mine) end.own)
     (ap (λ (v : Own). v.owed) end.own ∙ clear)
 
+-- within an attempt there are no private words, if nothing is owed
 pub within_kept : (own new : Own) (after : Option Attempting) (b : Attempting) → after ≡ Some b → own.owed ≡ [] → new.owed ≡ own.owed
     → AreKept after no_words new
 within_kept own new after b is clear same = rw is (refl, same ∙ clear)
 
+-- a read within an attempt changes nothing that is owed
 pub read_owed : (own new : Own) (a b : Attempting) (x : ℕ) (value : ℤ) → IsRead x value a own b new → new.owed ≡ own.owed
 read_owed own new a b x value read = by_words (written a x) (looked a x) read where
   by_words : (w : Option Pair) (l : Option Look) → ReadBy w l x value a own b new → new.owed ≡ own.owed
@@ -298,6 +304,7 @@ pub outside_owns : (own : Own) (txn : Option Attempting) (words : Words) → txn
 outside_owns own txn words is kept = (let at : Option Attempting → Type 0 = λ t. AreKept t words own
     in let k : AreKept None words own = subst at is kept in k)
 
+-- outside an attempt the private words are right if they are owned
 pub owns_outside : (own : Own) (txn : Option Attempting) (words : Words) → txn ≡ None → Owns words own → AreKept txn words own
 owns_outside own txn words is owns = (let at : Option Attempting → Type 0 = λ t. AreKept t words own
     in let k : AreKept None words own = owns in subst at (sym is) k)

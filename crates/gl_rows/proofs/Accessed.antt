@@ -53,6 +53,7 @@ with_row p x row tail = after (after p (took (view_of p) (suc x) (slot.Row row))
 abbrev pub walked_row : PassView → ℕ → Row → ℕ → List (ℕ × Stamp) → PassView → PassView
 walked_row p x row tail known walker = record (with_row p x row tail) { known = known; loaded = walker.loaded; moves = walker.moves }
 
+-- a held row of x, as it is after the list was seen to a length
 abbrev pub row_held : ℕ → Row → ℕ → Held
 row_held x row tail = with_tail tail (new_held (suc x) (slot.Row row))
 
@@ -79,6 +80,7 @@ asks_as p q write by plain writes =
     ∙ ap (λ v. record { thread = p.own.id; write = q.write; commit = v; held = [] }) plain
     ∙ ap (λ b. record { thread = p.own.id; write = b; commit = None; held = [] }) writes
 
+-- a list that has a last position has it as its block
 pub block_is : (es : List Entry) (p : ℕ) → last_position es ≡ Some p → last_position es ≡ Some (block_of es)
 block_is es p e = e ∙ ap Some (sym (ap or_zero e))
 
@@ -121,6 +123,7 @@ pub holds_row : (p : PassView) (x : ℕ) (row : Row) (tail : ℕ) (w : PassView)
 holds_row p x row tail w is = subst (λ (z : PassView). HoldsRow z row) (sym is)
     (row_held x row tail, (0, omega arith, refl), (x, refl), refl)
 
+-- a row that was taken has no place beyond what the pass has seen
 pub row_within : (p : PassView) (x : ℕ) (row : Row) (tail : ℕ) (v w : PassView) → v ≡ after p (took (view_of p) (suc x) (slot.Row row))
     → ((h : Held) (r : Row) → Contains v.own.held h → h.taken ≡ slot.Row r → IsWithin r tail) → w ≡ with_row p x row tail
     → IsWithin row w.seen
@@ -144,6 +147,7 @@ pub record EntryTold (row : Row) (write : Option ℤ) (a : PlainAccess) (n : ℕ
   pub number : HasNumber n s
   pub answers : Answers row write s
 
+-- what was seen at an access of a row is what its entry tells
 pub entry_told : (row : Row) (write : Option ℤ) (r : Bool) (n : ℕ) (s : Seen) → IsSeen (access_of row write r) n s
     → EntryTold row write (access_of row write r) n s
 entry_told row (Some v) r n (Value u) i = record { write_is = refl; value = refl; raised = i.0; number = tt; answers = i.1 }
@@ -191,14 +195,17 @@ may_mark_row z p x row tail known walker write race may judged a is =
           });
     })
 
+-- a list of n infos that are none
 abbrev nones : ℕ → List (Option Info)
 nones n = replicate n None
 
+-- among infos that are none, each is none
 none_there : (n t : ℕ) → slice_index_or (nones n) t None ≡ None
 none_there zero t = refl
 none_there (suc n) zero = refl
 none_there (suc n) (suc t) = none_there n t
 
+-- an info in a list where one was set is the new one, or was there
 set_cases : (l : List (Option Info)) (t u : ℕ) (x : Option Info) (o : Info) → slice_index_or (slice_set l t x) u None ≡ Some o
     → (x ≡ Some o) ⊎ (slice_index_or l u None ≡ Some o)
 set_cases [] t u x o e = inr e
@@ -207,6 +214,7 @@ set_cases (y ∷ l) zero (suc u) x o e = inr e
 set_cases (y ∷ l) (suc t) zero x o e = inr e
 set_cases (y ∷ l) (suc t) (suc u) x o e = set_cases l t u x o e
 
+-- infos that are equal as options are equal
 some_info : (a c : Info) → Some a ≡ Some c → a ≡ c
 some_info a c e = cc
 
@@ -217,6 +225,7 @@ wrote_is row new noted q at value n w is =
     let k = n.write w in is ∙ ap (λ o. record { value = value; last_write = o; reads = noted.reads }) k.0
     ∙ ap (λ rs. record { value = value; last_write = Some n.info; reads = rs }) k.1
 
+-- a row after a read is the old one with the value read and the reader's info set
 read_is : (row new noted : Row) (q : Question) (at : ℕ) (value : ℤ) (n : IsNoted row q at noted) → q.write ≡ false → new
     ≡ record noted { value = value } → new ≡ record {
       value = value;

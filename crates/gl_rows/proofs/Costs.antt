@@ -18,6 +18,7 @@ few_events : (row : Row) (from tail n : ℕ) (events : List Stamp) → from + le
 few_events row from tail n events ends (inl none) near below = let l : length events ≡ 0 = ap length none in omega arith
 few_events row from tail n events ends (inr (i, has, at)) near below = let b = below i has in omega arith
 
+-- a walk over the events from a row's place to the tail costs what it loads and steps
 pub walk_costs : (row : Row) (from tail steps : ℕ) (events : List Stamp) (p q : PassView) → from + length events ≡ tail
     → (events ≡ []) ⊎ ((i : Info) × InRow row i × (i.pos ≡ from)) → q.moves ≡ with_loads (5 * length events) (moved steps p.moves)
     → WalkCosts row tail steps p q
@@ -35,6 +36,7 @@ pub check_costs : (row : Row) (p q : PassView) → HasWalked row p q → WalkCos
 check_costs row p q w = walk_costs row w.from p.seen 0 w.events p q w.ends w.named
     (ap (λ (z : PassView). z.moves) w.is ∙ ap (with_loads (5 * length w.events)) (moved_none p.moves))
 
+-- a log with its places has as many events as the log
 placed_long : (n : ℕ) (xs : List Stamp) → length (placed_from n xs) ≡ length xs
 placed_long n [] = refl
 placed_long n (x ∷ xs) = ap suc (placed_long (suc n) xs)
@@ -61,6 +63,7 @@ costs_steps steps p q known is =
     let o = ap (λ (m : Moves). m.others) is in
     record { loads = omega arith; stores = ap (λ (m : Moves). m.stores) is; others = omega arith }
 
+-- what two parts cost, one after the other, is at most the sum
 pub costs_both : (a b c : ℕ) (p q r : PassView) → CostsAtMost a p q → CostsAtMost b q r → a + b ≤ c → CostsAtMost c p r
 costs_both a b c p q r s t le =
     let l = s.loads in

@@ -20,13 +20,16 @@ use Rattle.gl_table.specs.Says.{no_held}
 use Rattle.gl_rows.specs.Advancing.{HasAdvanced}
 use Rattle.gl_rows.specs.Walks.{placed_from, HasWalkedTo, HoldsRow}
 
+-- something or false is that something
 or_false : (b : Bool) → (b || false) ≡ b
 or_false true = refl
 or_false false = refl
 
+-- nothing is held without the only object that was
 none_left : (k : ℕ) (h : Held) → h.object ≡ k → without k (h ∷ []) ≡ []
 none_left k h e = ap (λ b. if not b then h ∷ [] else []) (eq-eqb h.object k e)
 
+-- the only held slot, of the row of x, is what is held of x
 head_held : (x : ℕ) (h : Held) → h.object ≡ suc x → held_at (x + 1) (h ∷ []) ≡ h
 head_held x h e = ap (λ b. if b then h else no_held) (eq-eqb h.object (x + 1) (omega arith))
 

@@ -24,6 +24,7 @@ far_left : (t x to : ℕ) (a b : List Read) → IsFar t x to a → IsFar t x to 
 far_left t x to a b (inl (m, has, le)) = inl (m, Contains-append_left a b (Hold (suc x) m) has, le)
 far_left t x to a b (inr (by, has, other)) = inr (by, Contains-append_left a b (Busy (suc x) by) has, other)
 
+-- reads that show a row to be far do so with reads before them
 far_right : (t x to : ℕ) (a b : List Read) → IsFar t x to b → IsFar t x to (a ++ b)
 far_right t x to a b (inl (m, has, le)) = inl (m, Contains-append_right a b (Hold (suc x) m) has, le)
 far_right t x to a b (inr (by, has, other)) = inr (by, Contains-append_right a b (Busy (suc x) by) has, other)
@@ -32,6 +33,7 @@ far_right t x to a b (inr (by, has, other)) = inr (by, Contains-append_right a b
 far_of : (x to : ℕ) (p q : PassView) (a : List Read) → q.own ≡ p.own → IsFar q.own.id x to a → IsFar p.own.id x to a
 far_of x to p q a same far = subst (λ (o : Own). IsFar o.id x to a) same far
 
+-- a pass that stays still from p to q and from q to r does from p to r
 still_trans : (p q r : PassView) → IsStill p q → IsStill q r → IsStill p r
 still_trans p q r a b = record {
   own = b.own ∙ a.own;
@@ -41,6 +43,7 @@ still_trans p q r a b = record {
   later = (let m = a.later in let n = b.later in omega arith);
 }
 
+-- a pass is still the same as itself
 still_same : (p : PassView) → IsStill p p
 still_same p = record { own = refl; spare = refl; quiet = refl; later = omega arith }
 
@@ -48,6 +51,7 @@ still_same p = record { own = refl; spare = refl; quiet = refl; later = omega ar
 still_saw : (p q : PassView) (r : Read) → q ≡ after p (saw (view_of p) r) → IsStill p q
 still_saw p q r is = subst (IsStill p) (sym is) (record { own = refl; spare = refl; quiet = refl; later = omega arith })
 
+-- the hold of object x + 1 is that of the next after x
 at_once : (x m : ℕ) → Hold (x + 1) m ≡ Hold (suc x) m
 at_once x m = let same : x + 1 ≡ suc x = omega arith in ap (λ k. Hold k m) same
 
@@ -62,6 +66,7 @@ tried_far x to n p q is le = record {
       (costs_same q) (omega arith);
 }
 
+-- the hold that was loaded of x's row, after the row was taken, shows the row to be far
 holds_far : (t x to hold steps : ℕ) (row : _) (holds : List Read) → LoadedHolds x to hold holds steps
     → IsFar t x to (Taken (suc x) (slot.Row row) ∷ holds)
 holds_far t x to hold steps row holds (inl (le, is, some)) =
@@ -74,6 +79,7 @@ holds_far t x to hold steps row holds (inr (before, below, same, is, some)) =
           in omega arith),
     )
 
+-- loading and raising a hold takes at most eight steps
 few_steps : (x to hold steps : ℕ) (holds : List Read) → LoadedHolds x to hold holds steps → steps ≤ 8
 few_steps x to hold steps holds (inl (le, is, some)) = omega arith
 few_steps x to hold steps holds (inr (before, below, same, is, some)) = omega arith

@@ -76,6 +76,7 @@ window_of n xs p q is ends = record {
   is_known = known_from n xs p q is;
 }
 
+-- a list of length zero is empty
 empty_of : (xs : List Stamp) → length xs ≡ 0 → xs ≡ []
 empty_of [] e = refl
 empty_of (x ∷ xs) e = absurd (omega arith)

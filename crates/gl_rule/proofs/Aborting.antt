@@ -99,6 +99,7 @@ changed_becomes key w s v tx var read found p may = record {
         (sym (only y c)) may.word in
         subst (IsWord y ds) (sym (all c)) (Rattle.gl_draws.proofs.Words.is_word y ds (may.drop.rows y c).row.value (sym stands.word))
 
+-- two draws that are entered as the same entry have the same entry
 entered_is : (a c : Entry) → Entered a ≡ Entered c → a ≡ c
 entered_is a c e = cc
 
@@ -311,10 +312,12 @@ over_stored s ending may k = record {
     end_over (Trim a) i t = t
     end_over (Over a) i t = i
 
+-- an entry that ends a thread's list draws no number
 over_draws : (ending : Ending) (x k : ℕ) → Draws (Over ending) x k → ⊥
 over_draws ending x k (inl d) = d
 over_draws ending x k (inr d) = d
 
+-- a pass of one list that may end goes by the rule still once the entry that ends its list is added
 ends : (key : Key) (w : World) (st : table.State Slot View) (id : ℕ) (v : View) (s : Shelf) (ending : Ending) → v.shelves ≡ s ∷ []
     → MayEnd s → Holds key w st → get_elem? st.views id ≡ some v
     → Holds key w (record { words = st.words; homes = st.homes; views = set st.views id (stored v s.thread s.marked (Over ending)) })

@@ -42,6 +42,7 @@ use Rattle.gl_rule.proofs.Refusing.{carries_push}
 use Rattle.gl_draws.proofs.Rights.{its, what_is, last_is, right_owes, right_calm}
 use Rattle.gl_rule.proofs.Tries.{tries_moved}
 
+-- a cached entry draws no number
 no_draws : (x k : ℕ) (write : Bool) (value : ℤ) (y n : ℕ) → Draws (Plain x k true write value false) y n → ⊥
 no_draws x k write value y n (inl l) = l
 no_draws x k write value y n (inr l) = let z = l.0 in cc
@@ -77,9 +78,11 @@ rest_in x y v (o ∷ os) c = here (ℕ_discrete o.0 x) (λ q. rest_in x y v os q
         split (zero, l, e) = ((zero, omega arith, e), λ z. s (ap (λ (a : ℕ × ℤ). a.0) e ∙ z))
         split (suc k, l, e) = let r = rec (k, omega arith, e) in (in_cons o os (y, v) r.0, r.1)
 
+-- a cached write of x under k repeats its value for x and k
 repeat_here : (x k : ℕ) (value : ℤ) → repeat_value x k (Plain x k true true value false) ≡ value ∷ []
 repeat_here x k value = let a : (x == x) ≡ true = eq-eqb x x refl in let b : (k == k) ≡ true = eq-eqb k k refl in rw (a, b) refl
 
+-- a cached write of x under k repeats nothing for another variable or number
 repeat_else : (x k y n : ℕ) (value : ℤ) → (y ≡ x → n ≡ k → ⊥) → repeat_value y n (Plain x k true true value false) ≡ []
 repeat_else x k y n value apart = here (ℕ_discrete x y) (ℕ_discrete k n)
   where
@@ -103,6 +106,7 @@ number_is draws t es drawn x k n v d k' at own is = by (k'.kept x n d at own)
         number (inl l) = absurd l
         number (inr l) = sym l.2
 
+-- an entry that gives the right to repeat writes under a number is an uncached write of that variable and number
 right_value : (e : Entry) (x k : ℕ) → GivesRight e x k true → (value : ℤ) × (e ≡ Plain x k false true value false)
 right_value (Plain var nth cached write value raised) x k g = (value, λ i. Plain (g.2 i) (g.3 i) (g.0 i) (g.4 i) value (g.1 i))
 right_value (Sync a b c) x k g = absurd g

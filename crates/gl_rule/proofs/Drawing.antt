@@ -111,6 +111,7 @@ numbers_plain draws drawn s x p write raised value none last k = record {
     nothing : {o : Drawn} → Contains drawn o → ⊥
     nothing c = let l = c.1 in let z : length drawn ≡ 0 = ap length none in omega arith
 
+-- a draw on x that is put last makes one draw more on x
 count_on_push : (x : ℕ) (drawn : List Drawn) (o : Drawn) → o.var ≡ x → count_on x (drawn ++ o ∷ []) ≡ suc (count_on x drawn)
 count_on_push x [] o e = let b : (o.var == x) ≡ true = eq-eqb o.var x e in rw b refl
 count_on_push x (r ∷ rs) o e = here (ℕ_discrete r.var x) (count_on_push x rs o e)
@@ -119,6 +120,7 @@ count_on_push x (r ∷ rs) o e = here (ℕ_discrete r.var x) (count_on_push x rs
     here (yes s) q = let b : (r.var == x) ≡ true = eq-eqb r.var x s in rw b (ap suc q)
     here (no s) q = let b : (r.var == x) ≡ false = ne_eqb r.var x s in rw b q
 
+-- a draw on another variable that is put last leaves the count on x
 count_on_else : (x : ℕ) (drawn : List Drawn) (o : Drawn) → o.var ≢ x → count_on x (drawn ++ o ∷ []) ≡ count_on x drawn
 count_on_else x [] o e = let b : (o.var == x) ≡ false = ne_eqb o.var x e in rw b refl
 count_on_else x (r ∷ rs) o e = here (ℕ_discrete r.var x) (count_on_else x rs o e)
@@ -127,15 +129,18 @@ count_on_else x (r ∷ rs) o e = here (ℕ_discrete r.var x) (count_on_else x rs
     here (yes s) q = let b : (r.var == x) ≡ true = eq-eqb r.var x s in rw b (ap suc q)
     here (no s) q = let b : (r.var == x) ≡ false = ne_eqb r.var x s in rw b q
 
+-- what is among the draws is among them still when one is put last
 in_more : (os : List Drawn) (o r : Drawn) → Contains os r → Contains (os ++ o ∷ []) r
 in_more [] o r c = absurd (let l = c.1 in omega arith)
 in_more (a ∷ os) o r (zero, l, e) = (zero, omega arith, e)
 in_more (a ∷ os) o r (suc k, l, e) = in_cons a (os ++ o ∷ []) r (in_more os o r (k, omega arith, e))
 
+-- a draw that is put last is among the draws
 in_last : (os : List Drawn) (o : Drawn) → Contains (os ++ o ∷ []) o
 in_last [] o = (zero, omega arith, refl)
 in_last (a ∷ os) o = in_cons a (os ++ o ∷ []) o (in_last os o)
 
+-- what is among the draws with one put last was among them before, or is that one
 more_cases : (os : List Drawn) (o r : Drawn) → Contains (os ++ o ∷ []) r → Contains os r ⊎ (r ≡ o)
 more_cases [] o r (zero, l, e) = inr (sym e)
 more_cases [] o r (suc k, l, e) = absurd (omega arith)

@@ -46,6 +46,7 @@ use Rattle.gl_rule.proofs.Closing.{closes, shelf_at}
 use Rattle.gl_rule.proofs.Lawfulness.{closed_lawful}
 use Rattle.gl_rule.proofs.Loading.{all_at}
 
+-- an entry that ends a list is not one that a trim makes
 over_trim : (e : Entry) → IsOver e → IsTrim e → ⊥
 over_trim (Over a) o t = t
 over_trim (Sync a b c) o t = t
@@ -54,6 +55,7 @@ over_trim (Plain a b c d e f) o t = t
 over_trim (Abort a b) o t = t
 over_trim (Trim a) o t = o
 
+-- an entry that ends a list is not that of a begin
 over_begin : (e : Entry) → IsOver e → IsBegin e → ⊥
 over_begin (Over a) o t = t
 over_begin (Sync a b c) o t = o
@@ -62,6 +64,7 @@ over_begin (Plain a b c d e f) o t = o
 over_begin (Abort a b) o t = o
 over_begin (Trim a) o t = o
 
+-- an entry that ends a list has no position
 over_place : (e : Entry) → IsOver e → position_of e ≡ None
 over_place (Over a) o = refl
 over_place (Sync a b c) o = absurd o
@@ -70,6 +73,7 @@ over_place (Plain a b c d e f) o = absurd o
 over_place (Abort a b) o = absurd o
 over_place (Trim a) o = absurd o
 
+-- the entry of a thread's end has a position, and its event is an end
 end_event : (e : Entry) → IsEnd e → (p : ℕ) × (position_of e ≡ Some p) × (event_of e ≡ Some (Does End))
 end_event (Sync at End value) i = (at, refl, refl)
 end_event (Sync at (Begin a) value) i = absurd i
@@ -122,6 +126,7 @@ last_end t es f ends = by ends.0 ends.1.0 ends.1.1 ends.1.2
         }
         here (inr q) = absurd (let z = slice_get_within es (suc i) e at in let y = q.0 in omega arith)
 
+-- a list with nothing in it is empty
 none_of : {A : Type 0} → (l : List A) → ((o : A) → Contains l o → ⊥) → l ≡ []
 none_of [] none = refl
 none_of (o ∷ os) none = absurd (none o (zero, omega arith, refl))
@@ -272,6 +277,7 @@ never_step setting old new w t value (Does Input) s ne far is = ap (λ (z : Stat
 never_step setting old new w t value (Does (Fail c)) s ne far is = ap (λ (z : State). z.threads t) s.effect.1 ∙ is
 never_step setting old new w t value (Commits xs) s ne far is = ap (λ (z : State). z.threads t) s.effect ∙ is
 
+-- a thread whose stage is three or more has ended
 stage_high : (x : ThreadState) → 3 ≤ stage x → x ≡ Ended
 unfolding stage
 stage_high NeverForked le = absurd (omega arith)
@@ -279,6 +285,7 @@ stage_high (Forked f a) le = absurd (omega arith)
 stage_high Running le = absurd (omega arith)
 stage_high Ended le = refl
 
+-- a thread that has ended is at stage three
 ended_three : stage Ended ≡ 3
 unfolding stage
 ended_three = refl

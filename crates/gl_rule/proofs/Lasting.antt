@@ -14,10 +14,12 @@ closed_stays : (es : List Entry) → life_from Closed es ≡ Running → ⊥
 closed_stays [] e = absurd (cc)
 closed_stays (x ∷ es) e = closed_stays es e
 
+-- a list that goes on from an ended thread does not leave it running
 ended_stays : (es : List Entry) → life_from Ended es ≡ Running → ⊥
 ended_stays [] e = absurd (cc)
 ended_stays (x ∷ es) e = closed_stays es e
 
+-- an entry of an end makes the thread's life ended by its act
 act_ends : (act : Act) (at : ℕ) (value : _) → IsEnd (Sync at act value) → life_act act ≡ Ended
 act_ends End at value h = refl
 act_ends (Begin f) at value h = absurd h
@@ -32,6 +34,7 @@ act_ends Print at value h = absurd h
 act_ends Input at value h = absurd h
 act_ends (Fail k) at value h = absurd h
 
+-- after the entry of its end a thread has ended
 entry_ends : (life : Life) (x : Entry) → IsEnd x → life_entry life x ≡ Ended
 entry_ends life (Sync a b c) h = act_ends b a c h
 entry_ends life (Commit a b) h = absurd h
@@ -40,6 +43,7 @@ entry_ends life (Abort a b) h = absurd h
 entry_ends life (Trim a) h = absurd h
 entry_ends life (Over a) h = absurd h
 
+-- after the entry that ends its list a thread is closed
 entry_closes : (life : Life) (x : Entry) → IsOver x → life_entry life x ≡ Closed
 entry_closes life (Over a) h = refl
 entry_closes life (Sync a b c) h = absurd h
@@ -48,18 +52,21 @@ entry_closes life (Plain a b c d f g) h = absurd h
 entry_closes life (Abort a b) h = absurd h
 entry_closes life (Trim a) h = absurd h
 
+-- a thread that runs after its list had no end at that entry
 no_end_here : (life : Life) (x : Entry) (es : List Entry) → life_from (life_after life x) es ≡ Running → IsEnd x → ⊥
 no_end_here Unbegun x es e h = ended_stays es (ap (λ l. life_from l es) (sym (entry_ends Unbegun x h)) ∙ e)
 no_end_here Running x es e h = ended_stays es (ap (λ l. life_from l es) (sym (entry_ends Running x h)) ∙ e)
 no_end_here Ended x es e h = ended_stays (x ∷ es) e
 no_end_here Closed x es e h = closed_stays (x ∷ es) e
 
+-- a thread that runs after its list had no entry there that ends the list
 no_over_here : (life : Life) (x : Entry) (es : List Entry) → life_from (life_after life x) es ≡ Running → IsOver x → ⊥
 no_over_here Unbegun x es e h = closed_stays es (ap (λ l. life_from l es) (sym (entry_closes Unbegun x h)) ∙ e)
 no_over_here Running x es e h = closed_stays es (ap (λ l. life_from l es) (sym (entry_closes Running x h)) ∙ e)
 no_over_here Ended x es e h = ended_stays (x ∷ es) e
 no_over_here Closed x es e h = closed_stays (x ∷ es) e
 
+-- what stands in two equal options is equal
 some_same : (a c : Entry) → Some a ≡ Some c → a ≡ c
 some_same a c e = cc
 
@@ -78,6 +85,7 @@ no_end es run i e at h = none_of IsEnd no_end_here Unbegun es run i e at h
 pub no_over : (es : List Entry) → life_of es ≡ Running → (i : ℕ) (e : Entry) → At es i e → IsOver e → ⊥
 no_over es run i e at h = none_of IsOver no_over_here Unbegun es run i e at h
 
+-- an option, or else something, is something
 or_some : (o : _) (p : ℕ) → (q : ℕ) × (or_else o (Some p) ≡ Some q)
 or_some None p = (p, refl)
 or_some (Some q) p = (q, refl)
@@ -102,6 +110,7 @@ has_begun (Abort a b ∷ es) run = (0, (Abort a b, refl, λ t. t))
 has_begun (Trim a ∷ es) run = let r = has_begun es run in (suc r.0, r.1)
 has_begun (Over a ∷ es) run = absurd (closed_stays es run)
 
+-- an act after which a thread has ended is an end
 ends_act : (act : Act) (at : ℕ) (value : _) → life_act act ≡ Ended → IsEnd (Sync at act value)
 ends_act End at value e = tt
 ends_act (Begin f) at value e = absurd (cc)
@@ -116,6 +125,7 @@ ends_act Print at value e = absurd (cc)
 ends_act Input at value e = absurd (cc)
 ends_act (Fail k) at value e = absurd (cc)
 
+-- an entry after which a thread has ended that had not before is that of an end
 ends_entry : (life : Life) (x : Entry) → (life ≡ Ended → ⊥) → life_entry life x ≡ Ended → IsEnd x
 ends_entry life (Sync a b c) ne e = ends_act b a c e
 ends_entry life (Commit a b) ne e = absurd (cc)
@@ -124,12 +134,14 @@ ends_entry life (Abort a b) ne e = absurd (ne e)
 ends_entry life (Trim a) ne e = absurd (ne e)
 ends_entry life (Over a) ne e = absurd (cc)
 
+-- an entry that makes a thread's life ended is that of an end
 is_end : (life : Life) (x : Entry) → life_after life x ≡ Ended → IsEnd x
 is_end Unbegun x e = ends_entry Unbegun x (λ z. cc) e
 is_end Running x e = ends_entry Running x (λ z. cc) e
 is_end Ended x e = absurd (cc)
 is_end Closed x e = absurd (cc)
 
+-- a list after which a thread has ended has the entry of its end last
 last_end : (life : Life) (x : Entry) (es : List Entry) → life_from life (x ∷ es) ≡ Ended → (i : ℕ) × (length (x ∷ es) ≡ i + 1)
     × ((e : Entry) × At (x ∷ es) i e × IsEnd e)
 last_end life x [] e = (0, refl, (x, refl, is_end life x e))

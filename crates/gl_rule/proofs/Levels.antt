@@ -48,10 +48,12 @@ level_act o n Print = n
 level_act o n Input = n
 level_act o n (Fail k) = n
 
+-- how often a thread is in a monitor after an event of its own, from how often it was before
 abbrev level_event : ℕ → ℕ → Event → ℕ
 level_event o n (Does act) = level_act o n act
 level_event o n (Commits xs) = n
 
+-- how often a thread is in a monitor after an entry, from how often it was before
 abbrev level_entry : ℕ → ℕ → Entry → ℕ
 level_entry o n (Sync at act value) = level_act o n act
 level_entry o n (Commit at tx) = n
@@ -60,16 +62,20 @@ level_entry o n (Abort tx why) = n
 level_entry o n (Trim low) = n
 level_entry o n (Over ending) = n
 
+-- how often a thread is in a monitor after a list of entries, from how often it was before
 abbrev level_from : ℕ → ℕ → List Entry → ℕ
 level_from o n [] = n
 level_from o n (e ∷ es) = level_from o (level_entry o n e) es
 
+-- a choice by whether two monitors are the same takes the first branch where they are
 at_same : (o p a b : ℕ) → p ≡ o → (if p == o then a else b) ≡ a
 at_same o p a b e = ap (λ c. if c then a else b) (eq-eqb p o e)
 
+-- a choice by whether two monitors are the same takes the second branch where they are not
 at_other : (o p a b : ℕ) → p ≢ o → (if p == o then a else b) ≡ b
 at_other o p a b e = ap (λ c. if c then a else b) (ne_eqb p o e)
 
+-- the level after two lists is that after the second, from the level after the first
 level_append : (o n : ℕ) (xs ys : List Entry) → level_from o n (xs ++ ys) ≡ level_from o (level_from o n xs) ys
 level_append o n [] ys = refl
 level_append o n (x ∷ xs) ys = level_append o (level_entry o n x) xs ys
@@ -93,6 +99,7 @@ entry_none o n (Abort a b) is = refl
 entry_none o n (Trim a) is = refl
 entry_none o n (Over a) is = refl
 
+-- entries that have no position leave the level as it is
 level_none : (o n : ℕ) (es : List Entry) → ((i : ℕ) (e : Entry) → At es i e → position_of e ≡ None) → level_from o n es ≡ n
 level_none o n [] all = refl
 level_none o n (e ∷ es) all = ap (λ k. level_from o k es) (entry_none o n e (all 0 e refl)) ∙ level_none o n es (λ i f a. all (suc i) f a)
@@ -103,9 +110,11 @@ level_none o n (e ∷ es) all = ap (λ k. level_from o k es) (entry_none o n e (
 abbrev IsLevel : ℕ → MonitorState → ℕ → Type 0
 IsLevel t m n = (d : ℕ) → (m ≡ Owned t d) ↔ ((n ≡ d) × (0 < d))
 
+-- a monitor that is owned in two ways is owned by one thread, to one depth
 owned_parts : (t u d e : ℕ) → Owned t d ≡ Owned u e → (t ≡ u) × (d ≡ e)
 owned_parts t u d e p = (cc, cc)
 
+-- a thread's level in a monitor that it owns is the depth to which it owns it
 level_owned : (t k n : ℕ) → n ≡ k → 0 < k → IsLevel t (Owned t k) n
 level_owned t k n same some d = (
   λ e. let q = owned_parts t t k d e in let b = q.1
@@ -113,12 +122,15 @@ level_owned t k n same some d = (
   λ w. ap (Owned t) (sym same ∙ w.0),
 )
 
+-- the level in a free monitor is zero
 level_free : (t n : ℕ) → n ≡ 0 → IsLevel t Free n
 level_free t n none d = (λ e. absurd (let k : Free ≡ Owned t d = e in cc), λ w. absurd (let a = w.0 in let b = w.1 in omega arith))
 
+-- what is a thread's level in a monitor that it owns is the depth, and that is above zero
 is_owned : (t k n : ℕ) → IsLevel t (Owned t k) n → (n ≡ k) × (0 < k)
 is_owned t k n l = (l k).0 refl
 
+-- what is a thread's level in a free monitor is zero
 is_free : (t n : ℕ) → IsLevel t Free n → n ≡ 0
 is_free t zero l = refl
 is_free t (suc n) l = absurd (let k : Free ≡ Owned t (suc n) = (l (suc n)).1 (refl, omega arith) in cc)
@@ -128,6 +140,7 @@ level_apart : (t : ℕ) (m k : MonitorState) (n : ℕ) → ((d : ℕ) → m ≡ 
     → IsLevel t k n
 level_apart t m k n before after l d = (λ e. absurd (after d e), λ w. absurd (before d ((l d).1 w)))
 
+-- a thread that enters a monitor is in it once more
 entered_level : (t n : ℕ) (m k : MonitorState) → Entered t m k → IsLevel t m n → IsLevel t k (n + 1)
 entered_level t n Free k e l = let z = is_free t n l
     in subst (λ x. IsLevel t x (n + 1)) (sym e) (level_owned t 1 (n + 1) (omega arith) (omega arith))
@@ -135,6 +148,7 @@ entered_level t n (Owned u j) k e l =
     let w = is_owned t j n (subst (λ x. IsLevel t (Owned x j) n) e.0 l) in
     let a = w.0 in subst (λ x. IsLevel t x (n + 1)) (sym e.1) (level_owned t (j + 1) (n + 1) (omega arith) (omega arith))
 
+-- a thread that leaves a monitor is in it once less
 left_level : (t n j : ℕ) → n ≡ j + 1 → IsLevel t (left_once t j) (n - 1)
 left_level t n zero is = level_free t (n - 1) (omega arith)
 left_level t n (suc j) is =
@@ -142,11 +156,13 @@ left_level t n (suc j) is =
     ap (λ b. if b then Free else Owned t (suc j)) (ne_eqb (suc j) 0 (λ e. absurd (omega arith))) in
     subst (λ x. IsLevel t x (n - 1)) (sym z) (level_owned t (suc j) (n - 1) (omega arith) (omega arith))
 
+-- when another thread enters a monitor, this one owns it neither before nor after
 entered_apart : (t u : ℕ) → u ≢ t → (m k : MonitorState) → Entered u m k → ((d : ℕ) → m ≡ Owned t d → ⊥) × ((d : ℕ) → k ≡ Owned t d → ⊥)
 entered_apart t u other Free k e = (λ d z. absurd (let w : Free ≡ Owned t d = z in cc), λ d z. other (owned_parts u t 1 d (sym e ∙ z)).0)
 entered_apart t u other (Owned v j) k e =
     (λ d z. other (sym e.0 ∙ (owned_parts v t j d z).0), λ d z. other (owned_parts u t (j + 1) d (sym e.1 ∙ z)).0)
 
+-- a monitor that another thread left is not owned by this one
 left_apart : (t u : ℕ) → u ≢ t → (j d : ℕ) → left_once u j ≡ Owned t d → ⊥
 left_apart t u other j d z = by (j == 0) z
   where
@@ -162,6 +178,7 @@ data MonitorStep (u : ℕ) (e : Event) (f g : ℕ → MonitorState) : Type 0 whe
   leaves : (p j : ℕ) → e ≡ Does (Rel p) → f p ≡ Owned u (j + 1) → g ≡ with_at f p (left_once u j) → MonitorStep u e f g
   keeps : ((o n : ℕ) → level_event o n e ≡ n) → g ≡ f → MonitorStep u e f g
 
+-- the effect of an event on the monitors is what the event's step says
 monitor_step : (setting : Setting) (old new : State) (u : ℕ) (e : Event) (value : ℤ) → Effect setting old u e value new
     → MonitorStep u e old.monitors new.monitors
 monitor_step setting old new u (Does (Begin f)) value k = keeps (λ o n. refl) (ap (λ (s : State). s.monitors) k)
@@ -224,6 +241,7 @@ record Split (h : List Stamp) (n : ℕ) : Type 0 where
   is : h ≡ front ++ last ∷ []
   long : length front ≡ n
 
+-- a log that is not empty is one event put after the others
 split_last : (h : List Stamp) (n : ℕ) → length h ≡ suc n → Split h n
 split_last [] n long = absurd (omega arith)
 split_last (x ∷ []) n long = record { front = []; last = x; is = refl; long = (omega arith) }
@@ -237,6 +255,7 @@ record RunSplit (setting : Setting) (old now : State) (l : List Stamp) (x : Stam
   value : ℤ
   step : Step setting mid x value now
 
+-- a run of a log with one event more is a run of the log and then the step of that event
 run_split : (setting : Setting) (old now : State) (l : List Stamp) (x : Stamp) → Run setting old (l ++ x ∷ []) now
     → RunSplit setting old now l x
 run_split setting old now [] x r = record { mid = old; run = refl; value = r.0; step = subst (Step setting old x r.0) (sym r.3) r.2 }
@@ -250,29 +269,35 @@ record Around (es : List Entry) (i : ℕ) (e : Entry) : Type 0 where
   is : es ≡ before ++ e ∷ behind
   long : length before ≡ i
 
+-- an entry of a list stands between a list before it and a list after it
 around : (es : List Entry) (i : ℕ) (e : Entry) → At es i e → Around es i e
 around [] i e a = absurd (cc)
 around (x ∷ es) zero e a = let same : x ≡ e = cc in record { before = []; behind = es; is = ap (λ y. y ∷ es) same; long = refl }
 around (x ∷ es) (suc i) e a = let r = around es i e a
     in record { before = x ∷ r.before; behind = r.behind; is = ap (λ l. x ∷ l) r.is; long = ap suc r.long }
 
+-- an entry stands at the length of the list before it
 at_here : (a : List Entry) (e : Entry) (b : List Entry) → At (a ++ e ∷ b) (length a) e
 at_here [] e b = refl
 at_here (x ∷ a) e b = at_here a e b
 
+-- an entry of a list after stands as much further on as the part before is long
 at_behind : (a : List Entry) (e : Entry) (b : List Entry) (j : ℕ) (f : Entry) → At b j f → At (a ++ e ∷ b) (length a + suc j) f
 at_behind [] e b j f at = let n : 0 + suc j ≡ suc j = omega arith in subst (λ k. At (e ∷ b) k f) (sym n) at
 at_behind (x ∷ a) e b j f at = let n : suc (length a) + suc j ≡ suc (length a + suc j) = omega arith
     in subst (λ k. At (x ∷ a ++ e ∷ b) k f) (sym n) (at_behind a e b j f at)
 
+-- an entry that stands within the first of two lists stands in that list
 at_front : (a b : List Entry) (j : ℕ) (f : Entry) → j < length a → At (a ++ b) j f → At a j f
 at_front [] b j f near at = absurd (omega arith)
 at_front (x ∷ a) b zero f near at = at
 at_front (x ∷ a) b (suc j) f near at = at_front a b j f (omega arith) at
 
+-- at one place of a list stands one entry
 same_entry : (es : List Entry) (i : ℕ) (e f : Entry) → At es i e → At es i f → e ≡ f
 same_entry es i e f a b = cc
 
+-- an entry has one position
 same_place : (e : Entry) (p q : ℕ) → position_of e ≡ Some p → position_of e ≡ Some q → p ≡ q
 same_place e p q a b = cc
 
@@ -377,6 +402,7 @@ level_law setting t o (suc n) h long now r es k =
 
 -- ---- the list of levels
 
+-- an act leaves the number of levels
 length_act : (levels : List ℕ) (act : Act) → length (levels_act levels act) ≡ length levels
 length_act levels (Acq p) = length-set levels p (slice_index levels p + 1)
 length_act levels (Rel p) = length-set levels p (slice_index levels p - 1)
@@ -391,6 +417,7 @@ length_act levels Print = refl
 length_act levels Input = refl
 length_act levels (Fail k) = refl
 
+-- an entry leaves the number of levels
 length_entry : (levels : List ℕ) (e : Entry) → length (levels_entry levels e) ≡ length levels
 length_entry levels (Sync at act value) = length_act levels act
 length_entry levels (Commit a b) = refl
@@ -399,6 +426,7 @@ length_entry levels (Abort a b) = refl
 length_entry levels (Trim a) = refl
 length_entry levels (Over a) = refl
 
+-- a list of entries leaves the number of levels
 length_from : (levels : List ℕ) (es : List Entry) → length (levels_from levels es) ≡ length levels
 length_from levels [] = refl
 length_from levels (e ∷ es) = length_from (levels_entry levels e) es ∙ length_entry levels e
@@ -408,6 +436,7 @@ pub length_levels : (es : List Entry) → length (levels_of es) ≡ MONITORS
 unfolding levels_of
 length_levels es = length_from (replicate MONITORS 0) es ∙ length-replicate {A = ℕ} MONITORS 0
 
+-- the level of o after p's is set is the new one if o is p, and the old one otherwise
 set_level : (levels : List ℕ) (p o v : ℕ) → o < length levels → slice_index_or (slice_set levels p v) o 0
     ≡ (if p == o then v else slice_index_or levels o 0)
 set_level levels p o v near = elim (ℕ_discrete o p) [
@@ -425,6 +454,7 @@ by_place p o levels f = elim (ℕ_discrete p o) [
       ∙ sym (at_other o p (f (slice_index_or levels o 0)) (slice_index_or levels o 0) ne)
 ]
 
+-- the level of o among all levels after an act is the level of o alone after the act
 act_level : (levels : List ℕ) (o : ℕ) (act : Act) → o < length levels → slice_index_or (levels_act levels act) o 0
     ≡ level_act o (slice_index_or levels o 0) act
 act_level levels o (Acq p) near = set_level levels p o (slice_index levels p + 1) near ∙ by_place p o levels (λ n. n + 1)
@@ -440,6 +470,7 @@ act_level levels o Print near = refl
 act_level levels o Input near = refl
 act_level levels o (Fail k) near = refl
 
+-- the level of o among all levels after an entry is the level of o alone after the entry
 entry_level : (levels : List ℕ) (o : ℕ) (e : Entry) → o < length levels → slice_index_or (levels_entry levels e) o 0
     ≡ level_entry o (slice_index_or levels o 0) e
 entry_level levels o (Sync at act value) near = act_level levels o act near
@@ -449,6 +480,7 @@ entry_level levels o (Abort a b) near = refl
 entry_level levels o (Trim a) near = refl
 entry_level levels o (Over a) near = refl
 
+-- the level of o among all levels after a list of entries is the level of o alone after the list
 from_level : (levels : List ℕ) (o : ℕ) (es : List Entry) → o < length levels → slice_index_or (levels_from levels es) o 0
     ≡ level_from o (slice_index_or levels o 0) es
 from_level levels o [] near = refl
@@ -456,6 +488,7 @@ from_level levels o (e ∷ es) near =
     let n = length_entry levels e in
     from_level (levels_entry levels e) o es (omega arith) ∙ ap (λ k. level_from o k es) (entry_level levels o e near)
 
+-- the level of a monitor among the levels of a list is its level alone, from zero
 of_level : (o : ℕ) (es : List Entry) → o < MONITORS → slice_index_or (levels_of es) o 0 ≡ level_from o 0 es
 unfolding levels_of
 of_level o es near =
@@ -464,6 +497,7 @@ of_level o es near =
 
 -- ---- the laws
 
+-- the levels of a thread's list are how often the machine has it in each monitor
 pub levels_tell : LevelsTell
 levels_tell setting h now t es allowed k o d near =
     subst (λ n. (now.monitors o ≡ Owned t d) ↔ ((n ≡ d) × (0 < d))) (sym (of_level o es near))
@@ -484,6 +518,7 @@ act_far o n Print far at value kept = refl
 act_far o n Input far at value kept = refl
 act_far o n (Fail k) far at value kept = refl
 
+-- a kept entry leaves the level of a monitor that there is not
 entry_far : (o n : ℕ) (e : Entry) → MONITORS ≤ o → IsEntryKept e → level_entry o n e ≡ n
 entry_far o n (Sync at act value) far kept = act_far o n act far at value kept
 entry_far o n (Commit a b) far kept = refl
@@ -492,6 +527,7 @@ entry_far o n (Abort a b) far kept = refl
 entry_far o n (Trim a) far kept = refl
 entry_far o n (Over a) far kept = refl
 
+-- kept entries leave the level of a monitor that there is not
 level_far : (o n : ℕ) (es : List Entry) → MONITORS ≤ o → All IsEntryKept es → level_from o n es ≡ n
 level_far o n [] far kept = refl
 level_far o n (e ∷ es) far kept = ap (λ k. level_from o k es) (entry_far o n e far (All-head IsEntryKept e es kept))
@@ -517,6 +553,7 @@ level_near es o some = elim (cases_lt o MONITORS) [
       in omega arith)
 ]
 
+-- the least monitors that a thread entered by its entries are the least that the machine has it own
 pub monitors_tell : MonitorsTell
 monitors_tell setting h now t es allowed k kept held l = record {
   rising = l.rising;
@@ -528,6 +565,7 @@ monitors_tell setting h now t es allowed k kept held l = record {
   least = λ o own. l.least o (owned_level setting h now t es allowed k kept o own.0 own.1).1;
 }
 
+-- a question of a thread that runs, with the least monitors that it owns, is of a next access
 pub questions_tell : QuestionsTell
 questions_tell setting h now t es allowed k life q by held =
     let b = has_block es life in
@@ -547,10 +585,12 @@ levels_append : (levels : List ℕ) (xs ys : List Entry) → levels_from levels 
 levels_append levels [] ys = refl
 levels_append levels (x ∷ xs) ys = levels_append (levels_entry levels x) xs ys
 
+-- the levels of a list with one entry more are those of the list, after that entry
 pub levels_push : (es : List Entry) (e : Entry) → levels_of (es ++ e ∷ []) ≡ levels_entry (levels_of es) e
 unfolding levels_of
 levels_push es e = levels_append (replicate MONITORS 0) es (e ∷ [])
 
+-- the levels of no entries are all zero
 pub levels_none : levels_of [] ≡ replicate MONITORS 0
 unfolding levels_of
 levels_none = refl
@@ -581,6 +621,7 @@ act_few levels o n act few = elim (cases_lt o (length levels)) [
     up o n Input = omega arith
     up o n (Fail k) = omega arith
 
+-- an entry raises a level by at most one
 entry_few : (levels : List ℕ) (o n : ℕ) (e : Entry) → slice_index levels o ≤ n → slice_index (levels_entry levels e) o ≤ suc n
 entry_few levels o n (Sync at act value) few = act_few levels o n act few
 entry_few levels o n (Commit a b) few = omega arith
@@ -589,10 +630,12 @@ entry_few levels o n (Abort a b) few = omega arith
 entry_few levels o n (Trim a) few = omega arith
 entry_few levels o n (Over a) few = omega arith
 
+-- a list raises a level by at most its length
 from_few : (levels : List ℕ) (o n : ℕ) (es : List Entry) → slice_index levels o ≤ n → slice_index (levels_from levels es) o ≤ n + length es
 from_few levels o n [] few = omega arith
 from_few levels o n (e ∷ es) few = let r = from_few (levels_entry levels e) o (suc n) es (entry_few levels o n e few) in omega arith
 
+-- where all levels are zero, so is each
 none_at : (o : ℕ) → slice_index (replicate MONITORS 0) o ≤ 0
 none_at o = elim (cases_lt o MONITORS) [
   | inl near ↦ (let e : slice_index (replicate MONITORS 0) o ≡ 0 = get_or-replicate {A = ℕ} MONITORS o 0 0 near in omega arith)
@@ -601,6 +644,7 @@ none_at o = elim (cases_lt o MONITORS) [
       ≡ 0 = Rattle.std.proofs.lemmas.List.get_or_past {X = ℕ} (replicate MONITORS 0) o 0 (omega arith) in omega arith)
 ]
 
+-- no level of a list is above the number of its entries
 pub levels_few : (es : List Entry) (o : ℕ) → slice_index (levels_of es) o ≤ length es
 unfolding levels_of
 levels_few es o =

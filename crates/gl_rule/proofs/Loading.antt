@@ -114,6 +114,7 @@ fits_tail key b w j v n is up all f =
     more h a st t m (suc k, l, e) = tail_later (length w.log) b.hold v.seen n h.object m h.taken (let s = f.knowledge.seen in omega arith)
         (t m (k, omega arith, e))
 
+-- a row that stands in a held slot has no place beyond the log
 held_within : (setting : Setting) (w : World) (hold : ℕ → ℕ) (drew : _) (row : Row) (k : ℕ)
     → StandsHeld setting w hold drew k (slot.Row row) → IsWithin row (length w.log)
 held_within setting w hold drew row zero st = absurd st
@@ -195,6 +196,7 @@ loads_stop key slots id v c s rule long here fits =
     let own : Contains v.reads SetStop → b.stop ≡ 1 = λ has. word ∙ All-contains P v.reads SetStop tries.each has in
     (u, table.keeps, tt, loads_word key s id 3075 u (w, reviews key w s id v u here (λ g o. o) H fits'), (refl, omega arith, risen, own))
 
+-- a row that stands in a held slot lies above the hold of its object
 above_in : (setting : Setting) (w : World) (hold : ℕ → ℕ) (drew : _) (k x : ℕ) (y : Slot) → k ≡ suc x → StandsHeld setting w hold drew k y
     → (row : _) → y ≡ slot.Row row → Rattle.gl_rule.specs.Values.IsAbove row (hold (suc x))
 above_in setting w hold drew k x y e st row is = let s : StandsHeld setting w hold drew (suc x) (slot.Row row) =
@@ -225,10 +227,12 @@ walked key w s id p v H here may =
     ] in
     let r : m ≤ p = omega arith in r
 
+-- a word that is in a cell fits the event there, where the pass may walk to it
 word_fits : (key : Key) (w : World) (s : table.State Slot View) (id p i : ℕ) (v : View) → Holds key w s → get_elem? s.views id ≡ some v
     → MayWalk v p → i < 5 → WordFits w.log (record { position = p; index = i; word = (board (capacity key) s.words).cell p i })
 word_fits key w s id p i v H here may few x at = H.whole.ring.cells p i x (walked key w s id p v H here may) at few
 
+-- a pass that fits, fits still once it has seen a word that fits
 fits_cell : (key : Key) (b : Board) (w : World) (j : ℕ) (v : View) (q : CellWord) → (q.position < length w.log) × WordFits w.log q
     → Fits key b w j v → Fits key b w j (saw_cell v q)
 fits_cell key b w j v q fit f = record {
@@ -310,6 +314,7 @@ loads_cell key slots id p i v c few below may s rule long here fits =
       (seen_within key w s id p v H here may, refl),
     )
 
+-- below the length of a log there is an event
 get_there : (xs : List Stamp) (p : ℕ) → p < length xs → (x : Stamp) × (slice_get xs p ≡ Some x)
 get_there [] p near = absurd (omega arith)
 get_there (x ∷ xs) zero near = (x, refl)
@@ -336,6 +341,7 @@ small_code setting old new x value step code is =
     subst (λ z. Effect setting old x.thread z value new) is step.effect in
     refused_small setting old x.thread code value e.0
 
+-- a pass may load the words of an event that it has seen and may walk to
 pub loads_event : (key : Key) (slots id p : ℕ) (v : View) (c : List (ℕ × Slot)) → p < v.seen → MayWalk v p
     → table.Allows (Rule key) slots id (v, c) (cell_at (capacity key) p 4) (λ n. n) (SawEvent (capacity key) p v c)
 loads_event key slots id p v c below may s rule long here fits =

@@ -55,6 +55,7 @@ record LowFacts (w : World) (id : ℕ) (v : View) (s s' : Shelf) (trims' : List 
   owed : OwedFits w.draws v.owed (s' ∷ [])
   others : (r : Shelf) → r.thread ≢ s.thread → ShelfTrims w.trims r → ShelfTrims trims' r
 
+-- a trim draws no number
 no_draw : (to x k : ℕ) → Draws (Trim to) x k → ⊥
 no_draw to x k (inl d) = d
 no_draw to x k (inr d) = d
@@ -157,6 +158,7 @@ rose key w id n to v s up may g cs o f d b t low = record {
         in absurd (omega arith)
     once o r (suc k, q, e) (suc k', q', e') same = low.once o r (k, omega arith, e) (k', omega arith, e') same
 
+-- where no Trim is stored, the pass's list and the Trims are as before
 stayed : (w : World) (id n : ℕ) (v : View) (s : Shelf) → ShelfRefusals w.until s → ShelfCarries w.values s
     → OwedFits w.draws v.owed (s ∷ []) → ShelfFits w.log w.seat id s → ShelfDraws w.draws v.drawn s → AreBelow v.seen s
     → ShelfTrims w.trims s → LowHolds n w.trims → LowFacts w id v s (shelf s.thread s.marked) w.trims n

@@ -82,6 +82,7 @@ held_next setting w x ds hold hold' drew zero (slot.Row r) ne e s = absurd s
 held_next setting w x ds hold hold' drew (suc z) slot.Empty ne e s = absurd s
 held_next setting w x ds hold hold' drew (suc z) (slot.List l) ne e s = absurd s
 
+-- a slot of another object stands as before when a number is drawn on x
 home_next : (setting : Setting) (w : World) (x : ℕ) (ds : List Draw) (hold hold' : ℕ → ℕ) (k : ℕ) (y : Slot) → k ≢ suc x → hold' k ≡ hold k
     → Stands setting w hold k y → Stands setting (record w { draws = with_at w.draws x ds }) hold' k y
 home_next setting w x ds hold hold' zero (slot.List l) ne e s = s
@@ -95,6 +96,7 @@ home_next setting w x ds hold hold' zero (slot.Row r) ne e s = absurd s
 home_next setting w x ds hold hold' (suc z) slot.Empty ne e s = absurd s
 home_next setting w x ds hold hold' (suc z) (slot.List l) ne e s = absurd s
 
+-- a held row of x from which a number is drawn stands as one that has drawn it
 drew_row : (setting : Setting) (w : World) (x : ℕ) (d : Draw) (hold hold' : ℕ → ℕ) (k : ℕ) (y : Slot) (row : Row) → k ≡ suc x → y
     ≡ slot.Row row → hold' (suc x) ≡ hold (suc x) → RowStands setting w.log x (w.draws x) row × IsAbove row (hold (suc x))
     → StandsHeld setting (record w { draws = with_at w.draws x (d ∷ w.draws x) }) hold' (Some d) k y
@@ -104,6 +106,7 @@ drew_row setting w x d hold hold' k y row e is same st =
     (record { before = w.draws x; draws_are = next_here w.draws x d; stands = st.0 }, subst (IsAbove row) (sym same) st.1) in
     subst (λ z. StandsHeld setting w' hold' (Some d) z y) (sym e) (subst (λ z. StandsHeld setting w' hold' (Some d) (suc x) z) (sym is) a)
 
+-- refusals hold after one draw more on x, if they hold for that draw
 refused_next : (draws : ℕ → List Draw) (x : ℕ) (d : Draw) (log : List Stamp) (until : ℕ → ℕ → ℕ) → RefusalHolds log (until x) x d (draws x)
     → ((y : ℕ) → RefusalsHold log (until y) y (draws y)) → (y : ℕ) → RefusalsHold log (until y) y (with_at draws x (d ∷ draws x) y)
 refused_next draws x d log until new all y = elim (ℕ_discrete y x) [
@@ -112,6 +115,7 @@ refused_next draws x d log until new all y = elim (ℕ_discrete y x) [
   | no ne ↦ subst (λ l. RefusalsHold log (until y) y l) (sym (next_else draws x d y ne)) (all y)
 ]
 
+-- what is owed on x has the same last write after another thread's draw on x
 owed_next : (log : List Stamp) (draws : ℕ → List Draw) (x : ℕ) (d : Draw) (shelves : List Shelf) (y : ℕ) → y ≡ x → OwedOne draws shelves y
     → ((r : Shelf) → Contains shelves r → (d.thread ≢ r.thread) × Rattle.gl_draws.specs.Events.AreEvents log r.thread r.marked)
     → DrawsHold log x (d ∷ draws x) → last_write y (with_at draws x (d ∷ draws x) y) ≡ last_write y (draws y)
@@ -121,6 +125,7 @@ owed_next log draws x d shelves y e o other all =
     ∙ write_past x d (draws x) (calm_write log draws shelves x d (draws x) q q.last other all))
     o
 
+-- a variable on which something is owed stays calm after another thread's draw
 owed_calm : (log : List Stamp) (draws : ℕ → List Draw) (x : ℕ) (d : Draw) (shelves : List Shelf) (y : ℕ) → y ≡ x → OwedOne draws shelves y
     → ((r : Shelf) → Contains shelves r → (d.thread ≢ r.thread) × Rattle.gl_draws.specs.Events.AreEvents log r.thread r.marked)
     → DrawsHold log x (d ∷ draws x) → IsCalm y (draws y) → IsCalm y (with_at draws x (d ∷ draws x) y)
@@ -455,6 +460,7 @@ module _ (key : Key) (w : World) (b : Board) (id : ℕ) (v : View) (s : Shelf) (
       subst (λ k. Marks k ds → DrawsHold k x (draw s.thread p (Entered (Plain x (length ds) false write value raised)) ∷ ds)) (sym is)
       (right_at ds tails (take v.seen log) (drop v.seen log) long) (record { facts = f; stands = st; verdicts = verdicts })
 
+-- an uncached access has the form of an entry, if its value is zero where a read raised
 plain_form : (t x n : ℕ) (write raised : Bool) (value : ℤ) → (raised ≡ true → write ≡ false → value ≡ pos 0)
     → EntryForm t (Plain x n false write value raised)
 plain_form t x n write true value none = (refl, none refl)
@@ -494,6 +500,7 @@ marks_plain key slots id v c s h x taken p q write value raised one may =
       right = mark_right key w b id v s h x taken p q write value raised may (w.draws x) w.log f.tails f.facts f.stands f.verdicts;
     })
 
+-- where there is a place for a draw, at most one draw on that variable waits for its entry
 place_few : (look : Option ℤ) (x : ℕ) (drawn : List Drawn) → HasPlace look x drawn → count_on x drawn ≤ 1
 place_few (Some value) x drawn h = omega arith
 place_few None x drawn h = h

@@ -30,6 +30,7 @@ use Rattle.gl_rule.specs.Rule.{Fits, Rule}
 use Rattle.gl_rule.proofs.Seats.{blank_fits}
 use Rattle.gl_rule.specs.Tries.{TellsTaken}
 
+-- the world of a table at the start: no event, no draw
 abbrev first_world : Setting → World
 first_world setting = record {
   log = [];
@@ -45,41 +46,51 @@ first_world setting = record {
   stopped = 0;
 }
 
+-- a list of n zeros
 abbrev pub zero_list : ℕ → List ℕ
 zero_list n = replicate n 0
 
+-- each of the zeros is zero
 zeros : (n i : ℕ) → slice_index (zero_list n) i ≡ 0
 zeros zero i = refl
 zeros (suc n) zero = refl
 zeros (suc n) (suc i) = zeros n i
 
+-- the list of n zeros is n long
 zeros_long : (n : ℕ) → length (zero_list n) ≡ n
 zeros_long zero = refl
 zeros_long (suc n) = ap suc (zeros_long n)
 
+-- where no thread has a read, each has none
 none_read : (n t : ℕ) → read_of (replicate n None) t ≡ None
 none_read zero t = refl
 none_read (suc n) zero = refl
 none_read (suc n) (suc t) = none_read n t
 
+-- a list of n infos that are none
 abbrev nones : ℕ → List (Option Rattle.gl_model.specs.declared.row.Info.Info)
 nones n = replicate n None
 
+-- the list of n infos that are none is n long
 none_long : (n : ℕ) → length (nones n) ≡ n
 none_long zero = refl
 none_long (suc n) = ap suc (none_long n)
 
+-- the empty row stands for a variable that nothing was drawn on
 row_stands : (setting : Setting) (x : ℕ) → RowStands setting [] x [] empty_row
 row_stands setting x = record { word = refl; last_write = tt; threads = none_long 16; reads = λ t. rw (none_read 16 t) tt }
 
+-- the empty row lies above hold zero
 row_above : IsAbove empty_row 0
 row_above = record { at = λ i has. omega arith }
 
+-- at the start each row is at home and empty
 rows_home : (n x : ℕ) → x < n → get_elem? (map some (replicate n (slot.Row empty_row))) x ≡ some (some (slot.Row empty_row))
 rows_home zero x near = absurd (omega arith)
 rows_home (suc n) zero near = refl
 rows_home (suc n) (suc x) near = rows_home n x (omega arith)
 
+-- the empty list of a thread fits the empty log
 shelf_fits : (t : ℕ) → t < THREADS → ShelfFits [] (λ _. 0) 0 (shelf t [])
 shelf_fits t near = record {
   here = refl;
@@ -97,6 +108,7 @@ shelf_fits t near = record {
   made = omega arith;
 }
 
+-- the empty list of a thread has no draws to agree with
 shelf_draws : (t : ℕ) → ShelfDraws (λ _. []) [] (shelf t [])
 shelf_draws t = record {
   numbers = record {
@@ -111,6 +123,7 @@ shelf_draws t = record {
   runs = λ o c. absurd (let l = c.1 in omega arith);
 }
 
+-- what is true of each thread's empty list from t on is true of all n lists from t
 all_from : (P : Shelf → Type 0) (t n : ℕ) → ((u : ℕ) → t ≤ u → u < t + n → P (shelf u [])) → All P (shelves_from t n)
 all_from P t zero f = All-nil P
 all_from P t (suc n) f = All-cons P (shelf t []) (shelves_from (suc t) n) (f t (omega arith) (omega arith))

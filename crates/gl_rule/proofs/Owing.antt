@@ -19,10 +19,12 @@ use Rattle.gl_rule.specs.View.{Shelf, shelf}
 use Rattle.gl_draws.specs.Forming.{IsFormed}
 use Rattle.gl_rule.specs.Owed.{repeat_value, repeats_of, OwedOne, IsPending, OwedFits}
 
+-- appending three lists gives the same, whichever two come first
 assoc : (us ws zs : List ℤ) → (us ++ ws) ++ zs ≡ us ++ (ws ++ zs)
 assoc [] ws zs = refl
 assoc (u ∷ us) ws zs = ap (λ l. u ∷ l) (assoc us ws zs)
 
+-- appending the empty list changes nothing
 right_nil : (us : List ℤ) → us ++ [] ≡ us
 right_nil [] = refl
 right_nil (u ∷ us) = ap (λ l. u ∷ l) (right_nil us)
@@ -59,6 +61,7 @@ none_repeats x k (e ∷ es) none = ap (λ l. l ++ repeat_value x k e) (none_repe
     here (Trim a) not = refl
     here (Over a) not = refl
 
+-- an entry that gives a right under a number draws that number
 gives_draws : (e : Entry) (x k : ℕ) (w : Bool) → GivesRight e x k w → Draws e x k
 gives_draws (Plain var nth cached write value raised) x k w g = inr (g.0, g.2, g.3)
 gives_draws (Sync a b c) x k w g = absurd g
@@ -79,10 +82,12 @@ next_unrepeated draws t es drawn x d f = none_repeats x (length (draws x)) es (�
         let m = d.made x (length (draws x)) h.index h.entry h.there (gives_draws h.entry x (length (draws x)) h.by_write h.gives) in
         let l = draw_below (draws x) (length (draws x)) m.0 m.1 in omega arith
 
+-- what is among one list is that list
 one_shelf_is : (s r : Shelf) → Contains (s ∷ []) r → s ≡ r
 one_shelf_is s r (zero, l, e) = e
 one_shelf_is s r (suc k, l, e) = absurd (omega arith)
 
+-- one-element lists that are equal have equal elements
 head_is : (a b : Shelf) → a ∷ [] ≡ b ∷ [] → a ≡ b
 head_is a b e = cc
 

@@ -138,14 +138,17 @@ same_thread v a b e f = let same : a ∷ [] ≡ b ∷ [] = sym e ∙ f in head a
     head : (a b : Shelf) → a ∷ [] ≡ b ∷ [] → a.thread ≡ b.thread
     head a b e = let s : a ≡ b = cc in ap (λ (z : Shelf). z.thread) s
 
+-- after publishing, the held list is the new one, and the new length is its only tail
 after_list : (n : ℕ) (y : Slot) (drew : Held → Option Draw) (h : Held) → h.object ≡ 0 → after_publish n y drew h
     ≡ record h { taken = y; tails = suc n ∷ [] }
 after_list n y drew h e = let b : (h.object == 0) ≡ true = eq-eqb h.object 0 e in rw b refl
 
+-- after publishing, a held row has the new length among its tails, and its draw is told
 after_row : (n : ℕ) (y : Slot) (drew : Held → Option Draw) (h : Held) → h.object ≢ 0 → after_publish n y drew h
     ≡ record h { tails = suc n ∷ h.tails; drew = drew h }
 after_row n y drew h e = let b : (h.object == 0) ≡ false = ne_eqb h.object 0 e in rw b refl
 
+-- publishing leaves which object a slot is of
 after_object : (n : ℕ) (y : Slot) (drew : Held → Option Draw) (h : Held) → (after_publish n y drew h).object ≡ h.object
 after_object n y drew h = elim (ℕ_discrete h.object 0) [
   | yes e ↦ ap (λ (z : Held). z.object) (after_list n y drew h e)
@@ -177,6 +180,7 @@ world_after w x new value draws = record w {
   states = with_at w.states (suc (length w.log)) new;
 }
 
+-- an event that was in the log is the same step of the machine after one more is published
 step_old : (setting : Setting) (w : World) (x : Stamp) (new : State) (value : ℤ) (draws : ℕ → List Draw) (p : ℕ) (r : Stamp)
     → EventAt w.log p r → MachineHolds setting w
     → Step setting ((world_after w x new value draws).states p) r ((world_after w x new value draws).values p)
@@ -190,6 +194,7 @@ step_old setting w x new value draws p r at m =
     (subst (λ z. Step setting (w.states p) r z ((world_after w x new value draws).states (suc p))) (sym c)
     (subst (λ z. Step setting (w.states p) r (w.values p) z) (sym b) (m.steps p r at)))
 
+-- the event that is published is the machine's step from the state that was the last
 step_new : (setting : Setting) (w : World) (x : Stamp) (new : State) (value : ℤ) (draws : ℕ → List Draw) (p : ℕ) (r : Stamp) → p
     ≡ length w.log → r ≡ x → Step setting w.now x value new → MachineHolds setting w
     → Step setting ((world_after w x new value draws).states p) r ((world_after w x new value draws).values p)
@@ -209,6 +214,7 @@ step_new setting w x new value draws p r is same step m =
     (subst (λ z. Step setting ((world_after w x new value draws).states n) z ((world_after w x new value draws).values n)
     ((world_after w x new value draws).states (suc n))) (sym same) at_n)
 
+-- a list carries the values of its events still after one more is published
 carries_old : (w : World) (x : Stamp) (new : State) (value : ℤ) (draws : ℕ → List Draw) (s : Shelf)
     → Rattle.gl_draws.specs.Events.AreEvents w.log s.thread s.marked → ShelfCarries w.values s
     → ShelfCarries (world_after w x new value draws).values s
@@ -259,6 +265,7 @@ row_else setting w w' more hold hold' drew (suc x) (slot.Row row) is nz same e s
 row_else setting w w' more hold hold' drew (suc x) slot.Empty is nz same e st = absurd st
 row_else setting w w' more hold hold' drew (suc x) (slot.List l) is nz same e st = absurd st
 
+-- a held slot that is not the list stands after a change if its row does and its hold is the same
 row_own : (setting : Setting) (w w' : World) (hold hold' : ℕ → ℕ) (drew drew' : Option Draw) (k : ℕ) (y : Slot) → k ≢ 0
     → ((x : ℕ) (row : Row) → k ≡ suc x → RowHeld setting w x drew row → RowHeld setting w' x drew' row) → hold' k ≡ hold k
     → StandsHeld setting w hold drew k y → StandsHeld setting w' hold' drew' k y
@@ -267,6 +274,7 @@ row_own setting w w' hold hold' drew drew' (suc x) (slot.Row row) nz step e st =
 row_own setting w w' hold hold' drew drew' (suc x) slot.Empty nz step e st = absurd st
 row_own setting w w' hold hold' drew drew' (suc x) (slot.List l) nz step e st = absurd st
 
+-- a slot at home that is not the list stands still when the log grows, if its draws and its hold are the same
 home_else : (setting : Setting) (w w' : World) (more : List Stamp) (hold hold' : ℕ → ℕ) (k : ℕ) (y : Slot) → w'.log ≡ w.log ++ more → k ≢ 0
     → ((x : ℕ) → k ≡ suc x → w'.draws x ≡ w.draws x) → hold' k ≡ hold k → Stands setting w hold k y → Stands setting w' hold' k y
 home_else setting w w' more hold hold' zero y is nz same e st = absurd (nz refl)
@@ -287,6 +295,7 @@ tail_else long long' seen hold hold' (suc x) n (slot.Row row) nz e t = (t.0, t.1
 tail_else long long' seen hold hold' (suc x) n slot.Empty nz e t = absurd t
 tail_else long long' seen hold hold' (suc x) n (slot.List l) nz e t = absurd t
 
+-- a tail of the old length fits a slot that is not the list after an event more
 tail_push : (setting : Setting) (w : World) (long' : ℕ) (hold hold' : ℕ → ℕ) (drew : Option Draw) (k m : ℕ) (y : Slot) → k ≢ 0
     → k < objects → length w.log ≤ m → hold' k ≡ hold k → ((x : ℕ) → x < VARIABLES → hold (suc x) ≤ length w.log)
     → StandsHeld setting w hold drew k y → TailFits long' hold' m k y m
@@ -303,32 +312,39 @@ tail_push setting w long' hold hold' drew (suc x) m (slot.Row row) nz near le e 
 tail_push setting w long' hold hold' drew (suc x) m slot.Empty nz near le e up st = absurd st
 tail_push setting w long' hold hold' drew (suc x) m (slot.List l) nz near le e up st = absurd st
 
+-- a cell word that fits the log fits the log with one event more
 word_grows : (log : List Stamp) (x : Stamp) (q : CellWord) → (q.position < length log) × WordFits log q
     → (q.position < length (log ++ x ∷ [])) × WordFits (log ++ x ∷ []) q
 word_grows log x q f = let a = f.0 in (omega (arith, length-append log (x ∷ [])), λ y at. f.1 y (event_back log (x ∷ []) q.position y a at))
 
+-- a held list that stands tells the machine's state
 state_zero : (setting : Setting) (w : World) (hold : ℕ → ℕ) (drew : Option Draw) (k : ℕ) (y : Slot) (l : ListView) → k ≡ 0 → y
     ≡ slot.List l → StandsHeld setting w hold drew k y → IsStateOf l w.now
 state_zero setting w hold drew k y l e is st = let a : StandsHeld setting w hold drew 0 (slot.List l) =
     subst (λ z. StandsHeld setting w hold drew 0 z) is (subst (λ z. StandsHeld setting w hold drew z y) e st) in a
 
+-- a list that tells the machine's state stands as the held list
 zero_state : (setting : Setting) (w : World) (hold : ℕ → ℕ) (drew : Option Draw) (k : ℕ) (l : ListView) → k ≡ 0 → IsStateOf l w.now
     → StandsHeld setting w hold drew k (slot.List l)
 zero_state setting w hold drew k l e st =
     subst (λ z. StandsHeld setting w hold drew z (slot.List l)) (sym e) (let a : StandsHeld setting w hold drew 0 (slot.List l) = st in a)
 
+-- the length of the log is a tail that fits the list
 zero_tail : (long seen : ℕ) (hold : ℕ → ℕ) (k n : ℕ) (y : Slot) → k ≡ 0 → n ≡ long → TailFits long hold seen k y n
 zero_tail long seen hold k n y e t = subst (λ z. TailFits long hold seen z y n) (sym e) (let a : TailFits long hold seen 0 y n = t in a)
 
+-- how many entries of a list count
 abbrev counted' : Shelf → ℕ
 counted' r = Rattle.gl_draws.specs.Ties.counted r.marked
 
+-- after publishing, each tail of the held list fits
 new_list : (log : List Stamp) (x : Stamp) (hold : ℕ → ℕ) (g : Held) (y : Slot) → g.object ≡ 0 → (a : ℕ)
     → Contains (suc (length log) ∷ []) a → TailFits (length (log ++ x ∷ [])) hold (suc (length log)) g.object y a
 new_list log x hold g y z a (zero, q, e) = let same : suc (length log) ≡ a = e
     in zero_tail (length (log ++ x ∷ [])) (suc (length log)) hold g.object a y z (sym same ∙ omega (arith, length-append log (x ∷ [])))
 new_list log x hold g y z a (suc k, q, e) = absurd (omega arith)
 
+-- after publishing, each tail of a held row fits, the new length among them
 new_row : (setting : Setting) (w : World) (x : Stamp) (seen : ℕ) (b b' : Board) (g : Held) → g.object ≢ 0 → g.object < objects
     → SameHolds b b' → ((z : ℕ) → z < VARIABLES → b.hold (suc z) ≤ length w.log) → HeldStands setting w b.hold g
     → TailsFit (length w.log) b.hold seen g → seen ≤ length w.log → (a : ℕ) → Contains (suc (length w.log) ∷ g.tails) a

@@ -35,6 +35,7 @@ use Rattle.gl_rule.proofs.FittingLaws.{Facts, front_fits, put_stands, within_see
 use Rattle.gl_rule.proofs.Frames.{machine_same, turns_kept, turns_same, stands_at, held_at, tail_at, read_at, reviews, loads_word, floor_moves}
 use Rattle.gl_rule.proofs.Tries.{tries_same, tries_saw}
 
+-- a held slot stands still when the holds change only where it is the list
 held_at' : (setting : Setting) (w : World) (hold hold' : ℕ → ℕ) (drew : Option Draw) (k : ℕ) (y : Slot) → (k ≢ 0 → hold' k ≡ hold k)
     → StandsHeld setting w hold drew k y → StandsHeld setting w hold' drew k y
 held_at' setting w hold hold' drew zero (slot.List l) e s = s
@@ -50,6 +51,7 @@ stands_at' setting w hold hold' zero slot.Empty e s = absurd s
 stands_at' setting w hold hold' zero (slot.Row r) e s = absurd s
 stands_at' setting w hold hold' (suc x) y e s = stands_at setting w hold hold' (suc x) y (e (λ z. omega arith)) s
 
+-- a tail fits still when the holds change only where the object is the list
 tail_at' : (long seen : ℕ) (hold hold' : ℕ → ℕ) (k n : ℕ) (y : Slot) → (k ≢ 0 → hold' k ≡ hold k) → TailFits long hold seen k y n
     → TailFits long hold' seen k y n
 tail_at' long seen hold hold' zero n y e s = s

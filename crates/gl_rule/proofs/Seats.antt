@@ -82,6 +82,7 @@ stands_seat setting w seat' hold zero (slot.Row r) s = absurd s
 stands_seat setting w seat' hold (suc x) slot.Empty s = absurd s
 stands_seat setting w seat' hold (suc x) (slot.List l) s = absurd s
 
+-- a held slot stands whatever the seats are
 held_seat : (setting : Setting) (w : World) (seat' hold : ℕ → ℕ) (drew : _) (k : ℕ) (y : Slot) → StandsHeld setting w hold drew k y
     → StandsHeld setting (record w { seat = seat' }) hold drew k y
 held_seat setting w seat' hold drew zero (slot.List l) s = s
@@ -92,6 +93,7 @@ held_seat setting w seat' hold drew zero (slot.Row r) s = absurd s
 held_seat setting w seat' hold drew (suc x) slot.Empty s = absurd s
 held_seat setting w seat' hold drew (suc x) (slot.List l) s = absurd s
 
+-- a pass fits after seats change, if each list of it does
 fits_seat : (key : Key) (b : Board) (w : World) (seat' : ℕ → ℕ) (j : ℕ) (v : View)
     → ((s : Shelf) → ShelfFits w.log w.seat j s → ShelfFits w.log seat' j s) → Fits key b w j v → Fits key b (record w { seat = seat' }) j v
 fits_seat key b w seat' j v moves f =
@@ -112,6 +114,7 @@ fits_seat key b w seat' j v moves f =
       owed = f.owed;
     }
 
+-- turns hold still when passes are added at the end
 turns_longer : (turn holder : ℕ → ℕ) (views more : List View) → TurnsHold turn holder views → TurnsHold turn holder (views ++ more)
 turns_longer turn holder views more p = record {
   named = p.named;
@@ -173,6 +176,7 @@ enters key slots i s rule long fits =
       refl,
     )
 
+-- what is in a one-element list is in a list that begins with that element
 in_first : (s : Shelf) (l : List Shelf) (r : Shelf) → Contains (s ∷ []) r → Contains (s ∷ l) r
 in_first s l r (zero, q, e) = (zero, omega arith, e)
 in_first s l r (suc k, q, e) = absurd (omega arith)
@@ -181,12 +185,15 @@ in_first s l r (suc k, q, e) = absurd (omega arith)
 abbrev moved : (ℕ → ℕ) → ℕ → ℕ → ℕ → ℕ
 moved seat t j k = if k == t then j else seat k
 
+-- a thread that is moved to a seat sits there
 moved_here : (seat : ℕ → ℕ) (t j : ℕ) → moved seat t j t ≡ j
 moved_here seat t j = let b : (t == t) ≡ true = eq-eqb t t refl in rw b refl
 
+-- moving a thread leaves the seats of the others
 moved_other : (seat : ℕ → ℕ) (t j k : ℕ) → k ≢ t → moved seat t j k ≡ seat k
 moved_other seat t j k ne = let b : (k == t) ≡ false = ne_eqb k t ne in rw b refl
 
+-- a list of another thread fits still when a thread is moved
 shelf_moves : (log : List Stamp) (seat : ℕ → ℕ) (t i j : ℕ) (s : Shelf) → s.thread ≢ t → ShelfFits log seat j s
     → ShelfFits log (moved seat t i) j s
 shelf_moves log seat t i j s ne f = record {
@@ -252,12 +259,15 @@ splits key id t v l is apart s rule at =
 abbrev joined : (ℕ → ℕ) → ℕ → ℕ → ℕ → ℕ
 joined seat from to k = if seat k == from then to else seat k
 
+-- who sat at a seat that is joined to another sits at the other
 joined_from : (seat : ℕ → ℕ) (from to k : ℕ) → seat k ≡ from → joined seat from to k ≡ to
 joined_from seat from to k e = let b : (seat k == from) ≡ true = eq-eqb (seat k) from e in rw b refl
 
+-- who sat elsewhere than at the joined seat sits where he sat
 joined_other : (seat : ℕ → ℕ) (from to k : ℕ) → seat k ≢ from → joined seat from to k ≡ seat k
 joined_other seat from to k ne = let b : (seat k == from) ≡ false = ne_eqb (seat k) from ne in rw b refl
 
+-- a list of a pass that is not joined fits still after the seats are joined
 shelf_joined : (log : List Stamp) (seat : ℕ → ℕ) (from to j : ℕ) (s : Shelf) → j ≢ from → ShelfFits log seat j s
     → ShelfFits log (joined seat from to) j s
 shelf_joined log seat from to j s far p =
@@ -270,6 +280,7 @@ shelf_joined log seat from to j s far p =
       made = p.made;
     }
 
+-- either of two quiet flags means that the machine is quiet, if each does
 quiet_both : (now : State) (a c : Bool) → (a ≡ true → IsQuiet now) → (c ≡ true → IsQuiet now) → (a || c) ≡ true → IsQuiet now
 quiet_both now true c f g e = f refl
 quiet_both now false true f g e = g refl

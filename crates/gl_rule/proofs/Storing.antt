@@ -101,10 +101,12 @@ sets_stop key slots id v c st rule long here fits =
       refl,
     )
 
+-- the element that is put last stands at the old length
 last_here : (xs : List ℕ) (x : ℕ) → slice_index (xs ++ x ∷ []) (length xs) ≡ x
 last_here [] x = refl
 last_here (y ∷ xs) x = last_here xs x
 
+-- what stands in the first of two lists stands there in both together
 front_here : (xs ys : List ℕ) (i : ℕ) → i < length xs → slice_index (xs ++ ys) i ≡ slice_index xs i
 front_here [] ys i h = absurd (omega arith)
 front_here (x ∷ xs) ys zero h = refl

@@ -74,6 +74,7 @@ tries_saw stopped takers shelves reads r fit apart f = record {
   others = λ s k by one c. elim (in_pushed reads r (Busy k by) c) [ inl old ↦ f.others s k by one old | inr new ↦ apart s k by one new ];
 }
 
+-- a read that fits fits still once the stop word is no less and no taker is gone
 try_grows : (stopped stopped' : ℕ) (takers takers' : ℕ → List ℕ) → stopped ≤ stopped' → stopped' ≤ 1
     → ((k t : ℕ) → Contains (takers k) t → Contains (takers' k) t) → (r : Read) → TryFits stopped takers r → TryFits stopped' takers' r
 try_grows stopped stopped' takers takers' up few more (Busy k by) q = more k by q
@@ -101,6 +102,7 @@ others_both [] ys before reads s has none g a k by one c = g a k by one (subst (
 others_both (x ∷ xs) ys before reads s has none g a k by one c =
     absurd (let l = length-append xs ys in let n : suc (length (xs ++ ys)) ≡ 1 = ap length one in let q = has.1 in omega arith)
 
+-- the reads of two joined passes fit the lists of both
 pub tries_both : (stopped : ℕ) (takers : ℕ → List ℕ) (v u : View) (s : Shelf) → (v.shelves ≡ [] → v.reads ≡ []) → Contains u.shelves s
     → TriesFit stopped takers v.shelves v.reads → TriesFit stopped takers u.shelves u.reads
     → TriesFit stopped takers (v.shelves ++ u.shelves) (v.reads ++ u.reads)

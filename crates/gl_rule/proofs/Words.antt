@@ -10,15 +10,19 @@ set_same [] i = refl
 set_same (n ∷ ns) zero = refl
 set_same (n ∷ ns) (suc i) = λ j. n ∷ set_same ns i j
 
+-- two boards that have the same turns
 abbrev pub SameTurns : Board → Board → Type 0
 SameTurns b b' = (y : ℕ) → y < objects → b'.turn y ≡ b.turn y
 
+-- two boards that have the same counts
 abbrev pub SameCounts : Board → Board → Type 0
 SameCounts b b' = (y : ℕ) → y < objects → b'.count y ≡ b.count y
 
+-- two boards that have the same holds
 abbrev pub SameHolds : Board → Board → Type 0
 SameHolds b b' = (y : ℕ) → y < objects → b'.hold y ≡ b.hold y
 
+-- two boards that have the same cells
 abbrev pub SameCells : Board → Board → Type 0
 SameCells b b' = (p i : ℕ) → b'.cell p i ≡ b.cell p i
 

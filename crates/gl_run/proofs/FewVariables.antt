@@ -33,12 +33,15 @@ use Rattle.gl_run.proofs.SameRecord.{first_list, no_list, other_list, some_entry
 
 -- ## One number put in its place
 
+-- a number that is first in a list is not put there again
 put_same : (x y : ℕ) (ys : List ℕ) → x ≡ y → with_one x (y ∷ ys) ≡ y ∷ ys
 put_same x y ys same = rw (eq-eqb x y same) refl
 
+-- a number below the first of a list is put before it
 put_below : (x y : ℕ) (ys : List ℕ) → x < y → with_one x (y ∷ ys) ≡ x ∷ y ∷ ys
 put_below x y ys less = rw (ne_eqb x y (λ e. omega (arith, less, e)), lt-ltb x y less) refl
 
+-- a number above the first of a list is put among the rest
 put_above : (x y : ℕ) (ys : List ℕ) → y < x → with_one x (y ∷ ys) ≡ y ∷ with_one x ys
 put_above x y ys less = rw (ne_eqb x y (λ e. omega (arith, less, e)), le-ltb x y (omega (arith, less))) refl
 
@@ -114,6 +117,7 @@ put_length x (y ∷ ys) = elim (cases_order x y) [
 
 -- ## Many put in their places
 
+-- putting numbers among others makes no list shorter
 all_grow : (xs ys : List ℕ) → length ys ≤ length (with_all xs ys)
 all_grow [] ys = omega arith
 all_grow (x ∷ xs) ys = omega (arith, (put_length x ys).0, all_grow xs (with_one x ys))
@@ -139,9 +143,11 @@ one_all x (y ∷ xs) ys = elim (cases_order x y) [
 
 -- ## The variables of words
 
+-- variables with their values
 abbrev Words : Type 0
 Words = List (ℕ × ℤ)
 
+-- the variables of words
 abbrev vars : Words → List ℕ
 vars ws = map (λ w. w.0) ws
 
@@ -179,9 +185,11 @@ word_with x y a ws has = elim (cases_Bool (x == y)) [
 
 -- ## What an attempt touched
 
+-- the variables of looks and writes, each once
 abbrev all_vars : Words → Words → List ℕ
 all_vars looks writes = with_all (vars writes) (vars looks)
 
+-- whether a variable is among looks or writes
 abbrev has_word : Words → Words → ℕ → Bool
 has_word looks writes x = is_some (word_of writes x) || is_some (word_of looks x)
 
@@ -190,6 +198,7 @@ record AreFew (looks writes : Words) : Type 0 where
   few : length (all_vars looks writes) ≤ TX_VARIABLES
   among : (x : ℕ) → has_word looks writes x ≡ true → with_one x (all_vars looks writes) ≡ all_vars looks writes
 
+-- no looks and no writes are few
 none_few : AreFew [] []
 none_few = record { few = omega arith; among = λ x has. cc }
 
@@ -210,6 +219,7 @@ one_more x looks writes more others old same new room = record { few = few; amon
     | inr had ↦ swap y x (all_vars looks writes) ∙ ap (with_one x) (old.among y had)
   ] ∙ sym same
 
+-- looks and writes stay few after a look, if there was room
 more_look : (x : ℕ) (a : ℤ) (looks writes : Words) → AreFew looks writes → length (all_vars looks writes) < TX_VARIABLES
     → AreFew (with_word x a looks) writes
 more_look x a looks writes old room =
@@ -225,6 +235,7 @@ more_look x a looks writes old room =
     either true t is = refl
     either false t is = is
 
+-- looks and writes stay few after a write to a variable that was among them, or if there was room
 more_write : (x : ℕ) (a : ℤ) (looks writes : Words) → AreFew looks writes
     → (has_word looks writes x ≡ true) ⊎ (length (all_vars looks writes) < TX_VARIABLES)
     → AreFew looks (with_word x a writes)
@@ -282,6 +293,7 @@ no_read_made p x (Abort tx why) running = refl
 no_read_made p x (Trim low) running = refl
 no_read_made p x (Ended ending) running = refl
 
+-- within an attempt no entry answers a write
 no_write_made : (p : Progress) (x : ℕ) (a : ℤ) (e : Entry) → is_none p.config.attempt ≡ false → reply_in p (Write x a) e ≡ None
 no_write_made p x a (Sync at act value) running = no_write x a act value
 no_write_made p x a (Plain var nth cached write value raised) running = rw running refl
@@ -290,6 +302,7 @@ no_write_made p x a (Abort tx why) running = refl
 no_write_made p x a (Trim low) running = refl
 no_write_made p x a (Ended ending) running = refl
 
+-- what is none is not something
 none_some : {A : Type 0} (o : Option A) (v : A) → o ≡ None → o ≡ Some v → ⊥
 none_some o v none some = (let e = sym none ∙ some in cc)
 
@@ -299,6 +312,7 @@ new_word (Some b) l room a none is = cc
 new_word None (Some b) room a none is = cc
 new_word None None room a none is = is
 
+-- a read of a variable that was not known, within an attempt without an entry, found room
 quiet_room : (p : Progress) (o : Option Attempt) (x : ℕ) (a : ℤ) → is_none o ≡ false → knows p x ≡ false
     → is_quiet o p (Read x) (Value a) ≡ true
     → touched p < TX_VARIABLES
@@ -307,6 +321,7 @@ quiet_room p (Some t) x a running none is =
     ltb-true (touched p) TX_VARIABLES
     (new_word (word_of p.writes x) (word_of p.looks x) (nat_lt (touched p) TX_VARIABLES) a none is)
 
+-- a read of a variable that was not known, that an attempt answers, found room
 look_room : (p : Progress) (x : ℕ) (a : ℤ) (e : Exchange) → is_none p.config.attempt ≡ false → knows p x ≡ false
     → reply_of p (Read x) e ≡ Some (Value a)
     → touched p < TX_VARIABLES
@@ -319,6 +334,7 @@ look_room p x a (Quiet (Start f b)) running none gives = (let e = (when_true _ (
 look_room p x a (Quiet (Raise code)) running none gives = (let e = (when_true _ (Raise code) (Value a) gives).1 in cc)
 look_room p x a (Quiet Retry) running none gives = (let e = (when_true _ Retry (Value a) gives).1 in cc)
 
+-- a write without an entry, within an attempt, is to a known variable or found room
 quiet_write : (p : Progress) (o : Option Attempt) (x : ℕ) (a : ℤ) → is_none o ≡ false → is_quiet o p (Write x a) Gone ≡ true
     → (knows p x ≡ true) ⊎ (touched p < TX_VARIABLES)
 quiet_write p None x a running is = cc
@@ -327,6 +343,7 @@ quiet_write p (Some t) x a running is = elim (or_cases (knows p x) (nat_lt (touc
   | inr less ↦ inr (ltb-true (touched p) TX_VARIABLES less)
 ]
 
+-- a write that is answered, within an attempt, is to a known variable or found room
 write_room : (p : Progress) (x : ℕ) (a : ℤ) (e : Exchange) → is_none p.config.attempt ≡ false → reply_of p (Write x a) e ≡ Some Gone
     → (knows p x ≡ true) ⊎ (touched p < TX_VARIABLES)
 write_room p x a (Made entry) running gives = absurd
@@ -337,6 +354,7 @@ write_room p x a (Quiet (Start f b)) running gives = (let e = (when_true _ (Star
 write_room p x a (Quiet (Raise code)) running gives = (let e = (when_true _ (Raise code) Gone gives).1 in cc)
 write_room p x a (Quiet Retry) running gives = (let e = (when_true _ Retry Gone gives).1 in cc)
 
+-- looks and writes stay few after a read that is answered
 read_few : (p : Progress) (x : ℕ) (e : Exchange) (r : Reply) → reply_of p (Read x) e ≡ Some r → AreFew p.looks p.writes
     → AreFew (looks_after p (Read x) r) (writes_after p (Read x) r)
 read_few p x e (Value a) gives old = by_test (is_none p.config.attempt || knows p x) refl where
@@ -350,6 +368,7 @@ read_few p x e (Start f b) gives old = old
 read_few p x e (Raise code) gives old = old
 read_few p x e Retry gives old = old
 
+-- looks and writes stay few after a write that is answered
 write_few : (p : Progress) (x : ℕ) (a : ℤ) (e : Exchange) (r : Reply) → reply_of p (Write x a) e ≡ Some r → AreFew p.looks p.writes
     → AreFew (looks_after p (Write x a) r) (writes_after p (Write x a) r)
 write_few p x a e Gone gives old = by_test (is_none p.config.attempt) refl where
@@ -384,18 +403,22 @@ answer_few p TxBegin e r gives old = old
 
 -- ## The entries of an attempt's end
 
+-- the variables of the words of looks are those of the looks
 look_vars : (ls : List Look) → vars (map (λ l. (l.var, l.value)) ls) ≡ map (λ l. l.var) ls
 look_vars [] = refl
 look_vars (l ∷ ls) = ap (λ xs. l.var ∷ xs) (look_vars ls)
 
+-- the variables of the words of writes are those of the writes
 write_vars : (ps : List Pair) → vars (map (λ w. (w.var, w.value)) ps) ≡ map (λ w. w.var) ps
 write_vars [] = refl
 write_vars (p ∷ ps) = ap (λ xs. p.var ∷ xs) (write_vars ps)
 
+-- if a conjunction is true, both of its parts are
 both_parts : (a b : Bool) → (a && b) ≡ true → (a ≡ true) × (b ≡ true)
 both_parts true b is = (refl, is)
 both_parts false b is = cc
 
+-- few looks and writes have few variables, whether the writes are kept or not
 kept_few : (looks writes : Words) (keep : Bool) → AreFew looks writes → length (all_vars looks (if keep then writes else [])) ≤ TX_VARIABLES
 kept_few looks writes true old = old.few
 kept_few looks writes false old = omega (arith, old.few, all_grow (vars writes) (vars looks))
@@ -412,6 +435,7 @@ end_few p keep tx is old =
     let e = ap length same in
     omega (arith, e, kept_few p.looks p.writes keep old)
 
+-- a commit that is answered names few variables
 commit_few : (p : Progress) (ask : Ask) (tx : Tx) (r : Reply) → reply_of_commit p ask tx ≡ Some r → AreFew p.looks p.writes → TxNamesFew tx
 commit_few p (TxEnd keep) tx r is old = end_few p keep tx (when_true _ _ r is).0 old
 commit_few p Go tx r is old = cc
@@ -431,6 +455,7 @@ commit_few p (Print a) tx r is old = cc
 commit_few p Input tx r is old = cc
 commit_few p TxBegin tx r is old = cc
 
+-- a drop that is answered names few variables
 abort_few : (p : Progress) (ask : Ask) (tx : Tx) (why : Why) (r : Reply) → reply_of_abort p ask tx why ≡ Some r → AreFew p.looks p.writes
     → TxNamesFew tx
 abort_few p (TxEnd keep) tx (Changed var read found) r is old = end_few p keep tx (when_true _ _ r is).0 old
@@ -452,6 +477,7 @@ abort_few p (Print a) tx why r is old = cc
 abort_few p Input tx why r is old = cc
 abort_few p TxBegin tx why r is old = cc
 
+-- an entry that is answered names few variables
 entry_few : (p : Progress) (ask : Ask) (e : Entry) (r : Reply) → reply_in p ask e ≡ Some r → AreFew p.looks p.writes → NamesFew e
 entry_few p ask (Sync at act value) r is old = tt
 entry_few p ask (Plain var nth cached write value raised) r is old = tt
@@ -469,6 +495,7 @@ record Answered (P : Bytecode) (x : Exchange) (p q : Progress) : Type 0 where
   looks : q.looks ≡ looks_after p (ask_of p.config.stage) reply
   writes : q.writes ≡ writes_after p (ask_of p.config.stage) reply
 
+-- a step of the telling is a reply to an exchange, and what follows from it
 answered : (P : Bytecode) (x : Exchange) (p q : Progress) → told_one P x p ≡ Some q → Answered P x p q
 answered P x p q is = by_reply (reply_of p (ask_of p.config.stage) x) refl where
   made : Reply → Progress
@@ -494,12 +521,14 @@ answered P x p q is = by_reply (reply_of p (ask_of p.config.stage) x) refl where
   by_reply None none = (let e : told_one P x p ≡ None = rw none refl in cc)
   by_reply (Some r) gives = by_test r (takes p.config r) gives refl
 
+-- looks and writes stay few after an exchange that is answered
 next_few : (P : Bytecode) (x : Exchange) (p q : Progress) → Answered P x p q → AreFew p.looks p.writes → AreFew q.looks q.writes
 next_few P x p q one old =
     subst (λ ls. AreFew ls q.writes) (sym one.looks)
     (subst (λ ws. AreFew (looks_after p (ask_of p.config.stage) one.reply) ws) (sym one.writes)
     (answer_few p (ask_of p.config.stage) x one.reply one.gives old))
 
+-- the entries of exchanges that are told name few variables
 exchanges_few : (P : Bytecode) (xs : List Exchange) (p q : Progress) → told P p xs ≡ Some q → AreFew p.looks p.writes
     → AllByRecursion NamesFew (entries_of xs)
 exchanges_few P [] p q is old = tt
@@ -516,6 +545,7 @@ exchanges_few P (Quiet r ∷ xs) p q is old =
 
 -- ## The list of a thread
 
+-- what names few variables does so still with one entry more that does
 and_over : (es : List Entry) (e : Entry) → AllByRecursion NamesFew es → NamesFew e → AllByRecursion NamesFew (es ++ e ∷ [])
 and_over [] e all last = (last, tt)
 and_over (d ∷ es) e all last = (all.0, and_over es e all.1 last)

@@ -3,6 +3,7 @@ use Rattle.std.proofs.Common.{◌≡◌, ◌<◌, List, [], ◌∷◌, None, len
 use Rattle.gl_words.specs.Options.{Word}
 use Rattle.gl_run.specs.Words.{command_of}
 
+-- fewer than two words are no command
 pub few_words : {A : Type 0} (f : A → Word) (ws : List A) → length ws < 2 → None ≡ command_of (map f ws)
 few_words f [] few = refl
 few_words f (a ∷ []) few = refl

@@ -26,10 +26,12 @@ no_stop asked s (inr some) stop = (let verdict = some.1 in grind arith)
 no_usage_of : (s : ℕ) → IsVerdict s → s ≡ NO_COMMAND → ⊥
 no_usage_of s verdict is = grind arith
 
+-- a page whose status is that of no command is of no command
 usage_of : (asked : Option Command) (s : ℕ) → IsPageStatus asked s → s ≡ NO_COMMAND → IsNoCommand asked
 usage_of asked s (inl none) is = none.0
 usage_of asked s (inr some) is = absurd (no_usage_of s some.1 is)
 
+-- a page of no command has the status of no command
 is_usage : (asked : Option Command) (s : ℕ) → IsPageStatus asked s → IsNoCommand asked → s ≡ NO_COMMAND
 is_usage asked s (inl none) asks = none.1
 is_usage asked s (inr some) asks = absurd (some.0 asks)
@@ -48,15 +50,19 @@ whole_of asked s (inr (c, inr (inr (inl races)))) = inr (inr (inr (inl races)))
 whole_of asked s (inr (c, inr (inr (inr (inl unhalted))))) = inr (inr (inr (inr (inl unhalted))))
 whole_of asked s (inr (c, inr (inr (inr (inr unlawful))))) = inr (inr (inr (inr (inr unlawful))))
 
+-- a page that could not be written is not whole
 cut_is_not_whole : (s : ℕ) → s ≡ WRITE_FAILED → IsWhole s → ⊥
 cut_is_not_whole s cut whole = grind arith
 
+-- a whole page was not stopped by reading or by memory
 whole_is_not_stopped : (s : ℕ) → IsWhole s → (s ≡ READ_FAILED) ⊎ (s ≡ NO_MEMORY) → ⊥
 whole_is_not_stopped s whole stop = grind arith
 
+-- a page that could not be written was not stopped by reading or by memory
 cut_is_not_stopped : (s : ℕ) → s ≡ WRITE_FAILED → (s ≡ READ_FAILED) ⊎ (s ≡ NO_MEMORY) → ⊥
 cut_is_not_stopped s is stop = grind arith
 
+-- a status that is two numbers makes them the same
 not_two : (s a b : ℕ) → s ≡ a → s ≡ b → a ≡ b
 not_two s a b one two = sym one ∙ two
 
@@ -114,9 +120,11 @@ module _ (asked : Option Command) (source_before source_now sink_before sink_now
 
 -- ## What the source has left
 
+-- a page that was stopped by reading, writing or memory is not accepted
 not_accepted : (s stop : ℕ) → s ≡ stop → (stop ≡ READ_FAILED) ⊎ ((stop ≡ WRITE_FAILED) ⊎ (stop ≡ NO_MEMORY)) → IsAccepted s → ⊥
 not_accepted s stop is one accepted = grind arith
 
+-- a page that was stopped by reading or by memory is not answered
 not_answered : (s stop : ℕ) → s ≡ stop → (stop ≡ READ_FAILED) ⊎ (stop ≡ NO_MEMORY) → IsAnswered s → ⊥
 not_answered s stop is one answered = grind arith
 

@@ -28,6 +28,7 @@ use Rattle.gl_run.specs.declared.words.Command.TheVariants as commands
 some_number : (m n : ℕ) → Some m ≡ Some n → m ≡ n
 some_number m n e = cc
 
+-- a text that is longer than the longest is read as too long
 read_longer : (text : List ℕ) → LONGEST < length text → text_read text ≡ Err (0, TOO_LONG)
 unfolding text_read
 read_longer text long = let over : nat_lt LONGEST (length text) ≡ true = lt-ltb LONGEST (length text) long in rw over refl
@@ -36,6 +37,7 @@ read_longer text long = let over : nat_lt LONGEST (length text) ≡ true = lt-lt
 too_long : (input : List ℕ) (most : ℕ) → Some LONGEST ≡ Some most → most < length input → text_read input ≡ Err (0, TOO_LONG)
 too_long input most is long = read_longer input (subst (λ m. m < length input) (sym (some_number LONGEST most is)) long)
 
+-- a command answers a text that is longer than its most with the refusal that it is too long
 refused_longer : (keep : Keep) (command : Command) (input : List ℕ) (most : ℕ) → most_of (Some command) ≡ Some most → most < length input
     → AnswersText keep command input REFUSED (refusal 0 TOO_LONG) None
 refused_longer keep commands.Check input most is long =
@@ -65,6 +67,7 @@ refused_longer keep commands.Audit input most is long =
     let fault = inl (record { long = over; line_is = refl; kind_is = refl }) in
     inr (record { line = 0; kind = TOO_LONG; fault = fault; status_is = refl; bytes_are = refl; kept_is = refl })
 
+-- a page that refuses a text as too long, and keeps nothing, answers a longer text
 pub longer : {E : Type 0} (command : Command) (r : Result Page E) → IfOk r (λ p. p.status ≡ REFUSED)
     → IfOk r (λ p. p.text.items ≡ refusal 0 TOO_LONG) → IfOk r (λ p. p.kept ≡ None)
     → IfOk r (λ p. AnswersLonger command p.status p.text.items p.kept)

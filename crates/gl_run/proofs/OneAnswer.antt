@@ -22,6 +22,7 @@ use Rattle.gl_run.specs.declared.kept.Kept.TheVariants.{Trace, Run}
 use Rattle.gl_run.proofs.SaidLines.{said_sound}
 use Rattle.gl_run.proofs.SameRecord.{same_record}
 
+-- what stands in the first of two lists stands there in both together
 get_front : {A : Type 0} (xs ys : List A) (k : ℕ) (x : A) → slice_get xs k ≡ Some x → slice_get (xs ++ ys) k ≡ Some x
 get_front [] ys k x e = absurd cc
 get_front (z ∷ xs) ys zero x e = e
@@ -49,12 +50,15 @@ sound_front xs ys sound =
           ∙ take-append-le k (record_steps xs) (record_steps ys) (omega arith)) clean;
     }
 
+-- equal lists of lines have equal first lines
 head_same : (l m : TraceLine) (ls ms : List TraceLine) → l ∷ ls ≡ m ∷ ms → l ≡ m
 head_same l m ls ms e = cc
 
+-- equal lists of lines have equal rests
 tail_same : (l m : TraceLine) (ls ms : List TraceLine) → l ∷ ls ≡ m ∷ ms → ls ≡ ms
 tail_same l m ls ms e = cc
 
+-- equal lines with equal verdicts are the same said thing
 said_same : (p q : Said) → p.0 ≡ q.0 → p.1 ≡ q.1 → p ≡ q
 said_same (l, j) (m, k) e f = ap (λ x. (x, j)) e ∙ ap (λ x. (m, x)) f
 

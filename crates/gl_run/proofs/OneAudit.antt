@@ -35,9 +35,11 @@ TextsAreApart =
     (text : List ℕ) (P : Bytecode) (inputs : List ℤ) (steps : ℕ) (R : List (ℕ × List Entry)) (line kind : ℕ)
     → IsAuditText text P inputs steps R → IsFirstFault text line kind → ⊥
 
+-- any two lists of faults that a record has are the same
 abbrev pub FaultsAreOne : Type 0
 FaultsAreOne = (text : List ℕ) (a b j k : ℕ) → IsFirstFault text a j → IsFirstFault text b k → (a ≡ b) × (j ≡ k)
 
+-- any two texts of an audit's answer are the same
 abbrev pub TextsAreOne : Type 0
 TextsAreOne =
     (text : List ℕ) (P Q : Bytecode) (xs ys : List ℤ) (m n : ℕ) (R S : List (ℕ × List Entry)) → IsAuditText text P xs m R

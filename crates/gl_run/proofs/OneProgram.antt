@@ -24,10 +24,12 @@ use Rattle.gl_run.specs.declared.words.Command.TheVariants as commands
 program_of : Bytecode → Draft → Bytecode
 program_of P D = record { classes = D.classes; functions = D.functions; main = unwrap_or D.main P.main }
 
+-- programs that have the same draft are the same
 pub same_program : (P Q : Bytecode) → draft_of P ≡ draft_of Q → P ≡ Q
 unfolding program_of
 same_program P Q same = ap (program_of P) same
 
+-- what is kept of a run is one record
 same_kept : (made other : SealedView) (kept : Option Kept) → kept ≡ Some (Run made) → kept ≡ Some (Run other) → made ≡ other
 same_kept made other kept one two = cc
 
@@ -97,12 +99,15 @@ module _ (apart : (text : List ℕ) (program : Bytecode) (inputs : List ℤ) (li
             ]
       ]
 
+-- a run that is refused keeps no run
 refused_none : (made : SealedView) (input : List ℕ) (s : ℕ) (a : List ℕ) → RefusesRun input s a (Some (Run made)) → ⊥
 refused_none made input s a refused = let none = refused.kept_is in cc
 
+-- what is kept of two equal runs is the same
 some_made : (made other : SealedView) → Some (Run made) ≡ Some (Run other) → other ≡ made
 some_made made other e = cc
 
+-- what is kept of a text that runs is a run, and its status and bytes are read off it
 pub runs_lawful : RunsAreLawful
 runs_lawful options input s a made one =
     elim one [
@@ -123,6 +128,7 @@ runs_lawful options input s a made one =
 
 -- ## Loads
 
+-- the status and the bytes of a load are told by what it keeps
 pub loads_told : LoadsAreTold
 loads_told load s t a b kept one two =
     let same : one.made ≡ two.made = same_kept one.made two.made kept one.kept_is two.kept_is in (
@@ -131,6 +137,7 @@ loads_told load s t a b kept one two =
           ∙ ap (λ (m : SealedView). summary_of m.entries) same ∙ sym two.bytes_are,
     )
 
+-- what is kept of a load is the closed table of a run of the bank of its size
 pub loads_lawful : LoadsAreLawful
 loads_lawful load s a made one =
     let same : one.made ≡ made = some_made made one.made one.kept_is in
@@ -138,15 +145,19 @@ loads_lawful load s a made one =
 
 -- ## All commands
 
+-- the command that was asked is one command
 some_same : (c d : Command) (asked : Option Command) → asked ≡ Some c → asked ≡ Some d → d ≡ c
 some_same c d asked one two = cc
 
+-- a command that was asked is not no command
 not_both : (c : Command) (asked : Option Command) → asked ≡ None → asked ≡ Some c → ⊥
 not_both c asked none some = cc
 
+-- where a run was asked, the run's part is not none
 no_run : (options : RunOptions) (asked : Option Command) → asked ≡ Some (commands.Run options) → run_part asked ≡ None → ⊥
 no_run options asked is none = let runs : run_part asked ≡ Some (commands.Run options) = ap run_part is in cc
 
+-- where a load was asked, the run's part is not none
 no_load : (load : LoadOptions) (asked : Option Command) → asked ≡ Some (commands.Load load) → run_part asked ≡ None → ⊥
 no_load load asked is none = let runs : run_part asked ≡ Some (commands.Load load) = ap run_part is in cc
 

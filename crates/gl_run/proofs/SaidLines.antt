@@ -31,6 +31,7 @@ use Rattle.gl_run.specs.Said.{IsSaid}
 use Rattle.gl_run.specs.declared.verdicts.Verdicts.{Verdicts}
 use Rattle.gl_run.proofs.JudgedLines.{verdicts_judged}
 
+-- the text of what was said of a line
 abbrev pub verdict_of : Said → List ℕ
 verdict_of p = verdict_line p.0.0 p.1
 
@@ -40,27 +41,34 @@ pub record AreChecked (text : List ℕ) (reader : TraceReader) (v : Verdicts) : 
   pub read : IsReadTo text (lines_said done) reader
   pub said : IsSaid done v
 
+-- the lines and verdicts of what was said, taken apart and put together, are what was said
 split : (done : List Said) → judged_lines (lines_said done) (verdicts_said done) ≡ done
 split [] = refl
 split (p ∷ ps) = ap (λ r. p ∷ r) (split ps)
 
+-- the lines of what was said, with one more, are the others and then its
 pub lines_push : (done : List Said) (l : TraceLine) (j : Judged) → lines_said (done ++ (l, j) ∷ []) ≡ lines_said done ++ l ∷ []
 lines_push done l j = map-append (λ (p : Said). p.0) done ((l, j) ∷ [])
 
+-- the verdicts of what was said, with one more, are the others and then its
 said_push : (done : List Said) (l : TraceLine) (j : Judged) → verdicts_said (done ++ (l, j) ∷ []) ≡ verdicts_said done ++ j ∷ []
 said_push done l j = map-append (λ (p : Said). p.1) done ((l, j) ∷ [])
 
+-- there are as many lines as was said of
 lines_count : (done : List Said) → length (lines_said done) ≡ length done
 lines_count [] = refl
 lines_count (p ∷ ps) = ap suc (lines_count ps)
 
+-- there are as many verdicts as was said of
 said_count : (done : List Said) → length (verdicts_said done) ≡ length done
 said_count [] = refl
 said_count (p ∷ ps) = ap suc (said_count ps)
 
+-- each of a list of steps is a step
 step_at : (ss : List Step) → All IsStep ss → (k : ℕ) (s : Step) → slice_get ss k ≡ Some s → IsStep s
 step_at ss h k s there = subst IsStep (get_or_from_slice_get ss k s s there) (h k s (slice_get_within ss k s there))
 
+-- the steps of a record of lines are those of the lines
 steps_same : (done : List Said) → record_steps (map line_of done) ≡ steps_of (lines_said done)
 steps_same [] = refl
 steps_same (p ∷ ps) = ap (λ r. step_of p.0 ∷ r) (steps_same ps)
@@ -99,6 +107,7 @@ pub races_push : (done : List Said) (l : TraceLine) (j : Judged) → count_by is
     ≡ count_by is_race (verdicts_said done) + count_by is_race (j ∷ [])
 races_push done l j = ap (count_by is_race) (said_push done l j) ∙ sum_by-append (λ x. cond (is_race x) 1 0) (verdicts_said done) (j ∷ [])
 
+-- the races of a list are those of its first and of the rest
 first_counted : (j : Judged) (js : List Judged) → count_by is_race (j ∷ js) ≡ count_by is_race (j ∷ []) + count_by is_race js
 first_counted j js = sum_by-append (λ x. cond (is_race x) 1 0) (j ∷ []) js
 
@@ -110,10 +119,12 @@ status_counted (Performed ∷ js) = status_counted js ∙ ap (λ n. if n == 0 th
 status_counted (Raised var ∷ js) =
     sym (ap (λ b. if b then 0 else 6) (ne_eqb (count_by is_race (Raised var ∷ js)) 0 (λ e. omega (arith, first_counted (Raised var) js))))
 
+-- the status, made from the count of races, is that of the verdicts
 pub status_end : (done : List Said) (status races : ℕ) → status ≡ (if races == 0 then 0 else 6) → races
     ≡ count_by is_race (verdicts_said done) → status ≡ status_of (verdicts_said done)
 status_end done status races is count = is ∙ ap (λ n. if n == 0 then 0 else 6) count ∙ sym (status_counted (verdicts_said done))
 
+-- what is up to a is up to a greater b
 pub up_to_more : (a b : ℕ) (tracer : Tracer) → a ≤ b → IsUpTo a tracer → IsUpTo b tracer
 up_to_more a b tracer h u = record { next = omega (arith, u.next); numbers = λ x below. let n = u.numbers x below in omega arith }
 
@@ -133,14 +144,17 @@ recorded_room lines most (Some tracer) h recorded = up_to_more (2 * length lines
 pub few_races : (done : List Said) → count_by is_race (verdicts_said done) ≤ length (lines_said done)
 few_races done = omega (arith, count_by-le-length is_race (verdicts_said done), said_count done, lines_count done)
 
+-- there are as many lines as was said of
 pub lines_length : (done : List Said) → length (map line_of done) ≡ length (lines_said done)
 lines_length [] = refl
 lines_length (p ∷ ps) = ap suc (lines_length ps)
 
+-- two things that are true of a right result are both
 pub both_on_ok : {T E : Type 0} (P Q : Type 0) (r : Result T E) → OnOk r P → OnOk r Q → OnOk r (P × Q)
 both_on_ok P Q (Ok x) p q = (p, q)
 both_on_ok P Q (Err e) p q = tt
 
+-- what follows from a fact about a right result is true of it
 pub more_on_ok : {T E : Type 0} (P Q : Type 0) (r : Result T E) → (P → Q) → OnOk r P → OnOk r Q
 more_on_ok P Q (Ok x) f p = f p
 more_on_ok P Q (Err e) f p = tt
@@ -163,6 +177,7 @@ pub text_push : (done : List Said) (l : TraceLine) (j : Judged) → flat_map ver
 text_push done l j = sym (flat_map-append verdict_of done ((l, j) ∷ [])
     ∙ ap (λ x. flat_map verdict_of done ++ x) (append-nil (verdict_line l.0 j)))
 
+-- what follows from a fact about what a right result gives is true of it
 pub more_if_ok : {T E : Type 0} (P Q : T → Type 0) (r : Result T E) → ((x : T) → P x → Q x) → IfOk r P → IfOk r Q
 more_if_ok P Q (Ok x) f p = f x p
 more_if_ok P Q (Err e) f p = tt

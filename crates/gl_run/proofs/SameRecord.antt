@@ -32,6 +32,7 @@ not_first l m ls ms one two same less =
     let higher : AllByRecursion (λ u. l.0 < u) (map (λ x. x.0) ms) = weaker l.0 m.0 less (map (λ x. x.0) ms) two.0.0 in
     some_entry l.1 one.1.0.1 (sym (first_list l ls l.0 refl) ∙ same ∙ other_list m ms l.0 (λ e. omega arith) ∙ no_list ms l.0 higher)
 
+-- records whose lists are the same for each thread are the same
 pub same_record : (ls ms : List (ℕ × List Entry)) → IsRecord ls → IsRecord ms → ((t : ℕ) → lists_of ls t ≡ lists_of ms t) → ls ≡ ms
 same_record [] [] one two same = refl
 same_record [] (m ∷ ms) one two same = absurd (some_entry m.1 two.1.0.1 (sym (first_list m ms m.0 refl) ∙ sym (same m.0)))

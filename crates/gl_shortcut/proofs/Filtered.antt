@@ -12,10 +12,12 @@ use Rattle.gl_laws.proofs.Walks.{After-same}
 use Rattle.gl_draws.proofs.CommitLaw.{taken_map}
 use Rattle.gl_draws.proofs.MovedInfos.{passes_greater}
 
+-- a step keeps one set within another
 after_map : (S T : Elements) (s : Stamp) → ((y : Element) → S y → T y) → (y : Element) → After S s y → After T s y
 after_map S T s f y (inl c) = inl (taken_map S T s f y c)
 after_map S T s f y (inr c) = inr (c.0, taken_map S T s f (Thread s.thread) c.1)
 
+-- a walk over some of the events has no more in its set than the walk over all of them
 pub some_within_all : (p : Stamp → Bool) (xs : List Stamp) (S T : Elements) → ((y : Element) → S y → T y) → (y : Element)
     → AfterAll S (filter p xs) y → AfterAll T xs y
 some_within_all p [] S T f y c = f y c
@@ -27,9 +29,11 @@ some_within_all p (x ∷ xs) S T f y c = by_case (p x) refl (some_within_all p x
     by_case true e taken passed = taken (rw e at c)
     by_case false e taken passed = passed (rw e at c)
 
+-- a list of one event that passes the test is left whole
 one_kept : (p : Stamp → Bool) (s : Stamp) → p s ≡ true → filter p (s ∷ []) ≡ s ∷ []
 one_kept p s e = rw e refl
 
+-- a list of one event that fails the test is left empty
 one_left_out : (p : Stamp → Bool) (s : Stamp) → p s ≡ false → filter p (s ∷ []) ≡ []
 one_left_out p s e = rw e refl
 

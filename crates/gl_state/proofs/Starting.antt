@@ -7,14 +7,17 @@ use Rattle.gl_state.specs.declared.state.Stage.TheVariants as stage
 use Rattle.gl_state.specs.Starting.{first_state}
 use Rattle.gl_state.specs.States.{IsStateOf, thread_state, monitor_state}
 
+-- a list of one element repeated has that element at each place
 same_anywhere : {A : Type 0} (n i : ℕ) (x : A) → slice_index_or (replicate n x) i x ≡ x
 same_anywhere zero i x = refl
 same_anywhere (suc n) zero x = refl
 same_anywhere (suc n) (suc i) x = same_anywhere n i x
 
+-- a list of n monitors that nobody owns
 abbrev pub none_list : ℕ → List (Option (ℕ × ℕ))
 none_list n = replicate n None
 
+-- the state that the list begins with is the machine's at the start
 pub first_is : (setting : Setting) (main : ℕ) → setting.main ≡ main → IsStateOf (first_state main) (start setting)
 first_is setting main same = record {
   threads = threads;

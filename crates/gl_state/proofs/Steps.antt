@@ -41,6 +41,7 @@ module _ {A : Type 0} where
     | no ne ↦ with_else g o k (f x) ne ∙ same k ∙ ap f (sym (set_else l o k x d ne))
   ]
 
+-- setting the stage of a thread in the list's state sets it in the machine's
 stage_set : (l : ListView) (now : State) (t : ℕ) (s : Stage) → IsStateOf l now → t < length l.threads
     → IsStateOf (with_stage l t s) (record now { threads = with_at now.threads t (thread_state s) })
 stage_set l now t s is near = record {
@@ -53,12 +54,14 @@ stage_set l now t s is near = record {
   inputs_taken = is.inputs_taken;
 }
 
+-- a stage that means never forked is the stage of a thread that was not
 never : (s : Stage) → thread_state s ≡ NeverForked → s ≡ stage.Never
 never stage.Never e = refl
 never (stage.Forked f v) e = absurd (cc)
 never stage.Running e = absurd (cc)
 never stage.Ended e = absurd (cc)
 
+-- a thread that was forked begins, as a step of the machine
 pub begins_step : (setting : Setting) (t : ℕ) (l : ListView) (now : State) (f : ℕ) (value : ℤ) → t < length l.threads → IsStateOf l now
     → stage_of l t ≡ stage.Forked f value → IsStep setting t (with_stage l t stage.Running) (Begin f) value now
 begins_step setting t l now f value near is forked = (
@@ -68,6 +71,7 @@ begins_step setting t l now f value near is forked = (
       l now t stage.Running is near,
 )
 
+-- a running thread ends, as a step of the machine
 pub ends_step : (setting : Setting) (t : ℕ) (l : ListView) (now : State) → t < length l.threads → IsStateOf l now → now.threads t ≡ Running
     → IsStep setting t (with_stage l t stage.Ended) End (pos 0) now
 ends_step setting t l now near is runs = (
@@ -76,6 +80,7 @@ ends_step setting t l now near is runs = (
   stage_set l now t stage.Ended is near,
 )
 
+-- a running thread forks the least new thread in a function that may be forked, as a step of the machine
 pub forks_step : (setting : Setting) (t u f : ℕ) (value : ℤ) (l : ListView) (now : State) → u < length l.threads → IsStateOf l now
     → now.threads t ≡ Running → IsLeastNew l u → Contains setting.forkable f
     → IsStep setting t (with_stage l u (stage.Forked f value)) (Fork u f) value now
@@ -98,6 +103,7 @@ forks_step setting t u f value l now near is runs new may = (
   stage_set l now u (stage.Forked f value) is near,
 )
 
+-- a monitor that was left is the same in both states
 left_state : (t depth : ℕ) → monitor_state (left_as t depth) ≡ left_once t depth
 left_state t depth = by (depth == 0)
   where
@@ -105,6 +111,7 @@ left_state t depth = by (depth == 0)
     by true = refl
     by false = refl
 
+-- a running thread leaves a monitor that it owns, as a step of the machine
 pub leaves_step : (setting : Setting) (t o : ℕ) (l l' : ListView) (now : State) → now.threads t ≡ Running → IsStateOf l now
     → Leaves t o l l' → IsStep setting t l' (Rel o) (pos 0) now
 leaves_step setting t o l l' now runs is leaves =
@@ -128,10 +135,12 @@ leaves_step setting t o l l' now runs is leaves =
           }),
     )
 
+-- a running thread reads a volatile, as a step of the machine
 pub reads_step : (setting : Setting) (t v : ℕ) (l : ListView) (now : State) → now.threads t ≡ Running → IsStateOf l now
     → IsStep setting t l (VRead v) (word_in l v) now
 reads_step setting t v l now runs is = (now, record { may = runs; effect = (sym (is.volatiles v), refl) }, is)
 
+-- a running thread writes a volatile that there is, as a step of the machine
 pub writes_step : (setting : Setting) (t v : ℕ) (value : ℤ) (l : ListView) (now : State) → v < length l.volatiles → now.threads t ≡ Running
     → IsStateOf l now → IsStep setting t (with_word l v value) (VWrite v) value now
 writes_step setting t v value l now near runs is = (
@@ -148,10 +157,12 @@ writes_step setting t v value l now near runs is = (
   },
 )
 
+-- a running thread joins one that has ended, as a step of the machine
 pub joins_step : (setting : Setting) (t u : ℕ) (l : ListView) (now : State) → now.threads t ≡ Running → IsStateOf l now → stage_of l u
     ≡ stage.Ended → IsStep setting t l (Join u) (pos 0) now
 joins_step setting t u l now runs is ended = (now, record { may = runs; effect = (is.threads u ∙ ap thread_state ended, refl) }, is)
 
+-- what has room in the list's state fits in the machine's
 fits_of : (l : ListView) (now : State) (fields : ℕ × ℕ) → IsStateOf l now → HasRoom l fields → Fits now fields
 fits_of l now fields is room = record {
   object = subst (λ n. n < MONITORS) (sym is.next_object) room.object;
@@ -159,6 +170,7 @@ fits_of l now fields is room = record {
   volatiles = (let e = is.next_volatile in let r = room.volatiles in omega arith);
 }
 
+-- what fits in the machine's state has room in the list's
 of_fits : (l : ListView) (now : State) (fields : ℕ × ℕ) → IsStateOf l now → Fits now fields → HasRoom l fields
 of_fits l now fields is fits = record {
   object = subst (λ n. n < MONITORS) is.next_object fits.object;
@@ -166,9 +178,11 @@ of_fits l now fields is fits = record {
   volatiles = (let e = is.next_volatile in let r = fits.volatiles in omega arith);
 }
 
+-- the reference of a new object is the same in both states
 reference_same : (l : ListView) (now : State) (c : ℕ) → IsStateOf l now → reference_in l c ≡ reference now c
 reference_same l now c is = let a = is.next_object in let b = is.next_variable in let d = is.next_volatile in omega arith
 
+-- a running thread makes an object of a class that there is room for, as a step of the machine
 pub makes_step : (setting : Setting) (t c : ℕ) (fields : ℕ × ℕ) (l : ListView) (now : State) → now.threads t ≡ Running → IsStateOf l now
     → slice_get setting.classes c ≡ Some fields → HasRoom l fields
     → IsStep setting t (with_object l fields) (Alloc c) (pos (reference_in l c)) now
@@ -190,6 +204,7 @@ makes_step setting t c fields l now runs is class room = (
   },
 )
 
+-- a running thread prints, as a step of the machine
 pub prints_step : (setting : Setting) (t : ℕ) (value : ℤ) (l : ListView) (now : State) → now.threads t ≡ Running → IsStateOf l now
     → IsStep setting t l Print value now
 prints_step setting t value l now runs is = (
@@ -206,6 +221,7 @@ prints_step setting t value l now runs is = (
   },
 )
 
+-- a running thread takes the next input, as a step of the machine
 pub takes_input_step : (setting : Setting) (t : ℕ) (value : ℤ) (l : ListView) (now : State) → now.threads t ≡ Running → IsStateOf l now
     → slice_get setting.inputs l.inputs_taken ≡ Some value → IsStep setting t (with_input l) Input value now
 takes_input_step setting t value l now runs is has = (
@@ -222,10 +238,12 @@ takes_input_step setting t value l now runs is has = (
   },
 )
 
+-- a running thread fails with what the state refuses, as a step of the machine
 fails : (setting : Setting) (t code : ℕ) (value : ℤ) (l : ListView) (now : State) → now.threads t ≡ Running → IsStateOf l now
     → Refuses setting now t code value → IsStep setting t l (Fail code) value now
 fails setting t code value l now runs is refuses = (now, record { may = runs; effect = (refuses, refl) }, is)
 
+-- a monitor whose state is owned by a thread to a depth is told as that thread and depth
 owned_as : (m : Option (ℕ × ℕ)) (t depth : ℕ) → monitor_state m ≡ Owned t depth → m ≡ Some (t, depth)
 owned_as None t depth e = absurd (cc)
 owned_as (Some o) t depth e = let a : o.0 ≡ t = cc in let b : o.1 ≡ depth = cc in ap Some (λ i. (a i, b i))

@@ -31,6 +31,7 @@ held_near c order held gone h x has object =
     let a : h.object < objects = All-contains (λ k. k < objects) order h.object gone.near (out.is_out c order held gone h has) in
     omega arith
 
+-- a variable is in the list that has it alone
 here_in : (x : ℕ) → is_in x (x ∷ []) ≡ true
 here_in x = let b : (x == x) ≡ true = eq-eqb x x refl in rw b refl
 

@@ -42,9 +42,11 @@ may_add_is v mid (Sync a b c) may = absurd may
 may_add_is v mid (Commit a b) may = absurd may
 may_add_is v mid (Trim a) may = absurd may
 
+-- one-element lists that are equal have equal elements
 one_shelf : (a c : Shelf) → a ∷ [] ≡ c ∷ [] → a ≡ c
 one_shelf a c e = cc
 
+-- what is added to a pass of one list is put after that list, and the rest of the pass is as adding says
 adding_is : (v u : View) (more : List Entry) (t : ℕ) (l : List Entry) → v.shelves ≡ shelf t l ∷ [] → Adding v more u
     → (u ≡ adds_all v more) × (u.shelves ≡ shelf t (l ++ more) ∷ [])
 adding_is v u [] t l one adds = (adds, ap (λ (z : View). z.shelves) adds ∙ one ∙ ap (λ k. shelf t k ∷ []) (sym (append-nil l)))
@@ -56,14 +58,17 @@ adding_is v u (e ∷ more) t l one adds =
     let r = adding_is mid u more t (l ++ e ∷ []) (m.3 ∙ ap (λ (z : Shelf). shelf z.thread (z.marked ++ e ∷ []) ∷ []) s) adds.2 in
     (r.0 ∙ ap (λ z. adds_all z more) is, r.1 ∙ ap (λ k. shelf t k ∷ []) (append_assoc l (e ∷ []) more))
 
+-- adding entries and then one more is adding all of them
 adding_push : (v u u' : View) (more : List Entry) (e : Entry) → Adding v more u → MayAdd u e u' → Adding v (more ++ e ∷ []) u'
 adding_push v u u' [] e adds may = (u', subst (λ z. MayAdd z e u') adds may, refl)
 adding_push v u u' (x ∷ more) e adds may = (adds.0, adds.1, adding_push adds.0 u u' more e adds.2 may)
 
+-- adding entries and one more after them is adding that one to what they made
 all_push : (v : View) (more : List Entry) (e : Entry) → adds_all v (more ++ e ∷ []) ≡ adds_to (adds_all v more) e
 all_push v [] e = refl
 all_push v (x ∷ more) e = all_push (adds_to v x) more e
 
+-- without its first part a list is its second part
 drop_front : (l m : List Entry) → drop (length l) (l ++ m) ≡ m
 drop_front [] m = refl
 drop_front (x ∷ l) m = drop_front l m

@@ -35,6 +35,7 @@ load_tells key slots id v c s rule long here fits =
       },
     )
 
+-- the first word may be loaded, and by it a pass has what a closed table tells
 pub may_close : (key key' : Key) (slots id : ℕ) (me : table.Me Slot View) (u : View) → u ≡ me.0 → key' ≡ key
     → table.Allows (Rule key) slots id me 0 (λ n. n) (λ n w. ClosedTold key' u w)
 may_close key key' slots id me u is same =
@@ -47,9 +48,11 @@ apart_from t u zero h = All-nil (λ (r : Shelf). r.thread ≡ t → ⊥)
 apart_from t u (suc n) h = All-cons (λ (r : Shelf). r.thread ≡ t → ⊥) (shelf u []) (shelves_from (suc u) n) (λ e. omega arith)
     (apart_from t (suc u) n (omega arith))
 
+-- the lists from t on are t's empty list and those from t + 1 on
 shelves_next : (t : ℕ) → t < 16 → shelves_from t (16 - t) ≡ shelf t [] ∷ shelves_from (suc t) (15 - t)
 shelves_next t h = let e : 16 - t ≡ suc (15 - t) = omega arith in ap (shelves_from t) e
 
+-- a pass of the lists from t on splits into that of t and that of the rest
 pub cuts : (key : Key) (id t : ℕ) (v : View) → t < 16 → v ≡ blank (shelves_from t (16 - t))
     → table.Splits (Rule key) id v (rest_of v) (first_of v)
 cuts key id t v h is =
@@ -57,6 +60,7 @@ cuts key id t v h is =
     subst (λ (z : View). table.Splits (Rule key) id v (rest_of z) (first_of z)) (sym e)
     (splits key id t v (shelves_from (suc t) (15 - t)) e (apart_from t (suc t) (15 - t) (omega arith)))
 
+-- the two parts that it splits into are those of t and of the rest from t + 1 on
 pub cut_views : (t : ℕ) (v : View) → t < 16 → v ≡ blank (shelves_from t (16 - t)) → (rest_of v ≡ blank (shelves_from (t + 1) (15 - t)))
     × (first_of v ≡ blank (shelf t [] ∷ []))
 cut_views t v h is =
@@ -64,6 +68,7 @@ cut_views t v h is =
     let n : suc t ≡ t + 1 = omega arith in
     (ap rest_of e ∙ ap (λ k. blank (shelves_from k (15 - t))) n, ap first_of e)
 
+-- the fresh passes from t on are that of t and those from t + 1 on
 pub fresh_next : (z : TableId) (t : ℕ) (ps : List PassView) → t < 16 → (ps ++ fresh z t ∷ []) ++ fresh_from z (t + 1) (16 - (t + 1)) ≡ ps
     ++ fresh_from z t (16 - t)
 fresh_next z t ps h =

@@ -6,9 +6,11 @@ use Rattle.gl_model.specs.Machine.{Setting}
 use Rattle.gl_rule.specs.Commits.{MayCommit, HeldRow}
 use Rattle.gl_rule.specs.View.{View, Shelf, filled}
 
+-- a held row is that row whatever words are stored in the cell
 row_stored : (s : Shelf) (v : View) (p y : ℕ) (ws : List ℕ) → HeldRow s v p y → HeldRow s (filled v ws) p y
 row_stored s v p y ws r = record { one = r.one; row = r.row; held = r.held; object = r.object; taken = r.taken; drew = r.drew }
 
+-- a commit that may be made may be made whatever words are stored in the cell
 pub commit_stored : (setting : Setting) (s : Shelf) (v : View) (tx : Tx) (p m : ℕ) (question : ℕ → Question) (ws : List ℕ)
     → MayCommit setting s v tx p m question → MayCommit setting s (filled v ws) tx p m question
 unfolding row_stored

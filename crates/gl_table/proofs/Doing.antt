@@ -56,6 +56,7 @@ may_store t es n act value runs form = record {
   repeats = λ x k v e. absurd (cc);
 }
 
+-- one-element lists that are equal have equal elements
 one_shelf : (a c : Shelf) → a ∷ [] ≡ c ∷ [] → a ≡ c
 one_shelf a c e = cc
 
@@ -69,9 +70,11 @@ state_runs setting p l told runs now is =
     is.threads p.own.id ∙ sym (told.is.threads p.own.id)
     ∙ running_law setting told.log told.now p.own.id b.0 p.own.mine told.allowed own b.1 (no_end p.own.mine runs)
 
+-- a monitor that is told as owned is owned by that thread to that depth
 some_owned : (m : Option (ℕ × ℕ)) (k : ℕ × ℕ) → m ≡ Some k → monitor_state m ≡ Owned k.0 k.1
 some_owned m k e = ap monitor_state e
 
+-- in the state that a pass was told of, no monitor was entered so often that it could not be counted
 pub shallow : (setting : Setting) (v : View) (l : ListView) (o : ℕ) → StateTold setting v l → IsShallow l o
 shallow setting v l o told = record {
   few = λ m is.
@@ -92,6 +95,7 @@ may_put_back setting p l = record {
       λ e. absurd (cc);
 }
 
+-- a pass that read how much room there is may put the list back as it took it
 pub may_put_full : (setting : Setting) (p : PassView) (l : ListView) (low tail : ℕ)
     → MayPutBack setting (shelf_of (with_room p l low tail)) (view_of (with_room p l low tail)) 0 (slot.List l) false
 may_put_full setting p l low tail = record {
@@ -103,9 +107,11 @@ may_put_full setting p l low tail = record {
   quiet = λ e. absurd (cc);
 }
 
+-- the list may be left where it is as it was taken
 leave_list : (setting : Setting) (s : Shelf) (v : View) (h : Held) (k : ℕ) (x y : Slot) → k ≡ 0 → y ≡ x → MayLeaveAt setting s v h k x y
 leave_list setting s v h k x y e is = subst (λ z. MayLeaveAt setting s v h z x y) (sym e) is
 
+-- after publishing, what is held of the list is the new list
 taken_after : (n : ℕ) (y : Slot) (drew : Held → Option Draw) (h : Held) → h.object ≡ 0 → (after_publish n y drew h).taken ≡ y
 taken_after n y drew h e = ap (λ b. (if b then record h { taken = y; tails = suc n ∷ [] }
     else record h { tails = suc n ∷ h.tails; drew = drew h }).taken) (eq-eqb h.object 0 e)

@@ -7,6 +7,7 @@ use Rattle.gl_model.specs.Form.{IsOver}
 use Rattle.gl_rule.specs.Closed.{EndsOver, IsDone}
 use Rattle.gl_table.specs.Doneness.{is_over, is_done}
 
+-- an entry that tests as over ends the list
 over_is : (e : Entry) → is_over e ≡ true → IsOver e
 over_is (Over a) e = tt
 over_is (Sync a b c) e = absurd (cc)
@@ -15,9 +16,11 @@ over_is (Plain a b c d f g) e = absurd (cc)
 over_is (Abort a b) e = absurd (cc)
 over_is (Trim a) e = absurd (cc)
 
+-- a list that ends in an over still does with an entry before it
 ends_later : (e : Entry) (es : List Entry) → EndsOver es → EndsOver (e ∷ es)
 ends_later e es (i, (g, at, over)) = (suc i, (g, at, over))
 
+-- a list that is done, by the test, ends in an over
 ends : (e : Entry) (es : List Entry) (quiet : Bool) → is_done (e ∷ es) quiet ≡ true → EndsOver (e ∷ es)
 ends e [] quiet is = (0, (e, refl, over_is e is))
 ends e (f ∷ es) quiet is = ends_later e (f ∷ es) (ends f es quiet is)

@@ -8,15 +8,18 @@ use Rattle.gl_rule.proofs.Publishing.{packed_long}
 use Rattle.gl_table.specs.PassView.{PassView, view_of}
 use Rattle.gl_table.specs.Walking.{word_at, four_words}
 
+-- the word that is put last is in the list
 in_last : (xs : List CellWord) (x : CellWord) → Contains (xs ++ x ∷ []) x
 in_last [] x = (0, omega arith, refl)
 in_last (y ∷ xs) x = let r = in_last xs x in let near = r.1 in (suc r.0, omega arith, r.2)
 
+-- what is in a list is in it with one word more after it
 in_front : (xs : List CellWord) (y x : CellWord) → Contains xs x → Contains (xs ++ y ∷ []) x
 in_front [] y x c = absurd (let near = c.1 in omega arith)
 in_front (z ∷ xs) y x (zero, near, is) = (zero, omega arith, is)
 in_front (z ∷ xs) y x (suc k, near, is) = let r = in_front xs y x (k, omega arith, is) in let far = r.1 in (suc r.0, omega arith, r.2)
 
+-- the five words of a list of five, put together, are the list
 five_of : (l : List ℕ) → length l ≡ 5 → slice_index l 0 ∷ slice_index l 1 ∷ slice_index l 2 ∷ slice_index l 3 ∷ slice_index l 4 ∷ [] ≡ l
 five_of [] n = absurd (omega arith)
 five_of (a ∷ []) n = absurd (omega arith)

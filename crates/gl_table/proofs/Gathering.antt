@@ -30,6 +30,7 @@ use Rattle.gl_rule.proofs.KeptLists.{kept_are}
 use Rattle.gl_table.specs.Ending.{IsDonePass, AreAllDone, IsRoot, IsTrimmed, ClosedTold, shelves_of, mine_at}
 use Rattle.gl_table.specs.PassView.{PassView, shelf_of}
 
+-- what is in a one-element list is its element
 one_in : (s r : Shelf) → Contains (s ∷ []) r → s ≡ r
 one_in s r (zero, near, is) = is
 one_in s r (suc k, near, is) = absurd (omega arith)
@@ -54,6 +55,7 @@ joins_root key id other me u ps r root one free done st rule at apart there =
     joins key id other v u r root.unread has free root.held (drew_all key w st other u H there' free all r has) root.drawn root.stored
     (paid_all key w st other u H there' free all) root.owed st rule at apart there
 
+-- the root's pass is still the root's after one more pass that is done is joined to it
 pub root_more : (me : table.Me Slot View) (u : View) (ps : List PassView) (p : PassView) → IsRoot me ps → u.shelves ≡ shelf_of p ∷ []
     → IsDone p.own.mine u.quiet → IsRoot (both me.0 u, me.1) (ps ++ p ∷ [])
 root_more me u ps p root one done = record {
@@ -78,6 +80,7 @@ kept_more (r ∷ ps) s = by r.marked (kept_more ps s)
     by [] rest = rest
     by (e ∷ es) rest = ap (λ l. (r.thread, e ∷ es) ∷ l) rest
 
+-- the lists of passes and one more pass are theirs and then its
 pub shelves_more : (ps : List PassView) (p : PassView) → shelves_of (ps ++ p ∷ []) ≡ shelves_of ps ++ shelf_of p ∷ []
 shelves_more ps p = map-append shelf_of ps (p ∷ [])
 
@@ -92,11 +95,13 @@ kept_below t (p ∷ ps) below = by p.own.mine (kept_below t ps (λ j q at. below
     by [] rest = rest
     by (e ∷ es) rest = (below 0 p refl, rest)
 
+-- what stands in the first of two lists stands there in both together
 get_front : {A : Type 0} (xs ys : List A) (j : ℕ) (x : A) → slice_get xs j ≡ Some x → slice_get (xs ++ ys) j ≡ Some x
 get_front [] ys j x e = absurd (cc)
 get_front (a ∷ xs) ys zero x e = e
 get_front (a ∷ xs) ys (suc j) x e = get_front xs ys j x e
 
+-- an element between two lists stands at the length of the first
 get_mid : {A : Type 0} (xs : List A) (x : A) (ys : List A) → slice_get (xs ++ x ∷ ys) (length xs) ≡ Some x
 get_mid [] x ys = refl
 get_mid (a ∷ xs) x ys = get_mid xs x ys
@@ -106,6 +111,7 @@ pub next_done : (z : TableId) (all xs ys : List PassView) (p : PassView) → Are
     → IsDonePass z (length xs) p
 next_done z all xs ys p are is = are.each (length xs) p (subst (λ l. slice_get l (length xs) ≡ Some p) is (get_mid xs p ys))
 
+-- the thread of the next pass is above those whose lists were kept before it
 pub next_behind : (z : TableId) (all xs ys : List PassView) (p : PassView) → AreAllDone z all → xs ++ p ∷ ys ≡ all
     → AllByRecursion (λ (l : ℕ × List Entry). l.0 < p.own.id) (kept_lists (shelves_of xs))
 next_behind z all xs ys p are is = kept_below p.own.id xs (λ j q at.
@@ -114,15 +120,18 @@ next_behind z all xs ys p are is = kept_below p.own.id xs (λ j q at.
     let own = (next_done z all xs ys p are is).id in
     omega arith)
 
+-- a list of length zero is empty
 pub nothing_left : {X : Type 0} (l : List X) → length l ≡ 0 → l ≡ []
 nothing_left [] h = refl
 nothing_left (x ∷ xs) h = absurd (omega arith)
 
+-- below the length of a list there is an element
 get_there : {A : Type 0} (xs : List A) (j : ℕ) → j < length xs → (x : A) × (slice_get xs j ≡ Some x)
 get_there [] j near = absurd (omega arith)
 get_there (x ∷ xs) zero near = (x, refl)
 get_there (x ∷ xs) (suc j) near = get_there xs j (omega arith)
 
+-- the list of a pass that is among the passes is among their lists
 shelf_there : (ps : List PassView) (j : ℕ) (p : PassView) → slice_get ps j ≡ Some p → Contains (shelves_of ps) (shelf_of p)
 shelf_there [] j p e = absurd (cc)
 shelf_there (q ∷ ps) zero p e = let same : q ≡ p = cc in (zero, omega arith, ap shelf_of same)
@@ -157,14 +166,17 @@ rises_from t (p ∷ ps) ids =
           in omega arith) (omega arith),
     )
 
+-- the threads of done passes in order rise
 pub rises : (z : TableId) (ps : List PassView) → AreAllDone z ps → Rises (map (λ (s : Shelf). s.thread) (shelves_of ps))
 rises z ps are = rises_from 0 ps (λ j p at. let a = (are.each j p at).id in omega arith)
 
+-- in a list of kept entries, each entry is kept
 all_at : (es : List Entry) (i : ℕ) (e : Entry) → AllByRecursion IsEntryKept es → At es i e → IsEntryKept e
 all_at [] i e all at = absurd (cc)
 all_at (y ∷ es) zero e all at = let same : y ≡ e = cc in subst IsEntryKept same all.0
 all_at (y ∷ es) (suc i) e all at = all_at es i e all.1 at
 
+-- a kept entry is one whose parts rise
 entry_rising : (e : Entry) → IsEntryKept e → IsEntryRising e
 entry_rising (Sync a b c) kept = tt
 entry_rising (Commit a tx) kept = (kept.0.1, kept.1.1, kept.2.1)
@@ -173,6 +185,7 @@ entry_rising (Abort tx why) kept = (kept.0.0.1, kept.0.1.1, kept.0.2.1)
 entry_rising (Trim a) kept = tt
 entry_rising (Over a) kept = tt
 
+-- each entry of a thread's kept list is kept
 list_kept : (ls : List (ℕ × List Entry)) (t i : ℕ) (e : Entry) → AllByRecursion IsListKept ls → At (lists_of ls t) i e → IsEntryKept e
 list_kept [] t i e all at = absurd (cc)
 list_kept (l ∷ ls) t i e all at = here (l.0 == t) refl (list_kept ls t i e all.1)

@@ -36,6 +36,7 @@ has_more x (y ∷ ys) o c = elim (cases_lt x y) [
       | inr old ↦ inr (suc old.0, omega (arith, old.1), old.2)
     ]
 
+-- a number that is put among others is in them
 has_it : (x : ℕ) (xs : List ℕ) → Contains (with_one x xs) x
 has_it x [] = (zero, omega arith, refl)
 has_it x (y ∷ ys) = elim (cases_lt x y) [
@@ -46,6 +47,7 @@ has_it x (y ∷ ys) = elim (cases_lt x y) [
   ]
 ]
 
+-- what was in a list is in it with one put among
 has_old : (x : ℕ) (xs : List ℕ) (o : ℕ) → Contains xs o → Contains (with_one x xs) o
 has_old x [] o (k, lt, at) = absurd (omega arith)
 has_old x (y ∷ ys) o c = elim (cases_lt x y) [
@@ -60,6 +62,7 @@ has_old x (y ∷ ys) o c = elim (cases_lt x y) [
     later rest (zero, lt, at) = (zero, omega arith, at)
     later rest (suc k, lt, at) = let c = rest (k, omega arith, at) in (suc c.0, omega (arith, c.1), c.2)
 
+-- putting one among a list makes it longer by at most one
 one_longer : (x : ℕ) (xs : List ℕ) → length (with_one x xs) ≤ length xs + 1
 one_longer x [] = omega arith
 one_longer x (y ∷ ys) = elim (cases_lt x y) [
@@ -70,14 +73,17 @@ one_longer x (y ∷ ys) = elim (cases_lt x y) [
   ]
 ]
 
+-- a rising list, with a smaller number before it, rises
 rising_cons : (y : ℕ) (zs : List ℕ) → ((j : ℕ) → j < length zs → y < slice_index zs j) → IsStrictlyIncreasing zs
     → IsStrictlyIncreasing (y ∷ zs)
 rising_cons y zs above rises zero near = above zero (omega arith)
 rising_cons y zs above rises (suc k) near = simp unary_clauses (simp unary_clauses at (rises k (omega arith)))
 
+-- the rest of a rising list rises
 rising_tail : (y : ℕ) (ys : List ℕ) → IsStrictlyIncreasing (y ∷ ys) → IsStrictlyIncreasing ys
 rising_tail y ys rises k near = simp unary_clauses (simp unary_clauses at (rises (suc k) (omega arith)))
 
+-- the first of a rising list is below each of the rest
 rising_head : (y : ℕ) (ys : List ℕ) → IsStrictlyIncreasing (y ∷ ys) → (j : ℕ) → j < length ys → y < slice_index ys j
 rising_head y ys rises zero near = rises zero (omega arith)
 rising_head y ys rises (suc j) near =
@@ -85,6 +91,7 @@ rising_head y ys rises (suc j) near =
     let next : slice_index ys j < slice_index ys (suc j) = simp unary_clauses at (rises (suc j) (omega arith)) in
     omega arith
 
+-- a rising list with one put among it rises
 rising_more : (x : ℕ) (xs : List ℕ) → IsStrictlyIncreasing xs → IsStrictlyIncreasing (with_one x xs)
 rising_more x [] rises = λ k near. absurd (omega arith)
 rising_more x (y ∷ ys) rises = elim (cases_lt x y) [
@@ -157,6 +164,7 @@ least_wider levels a b held le none l = record {
   least = λ o near some. l.least o (none o some near) some;
 }
 
+-- in a rising list an earlier place has no greater number
 rising_places : (xs : List ℕ) → IsStrictlyIncreasing xs → (i k : ℕ) → i ≤ k → k < length xs → slice_index xs i ≤ slice_index xs k
 rising_places xs rises i zero le near = let z : i ≡ zero = omega arith in let e = ap (slice_index xs) z in omega arith
 rising_places xs rises i (suc k) le near = elim (cases_lt i (suc k)) [
@@ -179,6 +187,7 @@ candidates_begin levels monitors h = least_wider levels 0 (get_or monitors 0 MON
         let there : get_or monitors c.0 o ≡ slice_index monitors c.0 = get_or_default monitors c.0 o 0 c.1 in
         absurd (omega arith)
 
+-- the least below one past a candidate are the least below the next candidate
 candidates_go_on : (levels monitors : List ℕ) (i : ℕ) (held : List ℕ) → AreCandidates levels monitors → i < length monitors
     → AreLeastBelow levels (slice_index monitors i + 1) held → AreLeastBelow levels (get_or monitors (i + 1) MONITORS) held
 candidates_go_on levels monitors i held h here l =
@@ -205,9 +214,11 @@ candidates_go_on levels monitors i held h here l =
           | inr before ↦ (let under = rising_places monitors h.rising c.0 i (omega arith) here in omega arith)
         ]
 
+-- within a list the next monitor is the one that stands there
 here_is : (monitors : List ℕ) (i : ℕ) → i < length monitors → get_or monitors i MONITORS ≡ slice_index monitors i
 here_is monitors i here = get_or_default monitors i MONITORS 0 here
 
+-- a candidate that is entered is put among the least that were found
 pub candidate_taken : (levels monitors : List ℕ) (i : ℕ) (held : List ℕ) → AreCandidates levels monitors → i < length monitors
     → 0 < slice_index levels (slice_index monitors i) → AreLeastBelow levels (get_or monitors i MONITORS) held
     → AreLeastBelow levels (get_or monitors (i + 1) MONITORS) (take HELD (with_one (slice_index monitors i) held))
@@ -215,6 +226,7 @@ candidate_taken levels monitors i held h here some l =
     candidates_go_on levels monitors i (take HELD (with_one (slice_index monitors i) held)) h here
     (least_taken levels (slice_index monitors i) held some (subst (λ k. AreLeastBelow levels k held) (here_is monitors i here) l))
 
+-- a candidate that is not entered leaves the least that were found
 pub candidate_skipped : (levels monitors : List ℕ) (i : ℕ) (held : List ℕ) → AreCandidates levels monitors → i < length monitors
     → slice_index levels (slice_index monitors i) ≡ 0 → AreLeastBelow levels (get_or monitors i MONITORS) held
     → AreLeastBelow levels (get_or monitors (i + 1) MONITORS) held
@@ -222,6 +234,7 @@ candidate_skipped levels monitors i held h here none l =
     candidates_go_on levels monitors i held h here
     (least_skipped levels (slice_index monitors i) held none (subst (λ k. AreLeastBelow levels k held) (here_is monitors i here) l))
 
+-- after the last candidate, what was found is the least entered
 pub candidates_end : (levels monitors : List ℕ) (i : ℕ) (held : List ℕ) → length levels ≡ MONITORS → length monitors ≤ i
     → AreLeastBelow levels (get_or monitors i MONITORS) held → AreLeastEntered levels held
 candidates_end levels monitors i held long end l =

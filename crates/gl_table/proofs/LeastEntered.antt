@@ -18,6 +18,7 @@ pub record AreLeastBelow (levels : List ℕ) (k : ℕ) (held : List ℕ) : Type 
   pub at_most_four : length held ≤ HELD
   pub least : (o : ℕ) → o < k → 0 < slice_index levels o → Contains held o ⊎ ((length held ≡ HELD) × ((m : ℕ) → Contains held m → m < o))
 
+-- below zero nothing is entered
 pub least_none : (levels : List ℕ) → AreLeastBelow levels 0 []
 least_none levels = record {
   rising = λ k near. absurd (omega arith);
@@ -39,6 +40,7 @@ least_skipped levels k held none l = record {
   ];
 }
 
+-- a rising list with a greater number put last rises
 rising_push : (xs : List ℕ) (x : ℕ) → IsStrictlyIncreasing xs → ((j : ℕ) → j < length xs → slice_index xs j < x)
     → IsStrictlyIncreasing (xs ++ x ∷ [])
 rising_push xs x rising below k near =

@@ -17,12 +17,15 @@ use Rattle.gl_table.specs.PassInside.{AreOut, IsHeld, empties}
 use Rattle.gl_rule.specs.View.{Held, new_held, without}
 use Rattle.gl_rule.proofs.HeldLists.{all_mapped, all_without, in_cons, in_mapped, in_without}
 
+-- the object of a held slot is in the order
 abbrev pub In : List ℕ → Held → Type 0
 In order h = Contains order h.object
 
+-- no number stands twice in the order
 abbrev Apart : List ℕ → Type 0
 Apart order = IsDistinct (λ a b. a == b) order
 
+-- what is in the order is in it with a number before it
 contains_more : (order : List ℕ) (k q : ℕ) → Contains order q → Contains (k ∷ order) q
 contains_more order k q c = let near = c.1 in (suc c.0, omega arith, c.2)
 
@@ -35,24 +38,29 @@ all_other k (x ∷ order) other = (
       (λ q c. other q (contains_more order x q c)),
 )
 
+-- what is in an order none of whose numbers is k is not k
 other_of : (k : ℕ) (order : List ℕ) → AllByRecursion (λ q. (k == q) ≡ false) order → (q : ℕ) → Contains order q → k ≢ q
 other_of k [] all q c same = absurd (let near = c.1 in omega arith)
 other_of k (x ∷ order) all q (zero, near, is) same = let a : x ≡ q = is in let b : (k == x) ≡ true = eq-eqb k x (same ∙ sym a)
     in absurd (let z : true ≡ false = sym b ∙ all.0 in cc)
 other_of k (x ∷ order) all q (suc i, near, is) same = other_of k order all.1 q (i, omega arith, is) same
 
+-- an order without doubles stays so with a new number before it
 apart_cons : (k : ℕ) (order : List ℕ) → ((q : ℕ) → Contains order q → k ≢ q) → Apart order → Apart (k ∷ order)
 unfolding IsDistinct
 apart_cons k order other apart = (all_other k order other, apart)
 
+-- in an order without doubles the first number is not in the rest
 apart_head : (k : ℕ) (order : List ℕ) → Apart (k ∷ order) → (q : ℕ) → Contains order q → k ≢ q
 unfolding IsDistinct
 apart_head k order apart = other_of k order apart.0
 
+-- the rest of an order without doubles has none
 apart_tail : (k : ℕ) (order : List ℕ) → Apart (k ∷ order) → Apart order
 unfolding IsDistinct
 apart_tail k order apart = apart.1
 
+-- the empty order has no doubles
 apart_none : Apart []
 unfolding IsDistinct
 apart_none = tt

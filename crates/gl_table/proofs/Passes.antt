@@ -29,6 +29,7 @@ use Rattle.gl_rule.specs.Commits.{paid}
 use Rattle.gl_table.proofs.Adding.{ready_push}
 use Rattle.gl_table.proofs.Out as out
 
+-- nothing is left of a list without as many as it is long
 drop_all : {A : Type 0} → (l : List A) → drop (length l) l ≡ []
 drop_all [] = refl
 drop_all (x ∷ l) = drop_all l
@@ -39,6 +40,7 @@ settled v t mine e =
     let a : drop (length (first_marked v.shelves)) mine ≡ [] = ap (λ l. drop (length (first_marked l)) mine) e ∙ drop_all mine in
     ap (λ k. record (adds_all v k) { shelves = shelf t mine ∷ [] }) a ∙ ap (λ l. record v { shelves = l }) (sym e)
 
+-- a pass of one thread's list is ready
 pub is_ready : (v : View) (t : ℕ) (mine : List Entry) → v.shelves ≡ shelf t mine ∷ [] → t < THREADS → IsReady v t mine
 is_ready v t mine e near = record {
   more = [];
@@ -66,6 +68,7 @@ is_pass v c t mine seen order quiet e near sees quiets unstored gone below kept 
       kept = kept;
     }
 
+-- publishing leaves which object a slot is of
 pub published_object : (n : ℕ) (y : Slot) (drew : Held → Option Draw) (h : Held) → (after_publish n y drew h).object ≡ h.object
 published_object n y drew h = by_bool (h.object == 0)
   where
@@ -74,6 +77,7 @@ published_object n y drew h = by_bool (h.object == 0)
     by_bool true = refl
     by_bool false = refl
 
+-- entries below n are below a greater m
 pub below_later : (n m t : ℕ) (es : List Entry) → n ≤ m → AreBelow n (shelf t es) → AreBelow m (shelf t es)
 below_later n m t es le below i p e at is = let a = below i p e at is in omega arith
 
@@ -86,19 +90,23 @@ not_less n to none = by (nat_lt n to) refl
     by true e = absurd (none (ltb-true n to e))
     by false e = e
 
+-- entries below n with one that is below too are below n
 pub below_push : (n t : ℕ) (es : List Entry) (e : Entry) → AreBelow n (shelf t es) → ((p : ℕ) → position_of e ≡ Some p → p < n)
     → AreBelow n (shelf t (es ++ e ∷ []))
 below_push n t es e below new i p f at is =
     elim (at_cases es e f i at) [ inl old ↦ below i p f old is | inr last ↦ new p (subst (λ z. position_of z ≡ Some p) last.1 is) ]
 
+-- the words that are left of none are none
 words_left : (b : Bool) (l : List ℕ) → l ≡ [] → (if b then [] else l) ≡ []
 words_left true l e = refl
 words_left false l e = e
 
+-- something or false is that something
 or_false : (b : Bool) → (b || false) ≡ b
 or_false true = refl
 or_false false = refl
 
+-- two flags, of which the first is the same, give the same with an or
 quiet_or : (a b c : Bool) → a ≡ b → (a || c) ≡ (b || c)
 quiet_or a b c e = ap (λ x. x || c) e
 

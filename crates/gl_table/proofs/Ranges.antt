@@ -21,6 +21,7 @@ entry_at P [] i e all at = absurd (cc)
 entry_at P (y ∷ es) zero e all at = let same : y ≡ e = cc in subst P same (All-head P y es all)
 entry_at P (y ∷ es) (suc i) e all at = entry_at P es i e (All-tail P y es all) at
 
+-- a kept entry that gives a right gives it for a variable that there is
 gives_in_range : (e : Entry) (x k : ℕ) (w : Bool) → IsEntryKept e → GivesRight e x k w → x < VARIABLES
 gives_in_range (Plain var nth cached write value raised) x k w kept gives = subst (λ n. n < VARIABLES) gives.2 kept
 gives_in_range (Sync a b c) x k w kept gives = absurd gives

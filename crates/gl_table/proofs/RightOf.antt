@@ -20,10 +20,12 @@ abbrev pub RightStands : List Entry → ℕ → Option (ℕ × Bool) → Type 0
 RightStands es x None = Unit {0}
 RightStands es x (Some r) = (write : Bool) → (write ≡ true → r.1 ≡ true) → HasRight es (length es) x r.0 write
 
+-- a list with one entry more is longer by one
 length_push : (es : List Entry) (e : Entry) → length (es ++ e ∷ []) ≡ length es + 1
 length_push [] e = refl
 length_push (y ∷ es) e = let r = length_push es e in omega arith
 
+-- a right that stands stands after an entry that has no position and gives none
 keeps_right : (es : List Entry) (x : ℕ) (r : Option (ℕ × Bool)) (e : Entry) → position_of e ≡ None
     → ((m : ℕ) (w : Bool) → GivesRight e x m w → ⊥) → RightStands es x r → RightStands (es ++ e ∷ []) x r
 keeps_right es x None e place gives stands = tt
@@ -49,6 +51,7 @@ keeps_right es x (Some r) e place gives stands = λ write enough.
       ];
     }
 
+-- after an uncached access, the right that it gives stands
 new_right : (es : List Entry) (x k : ℕ) (w : Bool) (value : ℤ) → RightStands (es ++ Plain x k false w value false ∷ []) x (Some (k, w))
 new_right es x k w value = λ write enough.
     let e : Entry = Plain x k false w value false in
@@ -65,6 +68,7 @@ new_right es x k w value = λ write enough.
       latest = λ j m f u at lt near g. absurd (omega arith);
     }
 
+-- the right that stands, after one entry more, is the one that the entry makes of it
 right_step : (es : List Entry) (x : ℕ) (r : Option (ℕ × Bool)) (e : Entry) → RightStands es x r
     → RightStands (es ++ e ∷ []) x (right_after x r e)
 right_step es x r (Sync at act value) stands = tt
@@ -84,6 +88,7 @@ right_step es x r (Plain var nth false write value false) stands = by (var == x)
     by false other = keeps_right es x r (Plain var nth false write value false) refl
         (λ m w g. absurd (let z : true ≡ false = sym (eq-eqb var x g.2) ∙ other in cc)) stands
 
+-- the right that stands, after a list, is the one that the list makes of it
 right_all : (done es : List Entry) (x : ℕ) (r : Option (ℕ × Bool)) → RightStands done x r → RightStands (done ++ es) x (right_from x r es)
 right_all done [] x r stands = subst (λ l. RightStands l x r) (sym (append-nil done)) stands
 right_all done (e ∷ es) x r stands = subst (λ l. RightStands l x (right_from x (right_after x r e) es)) (append_assoc done (e ∷ []) es)

@@ -14,6 +14,7 @@ use Rattle.gl_table.specs.RightsInside.{right_in}
 use Rattle.gl_table.specs.declared.rights.Right.{Right}
 use Rattle.gl_table.proofs.RightOf.{right_push}
 
+-- where no right is kept there is none for any variable
 none_there : (x : ℕ) → x < VARIABLES → slice_index_or (replicate {A = Option (ℕ × Bool)} VARIABLES None) x None ≡ None
 none_there x near = get_or-replicate VARIABLES x None None near
 
@@ -36,6 +37,7 @@ right_kept rights x (Plain var nth false write value false) near long = elim (�
       ∙ sym (ap (λ (b : Bool). if b then Some (nth, write) else slice_index_or rights x None) (ne_eqb var x (λ z. ne (sym z))))
 ]
 
+-- the number of rights that are kept is that of the variables, after an entry too
 pub rights_long : (rights : List (Option (ℕ × Bool))) (e : Entry) → length rights ≡ VARIABLES → length (rights_after rights e) ≡ VARIABLES
 rights_long rights (Sync at act value) long = length-replicate {A = Option (ℕ × Bool)} VARIABLES None
 rights_long rights (Commit at tx) long = length-replicate {A = Option (ℕ × Bool)} VARIABLES None
@@ -66,6 +68,7 @@ after_far x (Over ending) far kept = refl
 after_far x (Plain var nth false write value false) far kept =
     ap (λ (b : Bool). if b then Some (nth, write) else None) (ne_eqb var x (λ e. absurd (omega arith)))
 
+-- a list of kept entries gives no right for a variable that there is not
 pub right_far : (x : ℕ) (es : List Entry) → VARIABLES ≤ x → All IsEntryKept es → right_of es x ≡ None
 right_far x [] far kept = refl
 right_far x (e ∷ es) far kept = ap (λ r. right_from x r es) (after_far x e far (All-head IsEntryKept e es kept))

@@ -6,9 +6,11 @@ use Rattle.gl_rule.specs.declared.slot.Slot.{Slot}
 use Rattle.gl_rule.specs.declared.slot.Slot.TheVariants as slot
 use Rattle.gl_table.specs.PassInside.{empties}
 
+-- a list that is turned by one has its first element last
 turned_cons : (x : ℕ × Slot) (l m : List (ℕ × Slot)) → l ≡ x ∷ m → turned l ≡ m ++ x ∷ []
 turned_cons x l m e = ap turned e
 
+-- a list that is turned by c and then once more is turned by c + 1
 pub turned_step : (l : List (ℕ × Slot)) (c : ℕ) (d : ℕ × Slot) → c < length l → turned (drop c l ++ take c l) ≡ drop (c + 1) l
     ++ take (c + 1) l
 turned_step l c d h =
@@ -17,6 +19,7 @@ turned_step l c d h =
     turned_cons y (drop c l ++ take c l) (drop (c + 1) l ++ take c l) (ap (λ k. k ++ take c l) a)
     ∙ append_assoc (drop (c + 1) l) (take c l) (y ∷ []) ∙ ap (λ k. drop (c + 1) l ++ k) (sym (take_more l c d h))
 
+-- empty slots that are turned are those of the turned list
 pub rotated_empties : (i : ℕ) (l : List ℕ) → drop i (empties l) ++ take i (empties l) ≡ empties (drop i l ++ take i l)
 rotated_empties i l =
     let f : ℕ → ℕ × Slot = λ k. (k, slot.Empty) in

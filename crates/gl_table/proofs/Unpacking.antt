@@ -54,6 +54,7 @@ act_back t (Fail c) near range small =
     let p : c % 256 ≡ c = omega arith in
     rw (k, r) (ap Fail p)
 
+-- each of the words of the list is an id
 abbrev AreIds : List ℕ → Type 0
 AreIds xs = AllByRecursion (λ x. x < VARIABLES) xs
 
@@ -79,6 +80,7 @@ four_back (a ∷ (b ∷ (c ∷ (d ∷ xs)))) (suc (suc (suc zero))) all near few
     in let w = all.1.1.1.0 in omega arith
 four_back (a ∷ (b ∷ (c ∷ (d ∷ xs)))) (suc (suc (suc (suc r)))) all near few = absurd (omega arith)
 
+-- the words after the first four are ids, if all are
 behind_all : (xs : List ℕ) → AreIds xs → AreIds (behind_four xs)
 behind_all [] all = tt
 behind_all (a ∷ []) all = tt
@@ -86,6 +88,7 @@ behind_all (a ∷ (b ∷ [])) all = tt
 behind_all (a ∷ (b ∷ (c ∷ []))) all = tt
 behind_all (a ∷ (b ∷ (c ∷ (d ∷ xs)))) all = all.1.1.1.1
 
+-- the word at r after the first four is the word at 4 + r
 behind_get : (xs : List ℕ) (r : ℕ) → get_or (behind_four xs) r 0 ≡ get_or xs (4 + r) 0
 behind_get [] r = refl
 behind_get (a ∷ []) r = let n : 4 + r ≡ suc (3 + r) = omega arith in sym (ap (λ k. get_or (a ∷ []) k 0) n)
@@ -95,6 +98,7 @@ behind_get (a ∷ (b ∷ (c ∷ []))) r = let n : 4 + r ≡ suc (suc (suc (1 + r
 behind_get (a ∷ (b ∷ (c ∷ (d ∷ xs)))) r = let n : 4 + r ≡ suc (suc (suc (suc r))) = omega arith
     in sym (ap (λ k. get_or (a ∷ (b ∷ (c ∷ (d ∷ xs)))) k 0) n)
 
+-- the words after the first four are four fewer
 behind_long : (xs : List ℕ) → 4 ≤ length xs → length (behind_four xs) + 4 ≡ length xs
 behind_long [] some = absurd (omega arith)
 behind_long (a ∷ []) some = absurd (omega arith)
@@ -145,17 +149,20 @@ ids_stand t xs are = record { variables = are; ids = ids }
               ])
         ]
 
+-- each word of a list above x is above x
 above_all : (x : ℕ) (xs : List ℕ) (j : ℕ) → AllByRecursion (λ y. x < y) xs → j < length xs → x < get_or xs j 0
 above_all x [] j all near = absurd (omega arith)
 above_all x (y ∷ xs) zero all near = all.0
 above_all x (y ∷ xs) (suc j) all near = above_all x xs j all.1 (omega arith)
 
+-- in a rising list a later word is above an earlier one
 rises_get : (xs : List ℕ) (k j : ℕ) → Rises xs → k < j → j < length xs → get_or xs k 0 < get_or xs j 0
 rises_get [] k j rises lt near = absurd (omega arith)
 rises_get (x ∷ xs) k zero rises lt near = absurd (omega arith)
 rises_get (x ∷ xs) zero (suc j) rises lt near = above_all x xs j rises.0 (omega arith)
 rises_get (x ∷ xs) (suc k) (suc j) rises lt near = rises_get xs k j rises.1 (omega arith) (omega arith)
 
+-- a word before the cut of a list is the word of the list
 take_get : (xs : List ℕ) (j k : ℕ) → k < j → get_or (take j xs) k 0 ≡ get_or xs k 0
 take_get [] zero k lt = absurd (omega arith)
 take_get [] (suc j) k lt = refl
@@ -163,6 +170,7 @@ take_get (x ∷ xs) zero k lt = absurd (omega arith)
 take_get (x ∷ xs) (suc j) zero lt = refl
 take_get (x ∷ xs) (suc j) (suc k) lt = take_get xs j k (omega arith)
 
+-- the first j words of a list that has so many are j
 take_long : (xs : List ℕ) (j : ℕ) → j ≤ length xs → length (take j xs) ≡ j
 take_long [] zero le = refl
 take_long [] (suc j) le = absurd (omega arith)
@@ -176,11 +184,13 @@ next_id xs j rises near =
     in subst (λ z. z < get_or xs j 0) (sym (take_get xs j k (omega arith))) (rises_get xs k j rises (omega arith) near))
     ∙ sym (take_more xs j 0 near)
 
+-- a word of a list of variables is a variable
 pub id_near : (xs : List ℕ) (j : ℕ) → AllByRecursion (λ x. x < VARIABLES) xs → j < length xs → get_or xs j 0 < VARIABLES
 id_near [] j all near = absurd (omega arith)
 id_near (x ∷ xs) zero all near = all.0
 id_near (x ∷ xs) (suc j) all near = id_near xs j all.1 (omega arith)
 
+-- the word of an act, with a thread's id in its upper part, is not the word of a commit
 not_commit : (t : ℕ) (a : Act) → t < 16 → (act_word a + 256 * t) % 256 ≡ 12 → ⊥
 not_commit t (Begin f) near e = omega arith
 not_commit t End near e = omega arith
@@ -195,9 +205,11 @@ not_commit t Print near e = omega arith
 not_commit t Input near e = omega arith
 not_commit t (Fail c) near e = omega arith
 
+-- an event of a thread
 abbrev pub stamp_of : ℕ → Event → Stamp
 stamp_of t e = record { thread = t; event = e }
 
+-- stamps of the same thread and the same event are the same
 stamp_is : (t u : ℕ) (e f : Event) → t ≡ u → e ≡ f → stamp_of t e ≡ stamp_of u f
 stamp_is t u e f a b = λ i. stamp_of (a i) (b i)
 

@@ -28,6 +28,7 @@ use Rattle.gl_riders.specs.Riding.{Rides}
 use Rattle.gl_threads.specs.declared.crew.Crew.{Crew}
 use Rattle.gl_threads.specs.declared.rider.Rider.{Rider}
 
+-- a fresh thread with fresh own things rides, outside an attempt
 pub rides_new : (P : Bytecode) (z : TableId) (id steps : ℕ) (c : Config) (own : Own) → Fits P c → c ≡ fresh P id steps → own ≡ new_own z id
     → steps < 2 ^ 32 → Rides P z c own None
 unfolding levels_of
@@ -49,6 +50,7 @@ rides_new P z id steps c own fits is new short =
       drawn = refl;
     })
 
+-- fresh own things have no private words
 pub kept_new : (z : TableId) (id : ℕ) (own : Own) (words : Words) → own ≡ new_own z id → words ≡ no_words → Owns words own
 kept_new z id own words new none =
     let at : Own × Words → Type 0 = λ t. Owns t.1 t.0 in
@@ -56,12 +58,14 @@ kept_new z id own words new none =
 
 -- ## A thread more
 
+-- a number whose rest by the number of workers is not this worker's is not dealt to it
 other_worker : (W c n : ℕ) → n % W ≢ c → its W c n ≡ []
 other_worker W c n other = by_test (n % W == c) refl where
   by_test : (b : Bool) → (n % W == c) ≡ b → (if b then n ∷ [] else []) ≡ []
   by_test true is = absurd (other (grind (arith, nat_tests)))
   by_test false is = refl
 
+-- a number whose rest by the number of workers is this worker's is dealt to it
 this_worker : (W c n : ℕ) → n % W ≡ c → its W c n ≡ n ∷ []
 this_worker W c n this = (let e : (n % W == c) ≡ true = eq-eqb (n % W) c this in rw e refl)
 
@@ -73,10 +77,12 @@ module _ (crews : List Crew) (c : ℕ) (crew : Crew) (less : c < length crews) w
   elsewhere : (j : ℕ) (d : Crew) → j ≢ c → slice_index_or (slice_set crews c crew) j d ≡ slice_index_or crews j d
   elsewhere j d other = get_or-set_other crews c j crew d other
 
+-- the image of two lists together is the images together
 map-append : {A B : Type 0} (f : A → B) (xs ys : List A) → map f (xs ++ ys) ≡ map f xs ++ map f ys
 map-append f [] ys = refl
 map-append f (x ∷ xs) ys = ap (λ zs. f x ∷ zs) (map-append f xs ys)
 
+-- the threads from the next number on, with one more given to its worker, are dealt from this number on
 pub dealt_more :
     (W n k : ℕ) (crews : List Crew) (crew : Crew) (rider : Rider) → AreDealt W (suc n) k crews → n % W < W → rider_id rider ≡ n →
     crew.riders.items ≡ (slice_index_or crews (n % W) crew).riders.items ++ rider ∷ [] → AreDealt W n (suc k) (slice_set crews (n % W) crew)
@@ -100,6 +106,7 @@ dealt_more W n k crews crew rider dealt' less id gets = record {
   ];
 }
 
+-- crews that are ready stay so when one takes a rider aboard who is aboard rightly
 pub ready_more :
     (P : Bytecode) (steps : ℕ) (t : TableView) (crews : List Crew) (c : ℕ) (crew : Crew) (rider : Rider) → AreReady P steps t crews
     → c < length crews → IsAboard P steps t.id rider →
@@ -122,6 +129,7 @@ ready_more P steps t crews c crew rider ready less aboard gets window = λ j d l
 
 -- ## A thread less
 
+-- two equal lists with one put last have equal fronts and equal last elements
 snoc_same : (xs ys : List ℕ) (x y : ℕ) → xs ++ x ∷ [] ≡ ys ++ y ∷ [] → (xs ≡ ys) × (x ≡ y)
 snoc_same [] [] x y is = (refl, cc)
 snoc_same [] (b ∷ ys) x y is = absurd (short ys (tails is)) where
@@ -149,6 +157,7 @@ pub record IsLast (n : ℕ) (rest : List ℕ) (left : List Rider) (rider : Rider
   pub id : rider_id rider ≡ n
   pub left_ids : map rider_id left ≡ rest
 
+-- riders whose ids end in n have the rider of that id last
 is_last : (n : ℕ) (rest : List ℕ) (left : List Rider) (r : Rider) → map rider_id (left ++ r ∷ []) ≡ rest ++ n ∷ [] → IsLast n rest left r
 is_last n rest left r is =
     let e = snoc_same (map rider_id left) rest (rider_id r) n (sym (map-append rider_id left (r ∷ [])) ∙ is) in
@@ -159,6 +168,7 @@ pub record IsGone (W n k : ℕ) (crews : List Crew) (crew : Crew) (rider : Rider
   pub id : rider_id rider ≡ n
   pub dealt : AreDealt W (suc n) k (slice_set crews (n % W) crew)
 
+-- a crew's last rider is the one of the next number, and without it the others are dealt from the number after
 pub dealt_less :
     (W n k : ℕ) (crews : List Crew) (crew : Crew) (rider : Rider) → AreDealt W n (suc k) crews → n % W < W →
     (slice_index_or crews (n % W) crew).riders.items ≡ crew.riders.items ++ rider ∷ [] → IsGone W n k crews crew rider
@@ -197,6 +207,7 @@ dealt_some W n k crews dealt' less none d =
     short [] y e = cc
     short (z ∷ zs) y e = cc
 
+-- the last rider of a crew that is done is finished, and the crews without it are done still
 pub done_less :
     (P : Bytecode) (steps : ℕ) (z : TableId) (crews : List Crew) (c : ℕ) (crew : Crew) (rider : Rider) → AreDone P steps z crews
     → c < length crews →
@@ -220,6 +231,7 @@ done_less P steps z crews c crew rider done less gives =
 
 -- ## Passes
 
+-- passes that are back are back with one more finished pass of the next number
 pub back_more :
     (P : Bytecode) (steps : ℕ) (z : TableId) (n : ℕ) (ps : List PassView) (v : PassView) → AreBack P steps z ps → length ps ≡ n → v.own.id
     ≡ n → IsFinished P steps z v →
@@ -244,6 +256,7 @@ pub record IsNewLast (z : TableId) (n : ℕ) (left : List PassView) (v : PassVie
   pub new : v.own ≡ new_own z n
   pub rest : AreNew z left
 
+-- fresh passes have the fresh pass of the last number last
 pub new_less : (z : TableId) (n : ℕ) (ps left : List PassView) (v : PassView) → AreNew z ps → ps ≡ left ++ v ∷ [] → length left ≡ n
     → IsNewLast z n left v
 new_less z n ps left v new is long =
@@ -254,6 +267,7 @@ new_less z n ps left v new is long =
       rest = λ j d less. ap (λ (u : PassView). u.own) (sym (get_or_append_left left (v ∷ []) d j less)) ∙ new' j d (omega arith);
     }
 
+-- a number above zero is one more than some number
 pub suc_of : (k : ℕ) → 0 < k → (m : ℕ) × (k ≡ suc m)
 suc_of zero less = absurd (omega arith)
 suc_of (suc m) less = (m, refl)
@@ -350,6 +364,7 @@ pub record AreEmpty (W n : ℕ) (P : Bytecode) (steps : ℕ) (t : TableView) (cr
   pub dealt : AreDealt W n 0 crews
   pub ready : AreReady P steps t crews
 
+-- crews that are all empty have no threads aboard
 pub crews_new :
     (W n : ℕ) (P : Bytecode) (steps : ℕ) (t : TableView) (room : ℕ) (crews : List Crew) → length crews ≡ W → capacity t.key ≡ room
     → All (IsEmptyCrew room) crews →
@@ -364,16 +379,19 @@ crews_new W n P steps t room crews long is none = record {
 
 -- ## The passes of a new table
 
+-- the j-th of the fresh passes from n on is that of number n + j
 fresh_at : (z : TableId) (n k j : ℕ) (d : PassView) → j < k → slice_index_or (fresh_from z n k) j d ≡ new_pass z (n + j)
 fresh_at z n zero j d less = absurd (omega arith)
 fresh_at z n (suc k) zero d less = (let same : n ≡ n + 0 = omega arith in ap (new_pass z) same)
 fresh_at z n (suc k) (suc j) d less = (let same : suc n + j ≡ n + suc j = omega arith in fresh_at z (suc n) k j d (omega arith)
     ∙ ap (new_pass z) same)
 
+-- the fresh passes from n on are as many as asked for
 pub fresh_long : (z : TableId) (n k : ℕ) → length (fresh_from z n k) ≡ k
 fresh_long z n zero = refl
 fresh_long z n (suc k) = ap suc (fresh_long z (suc n) k)
 
+-- the sixteen fresh passes are those of a table that is new
 pub fresh_new : (z : TableId) (ps : List PassView) → ps ≡ fresh_from z 0 16 → AreNew z ps
 fresh_new z ps is j d less =
     let long : length ps ≡ 16 = ap length is ∙ fresh_long z 0 16 in

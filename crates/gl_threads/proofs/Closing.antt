@@ -22,6 +22,7 @@ use Rattle.gl_threads.specs.Crews.{CrewIsDone}
 use Rattle.gl_threads.specs.Dealing.{AreBack, AreDealt, AreDone}
 use Rattle.gl_threads.specs.declared.crew.Crew.{Crew}
 
+-- a test that no crew passes is false of each
 none_any : (p : Crew → Bool) (xs : List Crew) → list_any p xs ≡ false → (c : ℕ) (d : Crew) → c < length xs → p (slice_index_or xs c d)
     ≡ false
 none_any p [] none c d less = absurd (omega arith)
@@ -39,6 +40,7 @@ pub record AreThrough (P : Bytecode) (steps : ℕ) (z : TableId) (W : ℕ) (crew
   pub dealt : AreDealt W 0 16 crews
   pub done : AreDone P steps z crews
 
+-- crews that each are done and of which none was stopped are all through
 pub crews_through :
     (P : Bytecode) (steps : ℕ) (z : TableId) (W : ℕ) (old new : List Crew) → AreDealt W 0 16 old → length new ≡ length old →
     ((c : ℕ) (d : Crew) → c < length old → CrewIsDone P steps z (slice_index_or old c d) (slice_index_or new c d)) →
@@ -53,11 +55,13 @@ crews_through P steps z W old new dealt' long done none = record {
 
 -- ## The passes are back
 
+-- what stands at a place of the passes is below their number, and is what indexing gives
 index_got : (ps : List PassView) (j : ℕ) (p : PassView) → slice_get ps j ≡ Some p → (j < length ps) × (slice_index_or ps j p ≡ p)
 index_got [] j p is = absurd (cc)
 index_got (x ∷ ps) zero p is = (omega arith, (cc))
 index_got (x ∷ ps) (suc j) p is = (let g = index_got ps j p is in ((let less = g.0 in omega arith), g.1))
 
+-- below the number of passes indexing gives what stands there
 got_index : (ps : List PassView) (j : ℕ) (d : PassView) → j < length ps → slice_get ps j ≡ Some (slice_index_or ps j d)
 got_index [] j d less = absurd (omega arith)
 got_index (x ∷ ps) zero d less = refl
@@ -71,12 +75,14 @@ back_at P steps z ps j p back is =
     let F : PassView → Type 0 = λ v. IsFinished P steps z v in
     (ap (λ (v : PassView). v.own.id) (sym g.1) ∙ back.ids j p g.0, subst F g.1 (back.finished j p g.0))
 
+-- sixteen passes that are back are all done
 pub back_done : (P : Bytecode) (steps : ℕ) (z : TableId) (ps : List PassView) → length ps ≡ 16 → AreBack P steps z ps → AreAllDone z ps
 back_done P steps z ps long back = record {
   count = long;
   each = λ j p is. (let b = back_at P steps z ps j p back is in record { table = b.1.table; id = b.0; held = b.1.held; done = b.1.done });
 }
 
+-- each pass that is back and has a list that is not empty runs by it
 pub back_runs : (P : Bytecode) (steps : ℕ) (z : TableId) (ps : List PassView) → AreBack P steps z ps → (j : ℕ) (p : PassView)
     → slice_get ps j ≡ Some p → p.own.mine ≢ [] → Runs P steps j p.own.mine
 back_runs P steps z ps back j p is some =
@@ -84,6 +90,7 @@ back_runs P steps z ps back j p is some =
     let at : ℕ → Type 0 = λ n. Runs P steps n p.own.mine in
     subst at b.0 (b.1.runs some)
 
+-- the lists of passes that are back are sparing
 pub back_spared : (P : Bytecode) (steps : ℕ) (z : TableId) (ps : List PassView) → AreBack P steps z ps → All (λ v. IsSpared v.own.mine) ps
 back_spared P steps z ps back = λ j d less. (back.finished j d less).spared
 
@@ -93,6 +100,7 @@ back_spared P steps z ps back = λ j d less. (back.finished j d less).spared
 abbrev IsRun : Bytecode → ℕ → PassView → Type 0
 IsRun P steps v = v.own.mine ≢ [] → Runs P steps v.own.id v.own.mine
 
+-- a thread whose list among the passes is not empty runs by it, if all do
 mine_runs : (P : Bytecode) (steps t : ℕ) (ps : List PassView) → All (IsRun P steps) ps → mine_at ps t ≢ [] → Runs P steps t (mine_at ps t)
 mine_runs P steps t [] runs some = absurd (some refl)
 mine_runs P steps t (p ∷ ps) runs some = by_test (p.own.id == t) refl some
@@ -108,6 +116,7 @@ mine_runs P steps t (p ∷ ps) runs some = by_test (p.own.id == t) refl some
           subst at same (here some')
       by_test false is some' more = more some'
 
+-- all passes run, if each that stands among them with a list that is not empty does
 all_run :
     (P : Bytecode) (steps : ℕ) (z : TableId) (ps : List PassView) → AreAllDone z ps →
     ((j : ℕ) (p : PassView) → slice_get ps j ≡ Some p → p.own.mine ≢ [] → Runs P steps j p.own.mine) → All (IsRun P steps) ps
@@ -131,6 +140,7 @@ closed_lawful P inputs steps z setting ps R set done runs lists allowed = record
       subst at (sym (lists t)) (mine_runs P steps t ps (all_run P steps z ps done runs) (λ none. some (lists t ∙ none))));
 }
 
+-- a thread's list among the passes is sparing, if all are
 mine_spared : (t : ℕ) (ps : List PassView) → All (λ v. IsSpared v.own.mine) ps → IsSpared (mine_at ps t)
 mine_spared t [] spared = spares_new.spared
 mine_spared t (p ∷ ps) spared = by_test (p.own.id == t) (mine_spared t ps (All-tail (λ v. IsSpared v.own.mine) p ps spared)) where

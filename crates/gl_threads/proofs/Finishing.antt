@@ -12,16 +12,19 @@ use Rattle.std.specs.Prelude.{Option, slice_index_or, slice_set}
 use Rattle.gl_threads.specs.Aboard.{AboardBy, AreAboard, AreFinished, IsAboard, IsFinished, rider_id}
 use Rattle.gl_threads.specs.declared.rider.Rider.{Rider}
 
+-- a rider that is home and aboard is finished, with the limit that it had
 finished_by : (P : Bytecode) (steps : ℕ) (z : TableId) (b : Bool) (c : Config) (v : PassView) (txn : Option Attempting) (words : Words) → b
     ≡ true → AboardBy b P z c v txn words → c.limit ≡ steps → IsFinished P steps z v
 finished_by P steps z true c v txn words is aboard limit = (let at : ℕ → Type 0 = λ n. IsFinished P n z v in subst at limit aboard)
 finished_by P steps z false c v txn words is aboard limit = cc
 
+-- if a conjunction is true, both of its parts are
 both : (a b : Bool) → (a && b) ≡ true → (a ≡ true) × (b ≡ true)
 both true true is = (refl, refl)
 both true false is = cc
 both false b is = cc
 
+-- if all riders aboard are home, all are finished
 pub all_finished : (P : Bytecode) (steps : ℕ) (z : TableId) (rs : List Rider) → list_all (λ r. r.home) rs ≡ true → AreAboard P steps z rs
     → AreFinished P steps z rs
 all_finished P steps z [] home aboard = λ k d less. absurd (omega arith)
@@ -38,6 +41,7 @@ ids_set [] i y x same is = refl
 ids_set (r ∷ rs) zero y x same is = ap (λ n. n ∷ map rider_id rs) (same ∙ ap rider_id is)
 ids_set (r ∷ rs) (suc i) y x same is = ap (λ ns. rider_id r ∷ ns) (ids_set rs i y x same is)
 
+-- riders that are aboard stay so when one place is set to one that is
 pub aboard_set : (P : Bytecode) (steps : ℕ) (z : TableId) (xs : List Rider) (i : ℕ) (y : Rider) → IsAboard P steps z y
     → AreAboard P steps z xs → AreAboard P steps z (slice_set xs i y)
 aboard_set P steps z xs i y one all = All-set (IsAboard P steps z) xs i y one all

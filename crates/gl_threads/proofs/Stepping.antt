@@ -43,10 +43,12 @@ use Rattle.gl_riders.proofs.Sparings.{spares_note}
 use Rattle.gl_riders.proofs.Telling.{LifeFor}
 use Rattle.gl_threads.specs.Aboard.{IsFinished}
 
+-- to go on leaves no entry, inside an attempt or outside
 quiet_go : (o : Option Attempt) (p : Progress) → is_quiet o p Go Gone ≡ true
 quiet_go None p = refl
 quiet_go (Some a) p = refl
 
+-- a thread that rides is answered rightly when it goes on
 go_answered : (P : Bytecode) (z : TableId) (c : Config) (own : Own) (txn : Option Attempting) → Rides P z c own txn
     → IsAnswered P c Go Gone own own txn txn
 go_answered P z c own txn rides = record {
@@ -74,6 +76,7 @@ pub record Stays (P : Bytecode) (z : TableId) (c d : Config) (own new : Own) (af
   pub id : new.id ≡ own.id
   pub table : new.table ≡ own.table
 
+-- a thread that rides stays, with what it does next, after a right answer to what it asked
 pub answered_on :
     (P : Bytecode) (z : TableId) (c d : Config) (own mid new : Own) (txn after : Option Attempting) (ask r : Ask) (reply : Reply)
     → Rides P z c own txn →
@@ -95,6 +98,7 @@ answered_on P z c d own mid new txn after ask r reply rides same asks answered s
       table = ap (λ (v : Own). v.table) a.rest;
     }
 
+-- a thread that rides takes a right answer to what it asked
 pub answered_may :
     (P : Bytecode) (z : TableId) (c : Config) (own mid new : Own) (txn after : Option Attempting) (ask : Ask) (reply : Reply)
     → Rides P z c own txn →
@@ -104,6 +108,7 @@ answered_may P z c own mid new txn after ask reply rides asks answered =
     let a : IsAnswered P c (ask_of c.stage) reply mid new txn after = subst at asks answered in
     takes_told P c reply rides.orderly a.fitting a.leaves
 
+-- a thread that rides stays, with what it does next, when it asked to go on
 pub goes_on :
     (P : Bytecode) (z : TableId) (c d : Config) (own mid : Own) (txn : Option Attempting) (r : Ask) → Rides P z c own txn → mid ≡ own → Go
     ≡ ask_of c.stage →
@@ -129,6 +134,7 @@ pub kept_swept : (words : Words) (txn : Option Attempting) (old new : Own) → I
 kept_swept words None old new swept kept = owns_swept words old new swept kept
 kept_swept words (Some a) old new swept kept = (kept.0, ap (λ (v : Own). v.owed) swept.own ∙ kept.1)
 
+-- a thread that rides stays after its list was swept, if its life is open
 pub rides_swept_on :
     (P : Bytecode) (z : TableId) (c : Config) (old new : Own) (txn : Option Attempting) → Rides P z c old txn → IsOpen (life_of old.mine)
     → IsSwept old new → Stays P z c c old new txn
@@ -167,10 +173,12 @@ asks_open Input l is for = inr for
 asks_open TxBegin l is for = inr for
 asks_open (TxEnd keep) l is for = inr for
 
+-- a thread that rides and asks something has an open life
 pub ask_open : (P : Bytecode) (z : TableId) (c : Config) (own : Own) (txn : Option Attempting) (ask : Ask) → ask ≡ ask_of c.stage
     → IsAsk ask → Rides P z c own txn → IsOpen (life_of own.mine)
 ask_open P z c own txn ask asks is rides = asks_open ask (life_of own.mine) is (rw asks (rides_life P z c own txn rides (rw asks at is)))
 
+-- a thread that rides, asks something and has steps to spare may be settled
 pub may_sweep :
     (P : Bytecode) (t : TableView) (c : Config) (v : PassView) (txn : Option Attempting) (ask : Ask) → Rides P t.id c v.own txn → ask
     ≡ ask_of c.stage → IsAsk ask → 0 < v.spare → MaySettle t v
@@ -182,6 +190,7 @@ closed_stays : (es : List Entry) → life_from Closed es ≡ Closed
 closed_stays [] = refl
 closed_stays (e ∷ es) = closed_stays es
 
+-- after an entry that ends the list a life is closed
 over_closes : (life : Life) (e : Entry) → EndsList e → life_after life e ≡ Closed
 over_closes Unbegun (IsOverEntry e) is = refl
 over_closes Running (IsOverEntry e) is = refl
@@ -193,6 +202,7 @@ over_closes life (Plain x n k w v r) is = absurd is
 over_closes life (Abort tx why) is = absurd is
 over_closes life (Trim low) is = absurd is
 
+-- a list with an entry that ends it leaves the life closed
 closed_by : (life : Life) (es : List Entry) (i : ℕ) (e : Entry) → At es i e → EndsList e → life_from life es ≡ Closed
 closed_by life [] i e at is = absurd (cc)
 closed_by life (x ∷ es) zero e at is =
@@ -201,12 +211,14 @@ closed_by life (x ∷ es) zero e at is =
     ap (λ l. life_from l es) (over_closes life x (subst P (sym same) is)) ∙ closed_stays es
 closed_by life (x ∷ es) (suc i) e at is = closed_by (life_after life x) es i e at is
 
+-- an open life is not closed
 open_not_closed : (l : Life) → IsOpen l → l ≡ Closed → ⊥
 open_not_closed Unbegun goes is = cc
 open_not_closed Running goes is = cc
 open_not_closed Ended goes is = cc
 open_not_closed Closed goes is = elim goes [ inl e ↦ (cc) | inr e ↦ (cc) ]
 
+-- a thread that rides, asks something and is done is finished
 pub home_unforked :
     (P : Bytecode) (z : TableId) (c : Config) (v : PassView) (txn : Option Attempting) (ask : Ask) → Rides P z c v.own txn → ask
     ≡ ask_of c.stage → IsAsk ask →
@@ -232,12 +244,14 @@ over_stage P c e (Leaves ending o) orderly asks = cc
 over_stage P c e (Ends ending) orderly asks = cc
 over_stage P c e (IsOver ending) orderly asks = (let is : e ≡ ending = cc in ap IsOver (sym is))
 
+-- a thread that rides and asks to end its list has ended
 pub ends_over : (P : Bytecode) (z : TableId) (c : Config) (own : Own) (txn : Option Attempting) (e : Ending) → Rides P z c own txn → Over e
     ≡ ask_of c.stage → life_of own.mine ≡ Ended
 ends_over P z c own txn e rides asks =
     let is : c.stage ≡ IsOver e = over_stage P c e c.stage rides.orderly.stage asks in
     rides.life ∙ ap life_at is
 
+-- a thread that rides and ends its list is finished
 pub home_over :
     (P : Bytecode) (z : TableId) (c : Config) (own : Own) (v : PassView) (txn : Option Attempting) (e : Ending) → Rides P z c own txn →
     v.own ≡ record own { mine = own.mine ++ IsOverEntry e ∷ [] } → Over e ≡ ask_of c.stage → IsFinished P c.limit z v

@@ -28,6 +28,7 @@ use Rattle.gl_txn.specs.declared.taken.TakenRow.{TakenRow}
 abbrev first_state : Setting → State
 first_state setting = record (start setting) { threads = with_at (start setting).threads 0 Running }
 
+-- the log in which thread 0 has begun is allowed
 allows_begun : (setting : Setting) → Allows setting (begun setting) (first_state setting)
 allows_begun setting = (pos 0, first_state setting, record { may = refl; effect = refl }, refl)
 
@@ -62,9 +63,11 @@ fits_begun setting t q other knows = record {
 abbrev first_access : Access
 first_access = record { thread = 0; block = 0; variables = None }
 
+-- a begin is not an end
 begin_is_no_end : (f : ℕ) → Does (Begin f) ≡ Does End → ⊥
 begin_is_no_end f e = cc
 
+-- at the first state thread 0 owns no monitor
 owned_by_none : (setting : Setting) → AreLeastOwned (first_state setting) 0 []
 owned_by_none setting = record {
   rising = λ k less. absurd (omega arith);
@@ -73,6 +76,7 @@ owned_by_none setting = record {
   least = λ o owns. absurd (let e = owns.1 in cc);
 }
 
+-- the info of a first write stands in the log in which thread 0 has begun
 write_stands : (setting : Setting) (row : Row) (w : IsFirstWrite row) → InfoFor setting (begun setting) w.info first_access true
 write_stands setting row w = record {
   access = record {
@@ -93,6 +97,7 @@ write_stands setting row w = record {
   set = rw w.pos w.set;
 }
 
+-- the infos of a row with a first write stand in the log in which thread 0 has begun
 row_stands : (setting : Setting) (row : Row) → IsFirstWrite row → InfosStand setting (begun setting) row
 row_stands setting row w = record {
   last_write = λ i e. (
@@ -110,12 +115,15 @@ row_stands setting row w = record {
 tx_is_no_thread : Tx ≡ Thread 0 → ⊥
 tx_is_no_thread e = cc
 
+-- a variable is not a thread
 var_is_no_thread : (x : ℕ) → Var x ≡ Thread 0 → ⊥
 var_is_no_thread x e = cc
 
+-- an element that is thread 0 is a thread of id 0
 thread_is : (t : ℕ) → Thread t ≡ Thread 0 → t ≡ 0
 thread_is t e = cc
 
+-- an info at position 1 whose set is thread 0 alone fails the test of another thread's commit
 fails_at : (setting : Setting) (t : ℕ) (xs : List ℕ) (i : Info) → t ≢ 0 → i.pos ≡ 1
     → ((y : Element) → Has i.set y ↔ (y ≡ Thread 0)) → Fails (begun setting) i t (Some xs)
 fails_at setting t xs i other stands set ordered = elim at_one [
@@ -130,6 +138,7 @@ fails_at setting t xs i other stands set ordered = elim at_one [
         (Some xs)) stands
         ordered
 
+-- what is in a one-element list of rows is its row
 of_one : (r u : TakenRow) → Contains (r ∷ []) u → r ≡ u
 of_one r u (zero, l, e) = e
 of_one r u (suc k, l, e) = absurd (omega arith)
@@ -151,6 +160,7 @@ none_fails : (l : List Stamp) (row : Row) (q : _) → IsUntouched row → SomeFa
 none_fails l row q u (inl f) = let w = u.unwritten in let e = f.1 in cc
 none_fails l row q u (inr f) = let n = u.unread f.1.0 in let e = f.1.2 in cc
 
+-- the infos of an untouched row stand in any log
 untouched_stands : (setting : Setting) (l : List Stamp) (row : Row) → IsUntouched row → InfosStand setting l row
 untouched_stands setting l row u = record {
   last_write = λ i e. absurd (let w = u.unwritten in cc);

@@ -12,25 +12,30 @@ use Rattle.gl_txn.specs.Changing.{IsUnchanged, IsChangeOf, AreUnchangedIn, AreUn
 use Rattle.gl_txn.specs.declared.changing.Change.{Change}
 use Rattle.gl_txn.specs.declared.taken.TakenRow.{TakenRow}
 
+-- the row that a number gives below the length of the list is the row there
 pub at_item : (xs : List TakenRow) (i : ℕ) (r : TakenRow) → i < length xs → r ≡ get_or xs i r → slice_get xs i ≡ Some r
 at_item [] i r near e = absurd (omega arith)
 at_item (x ∷ xs) zero r near e = ap (λ (z : TakenRow). Some z) (sym e)
 at_item (x ∷ xs) (suc i) r near e = at_item xs i r (omega arith) e
 
+-- rows that are equal as options are equal
 some_one : (a b : TakenRow) → Some a ≡ Some b → a ≡ b
 some_one a b e = cc
 
+-- a change that is found where all before were unchanged is the first one
 pub first_here : (looks : List Look) (rows : List TakenRow) (i : ℕ) (r : TakenRow) (change : Option Change) → is_some change ≡ true
     → IsChangeOf looks r change → slice_get rows i ≡ Some r → AreUnchangedBefore i looks rows
     → MatchOption change (AreUnchangedIn looks rows) (IsFirstChange looks rows)
 first_here looks rows i r None some is there before = absurd (cc)
 first_here looks rows i r (Some c) some is there before = record { place = i; row = r; there = there; is = is; before = before }
 
+-- where no change is found, the row is unchanged
 no_change : (looks : List Look) (r : TakenRow) (change : Option Change) → is_some change ≡ false → IsChangeOf looks r change
     → IsUnchanged looks r
 no_change looks r None none is = is
 no_change looks r (Some c) none is = absurd (cc)
 
+-- rows that were unchanged up to a place are unchanged past it, if its row is
 pub unchanged_next : (looks : List Look) (rows : List TakenRow) (i : ℕ) (r : TakenRow) (change : Option Change) → is_some change ≡ false
     → IsChangeOf looks r change → slice_get rows i ≡ Some r → AreUnchangedBefore i looks rows → AreUnchangedBefore (i + 1) looks rows
 unchanged_next looks rows i r change none is there before k q near at = elim (cases_lt k i) [
@@ -40,6 +45,7 @@ unchanged_next looks rows i r change none is there before k q near at = elim (ca
       (no_change looks r change none is))
 ]
 
+-- rows that were unchanged up to the end are all unchanged
 pub unchanged_all : (looks : List Look) (rows : List TakenRow) (i : ℕ) → length rows ≤ i → AreUnchangedBefore i looks rows
     → AreUnchangedIn looks rows
 unchanged_all looks rows i past before k r at = before k r (let near = slice_get_within rows k r at in omega arith) at

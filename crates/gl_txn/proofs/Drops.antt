@@ -36,6 +36,7 @@ use Rattle.gl_txn.proofs.Numberings.{row_found, row_near, drawn_none}
 use Rattle.gl_txn.proofs.Sizes.{of_look}
 use Rattle.gl_model.proofs.PutParts.{found_part, all_right}
 
+-- a variable in a one-element list is that element
 one_only : (y x : ℕ) → is_in y (x ∷ []) ≡ true → y ≡ x
 one_only y x b = elim (ℕ_discrete y x) [
   | yes e ↦ e

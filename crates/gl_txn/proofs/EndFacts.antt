@@ -29,6 +29,7 @@ use Rattle.gl_txn.proofs.Finding.{found_held, found_mapped, changed, once_mapped
 use Rattle.gl_txn.proofs.Holdings.{row_among}
 use Rattle.gl_txn.proofs.LookSteps.{block_is}
 
+-- what is in two lists together is in the first or in the second
 in_either : {A : Type 0} (xs ys : List A) (x : A) → Contains (xs ++ ys) x → Contains xs x ⊎ Contains ys x
 in_either [] ys x c = inr c
 in_either (z ∷ xs) ys x (zero, l, e) = inl (0, omega arith, e)
@@ -41,15 +42,18 @@ ends_none [] y k value c = absurd (let l = c.1 in omega arith)
 ends_none (n ∷ ns) y k value (zero, l, e) = let z : None ≡ Some value = ap (λ (o : Drawn). o.look) e in cc
 ends_none (n ∷ ns) y k value (suc i, l, e) = ends_none ns y k value (i, omega arith, e)
 
+-- a number that has this variable and place is the number made of them
 number_is : (n : Number) (y k : ℕ) → n.var ≡ y → n.nth ≡ k → n ≡ record { var = y; nth = k }
 number_is n y k e f = ap (λ v. record n { var = v }) e ∙ ap (λ (m : ℕ). record { var = y; nth = m }) f
 
+-- an end without a look that is made of the numbers comes from one of them
 ends_from : (ns : List Number) (y k : ℕ) → Contains (map end_of ns) (record { var = y; nth = k; look = None })
     → Contains ns (record { var = y; nth = k })
 ends_from [] y k c = absurd (let l = c.1 in omega arith)
 ends_from (n ∷ ns) y k (zero, l, e) = (0, omega arith, number_is n y k (ap (λ (o : Drawn). o.var) e) (ap (λ (o : Drawn). o.nth) e))
 ends_from (n ∷ ns) y k (suc i, l, e) = let r = ends_from ns y k (i, omega arith, e) in (suc r.0, (let l = r.1 in omega arith), r.2)
 
+-- each number is made into its end
 ends_to : (ns : List Number) (n : Number) → Contains ns n → Contains (map end_of ns) (end_of n)
 ends_to [] n c = absurd (let l = c.1 in omega arith)
 ends_to (m ∷ ns) n (zero, l, e) = (0, omega arith, ap end_of e)
@@ -61,6 +65,7 @@ above_number x [] n all c = absurd (let l = c.1 in omega arith)
 above_number x (m ∷ ns) n all (zero, l, e) = subst (λ (k : Number). x < k.var) e all.0
 above_number x (m ∷ ns) n all (suc i, l, e) = above_number x ns n all.1 (i, omega arith, e)
 
+-- in rising numbers there is one for each variable
 number_once : (ns : List Number) → Rises (numbered ns) → (a b : Number) → Contains ns a → Contains ns b → a.var ≡ b.var → a.nth ≡ b.nth
 number_once [] r a b c d same = absurd (let l = c.1 in omega arith)
 number_once (n ∷ ns) r a b (zero, l, e) (zero, m, f) same = ap (λ (k : Number). k.nth) (sym e ∙ f)
@@ -70,6 +75,7 @@ number_once (n ∷ ns) r a b (suc i, l, e) (zero, m, f) same = let near = above_
     in let z = ap (λ (k : Number). k.var) f in absurd (omega arith)
 number_once (n ∷ ns) r a b (suc i, l, e) (suc j, m, f) same = number_once ns r.1 a b (i, omega arith, e) (j, omega arith, f) same
 
+-- held slots that are equal as options are equal
 some_held : (a b : Held) → Some a ≡ Some b → a ≡ b
 some_held a b e = cc
 

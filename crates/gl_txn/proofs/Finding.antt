@@ -6,6 +6,7 @@ use Rattle.gl_rule.specs.View.{Held, without}
 use Rattle.gl_table.specs.Putting.{held_at}
 use Rattle.gl_txn.specs.Holding.{found}
 
+-- what stands in two equal options is equal
 some_same : {A : Type 0} (a b : A) → Some a ≡ Some b → a ≡ b
 some_same a b e = cc
 
@@ -13,6 +14,7 @@ some_same a b e = cc
 pub found_here : (h : Held) (hs : List Held) (k : ℕ) → h.object ≡ k → found k (h ∷ hs) ≡ Some h
 found_here h hs k e = let b : (h.object == k) ≡ true = eq-eqb h.object k e in rw b refl
 
+-- looking for an object, a held slot of another object is passed over
 pub found_past : (h : Held) (hs : List Held) (k : ℕ) → h.object ≢ k → found k (h ∷ hs) ≡ found k hs
 found_past h hs k ne = let b : (h.object == k) ≡ false = ne_eqb h.object k ne in rw b refl
 
@@ -40,6 +42,7 @@ abbrev pub changed : (Held → Held) → Option Held → Option Held
 changed f None = None
 changed f (Some h) = Some (f h)
 
+-- a change that leaves objects is found changed where the slot was
 pub found_mapped : (f : Held → Held) → ((h : Held) → (f h).object ≡ h.object) → (k : ℕ) (held : List Held) → found k (map f held)
     ≡ changed f (found k held)
 found_mapped f same k [] = refl
@@ -53,9 +56,11 @@ found_mapped f same k (h ∷ hs) = elim (ℕ_discrete h.object k) [
 pub without_here : (h : Held) (hs : List Held) (j : ℕ) → h.object ≡ j → without j (h ∷ hs) ≡ without j hs
 without_here h hs j e = let b : (h.object == j) ≡ true = eq-eqb h.object j e in rw b refl
 
+-- taking out an object leaves a first slot that is of another
 pub without_past : (h : Held) (hs : List Held) (j : ℕ) → h.object ≢ j → without j (h ∷ hs) ≡ h ∷ without j hs
 without_past h hs j ne = let b : (h.object == j) ≡ false = ne_eqb h.object j ne in rw b refl
 
+-- an object that is taken out is not found
 pub found_gone : (j : ℕ) (held : List Held) → found j (without j held) ≡ None
 found_gone j [] = refl
 found_gone j (h ∷ hs) = elim (ℕ_discrete h.object j) [
@@ -63,6 +68,7 @@ found_gone j (h ∷ hs) = elim (ℕ_discrete h.object j) [
   | no ne ↦ ap (found j) (without_past h hs j ne) ∙ found_past h (without j hs) j ne ∙ found_gone j hs
 ]
 
+-- another object than the one taken out is found as before
 pub found_still : (j k : ℕ) (held : List Held) → k ≢ j → found k (without j held) ≡ found k held
 found_still j k [] ne = refl
 found_still j k (h ∷ hs) ne = elim (ℕ_discrete h.object j) [
@@ -77,10 +83,12 @@ found_still j k (h ∷ hs) ne = elim (ℕ_discrete h.object j) [
 abbrev pub IsOnce : List Held → Type 0
 IsOnce held = (h : Held) → Contains held h → found h.object held ≡ Some h
 
+-- what is in a list of held slots is its first or in the rest
 in_first : (h : Held) (hs : List Held) (g : Held) → Contains (h ∷ hs) g → (h ≡ g) ⊎ Contains hs g
 in_first h hs g (zero, l, e) = inl e
 in_first h hs g (suc k, l, e) = inr (k, omega arith, e)
 
+-- a list in which no object stands twice stays so with a slot of an object that is not in it
 pub once_more : (h : Held) (hs : List Held) → IsOnce hs → found h.object hs ≡ None → IsOnce (h ∷ hs)
 once_more h hs once none g c = elim (in_first h hs g c) [
   | inl e ↦ (let is : h.object ≡ g.object = ap (λ (u : Held). u.object) e in found_here h hs g.object is ∙ ap (λ (u : Held). Some u) e)
@@ -88,18 +96,21 @@ once_more h hs once none g c = elim (in_first h hs g c) [
       ∙ once g there
 ]
 
+-- what is in a changed list of slots is one of them, changed
 in_mapped_from : (f : Held → Held) (held : List Held) (g : Held) → Contains (map f held) g → (h : Held) × Contains held h × (f h ≡ g)
 in_mapped_from f [] g c = absurd (let l = c.1 in omega arith)
 in_mapped_from f (h ∷ hs) g (zero, l, e) = (h, (0, omega arith, refl), e)
 in_mapped_from f (h ∷ hs) g (suc k, l, e) = let r = in_mapped_from f hs g (k, omega arith, e) in let c = r.1
     in (r.0, (suc c.0, (let l = c.1 in omega arith), c.2), r.2)
 
+-- a change that leaves objects leaves each object standing once
 pub once_mapped : (f : Held → Held) → ((h : Held) → (f h).object ≡ h.object) → (held : List Held) → IsOnce held → IsOnce (map f held)
 once_mapped f same held once g c =
     let r = in_mapped_from f held g c in
     let is : g.object ≡ r.0.object = ap (λ (u : Held). u.object) (sym r.2) ∙ same r.0 in
     ap (λ k. found k (map f held)) is ∙ found_mapped f same r.0.object held ∙ ap (changed f) (once r.0 r.1) ∙ ap (λ (u : Held). Some u) r.2
 
+-- what is in a list without an object was in it and is of another object
 in_without_from : (j : ℕ) (held : List Held) (g : Held) → Contains (without j held) g → Contains held g × (g.object ≢ j)
 in_without_from j [] g c = absurd (let l = c.1 in omega arith)
 in_without_from j (h ∷ hs) g c = elim (ℕ_discrete h.object j) [
@@ -111,6 +122,7 @@ in_without_from j (h ∷ hs) g c = elim (ℕ_discrete h.object j) [
   ]
 ]
 
+-- taking out an object leaves each object standing once
 pub once_without : (j : ℕ) (held : List Held) → IsOnce held → IsOnce (without j held)
 once_without j held once g c = let r = in_without_from j held g c in found_still j g.object held r.1 ∙ once g r.0
 

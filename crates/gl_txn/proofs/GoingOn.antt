@@ -37,14 +37,17 @@ may_by z p q a b None (Some l) x v may r = may_same z p q a b may r.2 r.1
 may_by z p q a b None None x v may r =
     may_with z p q a b may (r.3 ∙ ap (λ (o : Own). record p.own { drawn = o.drawn }) (sym r.3)) r.2
 
+-- after a read a pass may go on with what the attempt became
 pub may_read : (z : TableView) (p q : PassView) (a b : Attempting) (x : ℕ) (v : ℤ) → MayTry z p a → IsRead x v a p.own b q.own
     → MayTry z q b
 may_read z p q a b x v may r = may_by z p q a b (written a x) (looked a x) x v may r
 
+-- a look, however it is made, leaves the steps to spare
 spare_by : (w : Option Pair) (l : Option Look) (x : ℕ) (v : ℤ) (p q : PassView) → LooksBy w l x v p q → q.spare ≡ p.spare
 spare_by (Some w) l x v p q r = ap (λ (u : PassView). u.spare) r
 spare_by None (Some l) x v p q r = ap (λ (u : PassView). u.spare) r
 spare_by None None x v p q r = ap (λ (u : PassView). u.spare) r.2
 
+-- a look in an attempt leaves the steps to spare
 pub same_spare : (a : Attempting) (x : ℕ) (v : ℤ) (p q : PassView) → HasLooked a x v p q → q.spare ≡ p.spare
 same_spare a x v p q r = spare_by (written a x) (looked a x) x v p q r

@@ -23,9 +23,11 @@ use Rattle.gl_txn.proofs.Finding.{found_here, found_past, found_held, found_gone
 pub row_here : (r : TakenRow) (rs : List TakenRow) (y : ℕ) → r.var ≡ y → row_at (r ∷ rs) y ≡ Some r
 row_here r rs y e = let b : (r.var == y) ≡ true = eq-eqb r.var y e in rw b refl
 
+-- looking for the row of y, a row of another variable is passed over
 pub row_past : (r : TakenRow) (rs : List TakenRow) (y : ℕ) → r.var ≢ y → row_at (r ∷ rs) y ≡ row_at rs y
 row_past r rs y ne = let b : (r.var == y) ≡ false = ne_eqb r.var y ne in rw b refl
 
+-- rows that are equal as options are equal
 some_row : (a b : TakenRow) → Some a ≡ Some b → a ≡ b
 some_row a b e = cc
 
@@ -48,6 +50,7 @@ row_none (q ∷ rs) y e (suc k, l, is) = elim (ℕ_discrete q.var y) [
   | no other ↦ row_none rs y (sym (row_past q rs y other) ∙ e) (k, omega arith, is)
 ]
 
+-- a variable that has no row has none
 pub row_absent : (rows : List TakenRow) (y : ℕ) → (Contains (vars_of rows) y → ⊥) → row_at rows y ≡ None
 row_absent [] y out = refl
 row_absent (q ∷ rs) y out = row_past q rs y (λ e. out (0, omega arith, e))
@@ -61,6 +64,7 @@ row_pushed (q ∷ rs) r y ne = elim (ℕ_discrete q.var y) [
   | no other ↦ row_past q (rs ++ r ∷ []) y other ∙ row_pushed rs r y ne ∙ sym (row_past q rs y other)
 ]
 
+-- the row of a variable that is put last is found there, if the variable had none
 pub row_last : (rows : List TakenRow) (r : TakenRow) (y : ℕ) → r.var ≡ y → (Contains (vars_of rows) y → ⊥) → row_at (rows ++ r ∷ []) y
     ≡ Some r
 row_last [] r y e out = row_here r [] y e
@@ -78,28 +82,34 @@ above_in x [] y all c = absurd (let l = c.1 in omega arith)
 above_in x (z ∷ xs) y all (zero, l, e) = subst (λ k. x < k) e all.0
 above_in x (z ∷ xs) y all (suc k, l, e) = above_in x xs y all.1 (k, omega arith, e)
 
+-- what is put last is in the list
 pub last_in : (xs : List ℕ) (y : ℕ) → Contains (xs ++ y ∷ []) y
 last_in [] y = (0, omega arith, refl)
 last_in (x ∷ xs) y = let r = last_in xs y in (suc r.0, (let l = r.1 in omega arith), r.2)
 
+-- the last of a rising list is not among those before it
 pub last_once : (xs : List ℕ) (y : ℕ) → Rises (xs ++ y ∷ []) → Contains xs y → ⊥
 last_once [] y r c = absurd (let l = c.1 in omega arith)
 last_once (x ∷ xs) y r (zero, l, e) = let near = above_in x (xs ++ y ∷ []) y r.0 (last_in xs y)
     in absurd (let same : x ≡ y = e in omega arith)
 last_once (x ∷ xs) y r (suc k, l, e) = last_once xs y r.1 (k, omega arith, e)
 
+-- what is true of all of a list with one put last is true of the list and of that one
 front_all : (P : ℕ → Type 0) (xs : List ℕ) (y : ℕ) → AllByRecursion P (xs ++ y ∷ []) → AllByRecursion P xs × P y
 front_all P [] y all = (tt, all.0)
 front_all P (x ∷ xs) y all = let r = front_all P xs y all.1 in ((all.0, r.0), r.1)
 
+-- a rising list rises without its last
 front_rises : (xs : List ℕ) (y : ℕ) → Rises (xs ++ y ∷ []) → Rises xs
 front_rises [] y r = tt
 front_rises (x ∷ xs) y r = ((front_all (λ z. x < z) xs y r.0).0, front_rises xs y r.1)
 
+-- a list with one put last is longer by one
 length_last : (xs : List ℕ) (y : ℕ) → length (xs ++ y ∷ []) ≡ suc (length xs)
 length_last [] y = refl
 length_last (x ∷ xs) y = ap suc (length_last xs y)
 
+-- a list of variables without its last is one, and its last is a variable
 pub front_are : (xs : List ℕ) (y : ℕ) → AreVariables (xs ++ y ∷ []) → AreVariables xs × (y < VARIABLES)
 front_are xs y a = let e = length_last xs y in let few = a.0 in let f = front_all (λ z. z < VARIABLES) xs y a.2
     in ((omega arith, front_rises xs y a.1, f.0), f.1)
@@ -172,6 +182,7 @@ drawn_stays : (setting : Setting) (x : ℕ) (row : Row) (drew : Option Draw)
 drawn_stays setting x row None unused l ds s = s
 drawn_stays setting x row (Some d) unused l ds s = let u = unused d refl in row_stays setting l x ds row s d u.0 u.1
 
+-- a row that is unused may be put back as it is
 pub may_put_unused : (setting : Setting) (s : Shelf) (v : View) (rows : List TakenRow) (r : TakenRow)
     → (u : AreUnused v.held (rows ++ r ∷ [])) → MayPutBack setting s v (suc r.var) (slot.Row r.row) false
 may_put_unused setting s v rows r u =
@@ -187,6 +198,7 @@ may_put_unused setting s v rows r u =
       quiet = λ e. absurd (cc);
     }
 
+-- the rows that are unused are so without the last
 pub unused_fewer : (held : List Held) (rows : List TakenRow) (r : TakenRow) → AreUnused held (rows ++ r ∷ [])
     → AreUnused (without (suc r.var) held) rows
 unused_fewer held rows r u = record {
@@ -196,9 +208,11 @@ unused_fewer held rows r u = record {
   unused = u.unused;
 }
 
+-- where the unused rows are none, nothing is held
 pub unused_none : (held : List Held) → AreUnused held [] → held ≡ []
 unused_none held u = held_none held u.tails u.drew u.holds
 
+-- the variable of the last unused row is one that there is
 pub last_near : (held : List Held) (rows : List TakenRow) (r : TakenRow) → AreUnused held (rows ++ r ∷ []) → r.var < VARIABLES
 last_near held rows r u = (front_are (vars_of rows) r.var (subst AreVariables (vars_pushed rows r) u.holds.are)).1
 
@@ -210,6 +224,7 @@ lacks_next held rows y a are h c e =
     ∙ ap (λ k. found k held) (sym e) ∙ a.once h c in
     absurd (cc)
 
+-- a pass that holds rows alone does not hold the list
 pub lacks_list : (held : List Held) (rows : List TakenRow) (tails : List ℕ) (drew : ℕ → Option Draw) → AreHeld held None rows tails drew
     → DoesNotHold held 0
 lacks_list held rows tails drew a h c e = let z : None ≡ Some h = sym (a.at 0) ∙ ap (λ k. found k held) (sym e) ∙ a.once h c in absurd (cc)

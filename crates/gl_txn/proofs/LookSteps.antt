@@ -23,6 +23,7 @@ use Rattle.gl_txn.proofs.Finding.{found_here, found_at, without_here}
 pub block_is : (es : List Entry) → life_of es ≡ Running → last_position es ≡ Some (block_of es)
 block_is es runs = let b = has_block es runs in b.1 ∙ ap (λ (o : Option ℕ). Some (or_zero o)) (sym b.1)
 
+-- something or false is that something
 pub or_no : (b : Bool) → (b || false) ≡ b
 or_no true = refl
 or_no false = refl
@@ -60,6 +61,7 @@ may_look p x row value word held owed few runs room q is = subst (λ (q : PassVi
 abbrev pub with_look_on : PassView → ℕ → Row → ℕ → ℤ → PassView
 with_look_on p x row n value = opened (with_row p x row) x n (Some value)
 
+-- a pass's held row as it is after a look
 abbrev pub looked_held : PassView → ℕ → Row → ℤ → Held
 looked_held p x row value = record (new_held (suc x) (slot.Row row)) { drew = Some (draw p.own.id (block_of p.own.mine) (Looked value)) }
 

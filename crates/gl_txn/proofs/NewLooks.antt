@@ -23,6 +23,7 @@ count_none x [] none = refl
 count_none x (o ∷ os) none = let b : (o.var == x) ≡ false = ne_eqb o.var x (none o (0, omega arith, refl))
     in rw b (count_none x os (λ q c. none q (suc c.0, (let l = c.1 in omega arith), c.2)))
 
+-- one draw more raises the count of its variable by one, and no other's
 count_push : (y : ℕ) (drawn : List Drawn) (o : Drawn) → count_on y (drawn ++ o ∷ []) ≡ count_on y drawn + (if o.var == y then 1 else 0)
 count_push y [] o = by_bool (o.var == y)
   where
@@ -37,12 +38,15 @@ count_push y (q ∷ drawn) o = by_bool (q.var == y) (count_push y drawn o)
     by_bool true e = omega arith
     by_bool false e = e
 
+-- draws that are equal have equal variables, numbers and looks
 drawn_same : (a b : Drawn) → a ≡ b → (a.var ≡ b.var) × (a.nth ≡ b.nth) × (a.look ≡ b.look)
 drawn_same a b e = (ap (λ (o : Drawn). o.var) e, ap (λ (o : Drawn). o.nth) e, ap (λ (o : Drawn). o.look) e)
 
+-- values that are equal as options are equal
 some_value : (a b : ℤ) → Some a ≡ Some b → a ≡ b
 some_value a b e = cc
 
+-- the variable of a look is among those of the looks
 key_of : (x : ℕ) (ls : List Look) (m : Look) → Contains ls m → m.var ≡ x → Contains (map of_look ls) x
 key_of x [] m c same = absurd (let n = c.1 in omega arith)
 key_of x (k ∷ ls) m (zero, n, is) same = (0, omega arith, ap of_look is ∙ same)
@@ -118,6 +122,7 @@ is_read x l a b p q no_write no_look at more draws small =
         (subst (λ (c : Attempting). Draws c (record p.own { drawn = p.own.drawn ++ drawn_of l ∷ [] })) (sym more)
         (draws_more a p.own draws l (ap (looked a) at.1 ∙ no_look)))
 
+-- a look at a variable that the attempt neither wrote nor looked at is a look of the attempt
 pub has_looked : (x : ℕ) (l : Look) (a : Attempting) (p q : PassView) → written a x ≡ None → looked a x ≡ None → IsLookAt x l p q
     → HasLooked a x l.value p q
 has_looked x l a p q no_write no_look at =

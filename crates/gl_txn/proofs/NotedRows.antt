@@ -37,6 +37,7 @@ use Rattle.gl_model.specs.Kept.{AreVariables}
 use Rattle.std.proofs.lemmas.List.Elements.{Contains-append_left, Contains-append_right}
 use Rattle.gl_txn.specs.declared.taken.TakenRow.{TakenRow}
 
+-- where no thread has a read, each has none
 none_at : (n k : ℕ) → read_of (replicate n None) k ≡ None
 none_at zero k = refl
 none_at (suc n) zero = refl
@@ -52,6 +53,7 @@ written_by x (w ∷ ws) v e = elim (ℕ_discrete x w.var) [
       in let r = written_by x ws v (rw a at e) in (rw b r.0, rw b r.1))
 ]
 
+-- a variable without a write is not among those that were written
 unwritten_by : (x : ℕ) (ws : List Pair) → write_in ws x ≡ None → is_in x (map (λ w. w.var) ws) ≡ false
 unwritten_by x [] e = refl
 unwritten_by x (w ∷ ws) e = elim (ℕ_discrete x w.var) [
@@ -131,6 +133,7 @@ module _ (p : PassView) (rows : List TakenRow) (base : Question) (at : ℕ) (c :
         (c.owned setting k owner f.own (subst (λ z. Allows setting z owner) whole allowed)));
   }) l fits
 
+-- infos that are equal as options are equal
 some_info : (i j : Info) → Some i ≡ Some j → i ≡ j
 some_info i j e = cc
 
@@ -223,6 +226,7 @@ module _ (setting : Setting) (p : PassView) (rows : List TakenRow) (base : Quest
     owned = c.owned;
   })
 
+-- a pass whose committed rows have all gone back is as before, with nothing held and other moves
 pub noted_all : (p q : PassView) (base : Question) (at : ℕ) → q ≡ record p { own = record p.own { held = q.own.held }; moves = q.moves }
     → AreCommitted q [] base at → q ≡ record p { own = record p.own { held = [] }; moves = q.moves }
 noted_all p q base at is c = is ∙ ap (λ (h : List Held). record p { own = record p.own { held = h }; moves = q.moves })

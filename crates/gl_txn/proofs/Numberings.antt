@@ -18,6 +18,7 @@ use Rattle.gl_txn.proofs.Holdings.{row_here, row_past, last_once, above_in, last
 use Rattle.gl_txn.proofs.TakeSteps.{take_are}
 use Rattle.gl_model.proofs.PutParts.{part_below}
 
+-- the variable of a number
 abbrev pub of_number : Number → ℕ
 of_number n = n.var
 
@@ -27,6 +28,7 @@ part_last n [] r = refl
 part_last n (m ∷ ns) r = part_below of_number n m ns (above_in m.var (numbered ns ++ n.var ∷ []) n.var r.0 (last_in (numbered ns) n.var))
     ∙ ap (λ (l : List Number). m ∷ l) (part_last n ns r.1)
 
+-- the variables of numbers with one put last are theirs and then its
 pub keys_last : (ns : List Number) (n : Number) → numbered (ns ++ n ∷ []) ≡ numbered ns ++ n.var ∷ []
 keys_last [] n = refl
 keys_last (k ∷ ns) n = ap (λ (l : List ℕ). k.var ∷ l) (keys_last ns n)
@@ -38,6 +40,7 @@ var_at [] i r e = absurd (cc)
 var_at (q ∷ rs) zero r e = (omega arith, (let same : q ≡ r = cc in ap (λ (z : TakenRow). z.var) same))
 var_at (q ∷ rs) (suc i) r e = let s = var_at rs i r e in ((let l = s.0 in omega arith), s.1)
 
+-- the variable of a row that is among the rows is among their variables
 pub in_vars : (rows : List TakenRow) (i : ℕ) (r : TakenRow) → slice_get rows i ≡ Some r → Contains (vars_of rows) r.var
 in_vars [] i r e = absurd (cc)
 in_vars (q ∷ rs) zero r e = (0, omega arith, (let same : q ≡ r = cc in ap (λ (z : TakenRow). z.var) same))
@@ -52,6 +55,7 @@ row_found (q ∷ rs) zero r rises e = let same : q ≡ r = cc in row_here q rs r
 row_found (q ∷ rs) (suc i) r rises e = let far = above_in q.var (vars_of rs) r.var rises.0 (in_vars rs i r e)
     in row_past q rs r.var (λ z. absurd (omega arith)) ∙ row_found rs i r rises.1 e
 
+-- a number in a list of variables is below the number of variables
 near_in : (xs : List ℕ) (i : ℕ) → AllByRecursion (λ x. x < VARIABLES) xs → i < length xs → get_or xs i 0 < VARIABLES
 near_in [] i all near = absurd (omega arith)
 near_in (x ∷ xs) zero all near = all.0
@@ -89,5 +93,6 @@ drawn_none p list rows tails a = record {
   above = λ y k m look c d. absurd (let l = d.1 in omega arith);
 }
 
+-- the variable of a row of a list of variables is below the number of variables
 pub row_near : (rows : List TakenRow) (i : ℕ) (r : TakenRow) → AreVariables (vars_of rows) → slice_get rows i ≡ Some r → r.var < VARIABLES
 row_near rows i r are there = let v = var_at rows i r there in subst (λ k. k < VARIABLES) v.1 (near_in (vars_of rows) i are.2 v.0)

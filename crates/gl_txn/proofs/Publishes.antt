@@ -53,10 +53,12 @@ use Rattle.gl_txn.proofs.LookSteps.{block_is, or_no}
 use Rattle.gl_txn.proofs.Published.{held_reached, held_published, may_store_commit}
 use Rattle.gl_txn.proofs.Refusals.{row_of, row_is}
 
+-- after publishing, what is held of the list is the new list
 taken_after : (n : ℕ) (y : Slot) (drew : Held → Option Draw) (h : Held) → h.object ≡ 0 → (after_publish n y drew h).taken ≡ y
 taken_after n y drew h e = ap (λ b. (if b then record h { taken = y; tails = suc n ∷ [] }
     else record h { tails = suc n ∷ h.tails; drew = drew h }).taken) (eq-eqb h.object 0 e)
 
+-- the read that is put last is in the list
 last_read : (xs : List Read) (x : Read) → Contains (xs ++ x ∷ []) x
 last_read [] x = (0, omega arith, refl)
 last_read (y ∷ xs) x = let r = last_read xs x in let near = r.1 in (suc r.0, omega arith, r.2)

@@ -39,10 +39,12 @@ is_written x (w ∷ ws) = elim (ℕ_discrete x w.var) [
       in rw (a, b) (is_written x ws))
 ]
 
+-- a log with its places has as many events as the log
 placed_long : (n : ℕ) (xs : List Stamp) → length (Rattle.gl_rows.specs.Walks.placed_from n xs) ≡ length xs
 placed_long n [] = refl
 placed_long n (x ∷ xs) = ap suc (placed_long (suc n) xs)
 
+-- what is known of a pass is known still after a row was walked
 pub knows_more : (row : _) (p q r : PassView) → KnowsOn p q → HasWalked row q r → KnowsOn p r
 knows_more row p q r k w =
     let new = Rattle.gl_rows.specs.Walks.placed_from w.from w.events in
@@ -74,6 +76,7 @@ abbrev pub Says : PassView → Row → Question → Verdict → Type 0
 Says s row q verdict = (setting : Setting) (l : List Stamp) → IsFitting setting (shelf_of s) s.seen s.known l → IsOfNext setting l q
     → judging.InfosStand setting l row → (verdict ≡ Race) ↔ SomeFails l row q
 
+-- a verdict on one row and question is one on an equal row and question
 pub says_same : (s : PassView) (a b : Row) (q u : Question) (verdict : Verdict) → a ≡ b → q ≡ u → Says s a q verdict → Says s b u verdict
 says_same s a b q u verdict e f says = subst (λ (u : Question). Says s b u verdict) f (subst (λ (b : Row). Says s b q verdict) e says)
 
@@ -147,6 +150,7 @@ module _ (p q : PassView) (rows : List TakenRow) (base : Question) (writes : Lis
       before = before_on before;
     }
 
+-- rows that are clear up to the end are all clear
 pub clear_all : (q : PassView) (base : Question) (writes : List Pair) (rows : List TakenRow) (i : ℕ) → length rows ≤ i
     → AreClearBefore i q base writes rows → AreClear q base writes rows
 clear_all q base writes rows i past before k r at = before k r (let near = slice_get_within rows k r at in omega arith) at

@@ -239,11 +239,13 @@ may_try_writes z p a b e m = record {
 
 -- ---- causes
 
+-- a row that stands at a place is in the list
 in_at : (rows : List TakenRow) (i : ℕ) (r : TakenRow) → slice_get rows i ≡ Some r → Contains rows r
 in_at [] i r e = absurd (cc)
 in_at (x ∷ xs) zero r e = (0, omega arith, (let same : x ≡ r = cc in same))
 in_at (x ∷ xs) (suc i) r e = let c = in_at xs i r e in (suc c.0, (let l = c.1 in omega arith), c.2)
 
+-- a row that is in the list stands at some place
 at_in : (rows : List TakenRow) (r : TakenRow) → Contains rows r → (k : ℕ) × (slice_get rows k ≡ Some r)
 at_in [] r c = absurd (let l = c.1 in omega arith)
 at_in (x ∷ xs) r (zero, l, e) = (0, ap (λ (z : TakenRow). Some z) e)
@@ -254,6 +256,7 @@ look_same : (a : Tx) (l : Look) (r : TakenRow) → Rises (map (λ l. l.var) a.lo
     → look_in a.looks r.var ≡ Some l
 look_same a l r rises c e = ap (look_in a.looks) e ∙ look_found a.looks rises l c
 
+-- rows that are unchanged by the looks of an attempt are unchanged in the attempt
 pub unchanged_all : (a : Tx) (rows : List TakenRow) → AreVariables (map (λ l. l.var) a.looks) → AreUnchangedIn a.looks rows
     → AreUnchanged (attempt_in a) rows
 unchanged_all a rows looks u l r c d e = let k = at_in rows r d in u k.0 r k.1 l (look_same a l r looks.1 c e)
@@ -384,6 +387,7 @@ pub cause_ok : {E : Type 0} (z : TableView) (r : Result TxEnd E) (P Q : TxEnd �
 cause_ok z (Ok e) P Q f h = f e h
 cause_ok z (Err w) P Q f h = tt
 
+-- a result that errs with one fact of the wait errs with what follows from it
 pub cause_err : {A B : Type 0} (z : TableView) (r : Result A (B × TxWait)) (P Q : TxWait → Type 0) → ((w : TxWait) → P w → Q w)
     → IfErr r (λ w. P w.1) → IfErr r (λ w. Q w.1)
 cause_err z (Ok e) P Q f h = tt

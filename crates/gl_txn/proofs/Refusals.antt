@@ -37,6 +37,7 @@ row_of (q ∷ rs) y b = elim (ℕ_discrete q.var y) [
       in (r.0, row_past q rs y ne ∙ r.1))
 ]
 
+-- rows that are equal as options are equal
 some_row : (a b : TakenRow) → Some a ≡ Some b → a ≡ b
 some_row a b e = cc
 
@@ -57,6 +58,7 @@ row_is rows rises r c b = some_row (row_of rows r.var b).0 r (sym (row_of rows r
         among (x ∷ xs) (zero, l, e) = (0, omega arith, ap (λ (z : TakenRow). z.var) e)
         among (x ∷ xs) (suc k, l, e) = let f = among xs (k, omega arith, e) in (suc f.0, (let l = f.1 in omega arith), f.2)
 
+-- a row that stands at a place is in the list
 in_place : (rows : List TakenRow) (i : ℕ) (r : TakenRow) → slice_get rows i ≡ Some r → Contains rows r
 in_place [] i r e = absurd (cc)
 in_place (x ∷ xs) zero r e = (0, omega arith, (let same : x ≡ r = cc in same))

@@ -9,9 +9,11 @@ use Rattle.gl_model.specs.Rising.{with_one, with_all, with_part}
 use Rattle.gl_txn.specs.Attempts.{Attempting, written, looked, is_in, is_in_by, size, variables_in, IsTooLarge}
 use Rattle.gl_model.proofs.PutParts.{keys_with, all_grow, all_one, one_all, all_left, all_right, all_from, found_among, not_found}
 
+-- the variable of a write
 abbrev pub of_write : Pair → ℕ
 of_write p = p.var
 
+-- the variable of a look
 abbrev pub of_look : Look → ℕ
 of_look p = p.var
 
@@ -22,9 +24,11 @@ in_by a x (Some w) l e f b = all_left (map of_write a.writes) (map of_look a.loo
 in_by a x None (Some l) e f b = all_right (map of_write a.writes) (map of_look a.looks) x (found_among of_look x a.looks l f)
 in_by a x None None e f b = absurd (cc)
 
+-- a variable that the attempt has is among the variables of its looks and writes
 pub is_variable : (a : Attempting) (x : ℕ) → is_in a x ≡ true → Contains (variables_in a.looks a.writes) x
 is_variable a x b = in_by a x (written a x) (looked a x) refl refl b
 
+-- a variable that is neither looked at nor written is not among them
 out_by : (a : Attempting) (x : ℕ) (w : Option Pair) (l : Option Look) → written a x ≡ w → looked a x ≡ l → is_in_by w l ≡ false
     → Contains (variables_in a.looks a.writes) x → ⊥
 out_by a x (Some w) l e f b c = absurd (cc)
@@ -32,6 +36,7 @@ out_by a x None (Some l) e f b c = absurd (cc)
 out_by a x None None e f b c = elim (all_from (map of_write a.writes) (map of_look a.looks) x c)
     [ inl w ↦ not_found of_write x a.writes e w | inr l ↦ not_found of_look x a.looks f l ]
 
+-- a variable that the attempt does not have is not among them
 pub is_no_variable : (a : Attempting) (x : ℕ) → is_in a x ≡ false → Contains (variables_in a.looks a.writes) x → ⊥
 is_no_variable a x b c = out_by a x (written a x) (looked a x) refl refl b c
 
@@ -60,6 +65,7 @@ pub write_variables : (looks : List Look) (writes : List Pair) (w : Pair) → wi
 write_variables looks writes w = sym (ap (λ l. with_all l (map of_look looks)) (keys_with of_write w writes)
     ∙ one_all w.var (map of_write writes) (map of_look looks))
 
+-- putting the variable of a look among them is having the look among the looks
 pub look_variables : (looks : List Look) (writes : List Pair) (l : Look) → with_one l.var (variables_in looks writes)
     ≡ variables_in (with_part of_look l looks) writes
 look_variables looks writes l = sym (ap (with_all (map of_write writes)) (keys_with of_look l looks)
@@ -80,15 +86,18 @@ look_fits a x out all looked is are most not_full =
     let e = ap length are in
     (omega arith, small)
 
+-- after a write the variables are as before with its variable put among them
 pub written_all : (looks : List Look) (writes new : List Pair) (w : Pair) → new ≡ with_part of_write w writes
     → with_one w.var (variables_in looks writes) ≡ variables_in looks new
 written_all looks writes new w is = write_variables looks writes w ∙ ap (variables_in looks) (sym is)
 
+-- after a look the variables are as before with its variable put among them
 pub looked_all : (x : ℕ) (looks new : List Look) (writes : List Pair) (l : Look) → new ≡ with_part of_look l looks → l.var ≡ x
     → with_one x (variables_in looks writes) ≡ variables_in new writes
 looked_all x looks new writes l is at = ap (λ y. with_one y (variables_in looks writes)) (sym at) ∙ look_variables looks writes l
     ∙ ap (λ ls. variables_in ls writes) (sym is)
 
+-- after a look the variables of the looks are as before with its variable put among them
 pub looked_keys : (x : ℕ) (looks new : List Look) (l : Look) → new ≡ with_part of_look l looks → l.var ≡ x → with_one x (map of_look looks)
     ≡ map of_look new
 looked_keys x looks new l is at = ap (λ y. with_one y (map of_look looks)) (sym at) ∙ sym (keys_with of_look l looks)

@@ -19,6 +19,7 @@ use Rattle.gl_txn.proofs.LookSteps.{or_no}
 pub put_held : (p q : PassView) (x : ℕ) → q ≡ after p (left (view_of p) (suc x) false) → q.own.held ≡ without (suc x) p.own.held
 put_held p q x is = ap (λ (r : PassView). r.own.held) is
 
+-- after a slot is put back a pass differs only in what is held and in its moves
 pub put_is : (p q : PassView) (x : ℕ) → q ≡ after p (left (view_of p) (suc x) false) → q
     ≡ record p { own = record p.own { held = q.own.held }; moves = q.moves }
 put_is p q x is =
@@ -35,10 +36,12 @@ put_is p q x is =
     ∙ ap (λ b. record p { own = record p.own { held = l }; quiet = b; moves = q.moves }) (or_no p.quiet)
     ∙ ap (λ (h : List Held). record p { own = record p.own { held = h }; moves = q.moves }) (sym (put_held p q x is))
 
+-- after all unused rows are put back a pass holds nothing and has moved
 pub puts_all : (p q : PassView) → q ≡ record p { own = record p.own { held = q.own.held }; moves = q.moves } → AreUnused q.own.held [] → q
     ≡ record p { own = record p.own { held = [] }; moves = q.moves }
 puts_all p q a u = a ∙ ap (λ (h : List Held). record p { own = record p.own { held = h }; moves = q.moves }) (unused_none q.own.held u)
 
+-- the takings of rows with one more are those of the rows and that one's
 takes_pushed : (rows : List TakenRow) (r : TakenRow) → takes (rows ++ r ∷ []) ≡ takes rows ++ Taken (suc r.var) (slot.Row r.row) ∷ []
 takes_pushed [] r = refl
 takes_pushed (q ∷ rs) r = ap (λ (l : List Read). Taken (suc q.var) (slot.Row q.row) ∷ l) (takes_pushed rs r)
@@ -113,6 +116,7 @@ take_are ids i a near = subst AreVariables (take_more ids i 0 near) (
   All-take (λ x. x < Rattle.gl_model.specs.declared.limits.TheConstants.VARIABLES) (i + 1) ids a.2,
 )
 
+-- a list of length zero is empty
 pub empty_of : {A : Type 0} (xs : List A) → length xs ≡ 0 → xs ≡ []
 empty_of [] e = refl
 empty_of (x ∷ xs) e = absurd (omega arith)
