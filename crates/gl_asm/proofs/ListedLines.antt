@@ -10,10 +10,12 @@ use Rattle.gl_text.specs.Text.{is_bad, is_bad_byte, is_blank, is_hash, is_line_f
 
 -- ## All bytes of a text
 
+-- what holds of all elements can be weakened for all of them
 pub all_map : {A : Type 0} (P Q : A → Type 0) (xs : List A) → ((x : A) → P x → Q x) → AllByRecursion P xs → AllByRecursion Q xs
 all_map P Q [] to all = tt
 all_map P Q (x ∷ xs) to all = (to x all.0, all_map P Q xs to all.1)
 
+-- what holds of all elements of two lists holds of all of them together
 pub all_append : {A : Type 0} (P : A → Type 0) (xs ys : List A) → AllByRecursion P xs → AllByRecursion P ys → AllByRecursion P (xs ++ ys)
 all_append P [] ys front back = back
 all_append P (x ∷ xs) ys front back = (front.0, all_append P xs ys front.1 back)
@@ -24,6 +26,7 @@ all_append P (x ∷ xs) ys front back = (front.0, all_append P xs ys front.1 bac
 abbrev pub IsPlainByte : ℕ → Type 0
 IsPlainByte b = (32 ≤ b) × (b ≤ 126)
 
+-- a line of nothing but bytes that can be printed
 abbrev pub IsPlain : List ℕ → Type 0
 IsPlain line = AllByRecursion IsPlainByte line
 
@@ -31,23 +34,28 @@ IsPlain line = AllByRecursion IsPlainByte line
 abbrev pub ended : List ℕ → List ℕ
 ended line = line ++ codes "\n"
 
+-- a byte that can be printed is no line feed
 no_feed : (b : ℕ) → IsPlainByte b → is_line_feed b ≡ false
 no_feed b is = ne_eqb b 10 (λ e. omega arith)
 
+-- a plain line has no carriage return at any place
 no_return : (line : List ℕ) (i : ℕ) → IsPlain line → get_or line i 0 ≢ 13
 no_return [] i plain e = omega arith
 no_return (b ∷ bs) zero plain e = omega (arith, plain.0)
 no_return (b ∷ bs) (suc i) plain e = no_return bs i plain.1 e
 
+-- a plain line has no carriage return to lose at its end
 kept : (line : List ℕ) → IsPlain line → strip_carriage_return line ≡ line
 kept line plain =
     cond-false (eqb (get_or line (length line - 1) 0) 13) (take (length line - 1) line) line
     (ne_eqb _ 13 (no_return line (length line - 1) plain))
 
+-- where something follows the first part of a text, that part is a line, and the others make the other lines
 first_of_parts : (x : List ℕ) (ps : List (List ℕ)) → 0 < length ps → lines_of_parts (x ∷ ps) ≡ strip_carriage_return x ∷ lines_of_parts ps
 first_of_parts x [] some = absurd (omega arith)
 first_of_parts x (y ∷ ys) some = refl
 
+-- a plain line that is ended by a line feed is the first line of the text
 line_ended : (line rest : List ℕ) → IsPlain line → lines (ended line ++ rest) ≡ line ∷ lines rest
 line_ended line rest plain =
     ap lines (append_assoc line (codes "\n") rest)
@@ -61,9 +69,11 @@ pub lines_of_ended : (ls : List (List ℕ)) → AllByRecursion IsPlain ls → li
 lines_of_ended [] plain = refl
 lines_of_ended (line ∷ rest) plain = line_ended line (flat_map ended rest) plain.0 ∙ ap (λ l. line ∷ l) (lines_of_ended rest plain.1)
 
+-- a byte that can be printed is no bad byte
 good : (b : ℕ) → IsPlainByte b → is_bad_byte b ≡ false
 good b is = not_from_true _ (rw (le-leb 32 b is.0, le-leb b 126 is.1, ne_eqb b 9 (λ e. omega (arith, is))) refl)
 
+-- a plain line has no bad byte
 pub not_bad : (line : List ℕ) → IsPlain line → is_bad line ≡ false
 not_bad [] plain = refl
 not_bad (b ∷ bs) plain = or_from _ _ (good b plain.0) (not_bad bs plain.1)
@@ -74,9 +84,11 @@ not_bad (b ∷ bs) plain = or_from _ _ (good b plain.0) (not_bad bs plain.1)
 abbrev pub IsWordByte : ℕ → Type 0
 IsWordByte b = (33 ≤ b) × (b ≤ 126) × (b ≢ 35)
 
+-- a word: not empty, and without blanks and the sign that starts a comment
 abbrev pub IsWord : List ℕ → Type 0
 IsWord w = (0 < length w) × AllByRecursion IsWordByte w
 
+-- all of these are words
 abbrev pub AreWords : List (List ℕ) → Type 0
 AreWords ws = AllByRecursion IsWord ws
 
@@ -86,6 +98,7 @@ spaced [] = []
 spaced (w ∷ []) = w
 spaced (w ∷ v ∷ ws) = w ++ (codes " " ++ spaced (v ∷ ws))
 
+-- the line of these words, two blanks in
 abbrev pub indented : List (List ℕ) → List ℕ
 indented ws = codes "  " ++ spaced ws
 
@@ -93,24 +106,30 @@ indented ws = codes "  " ++ spaced ws
 abbrev IsLineByte : ℕ → Type 0
 IsLineByte b = (32 ≤ b) × (b ≤ 126) × (b ≢ 35)
 
+-- a blank may stand in a line of words
 blank_too : IsLineByte 32
 blank_too = (omega arith, omega arith, λ e. omega arith)
 
+-- each byte of a word may stand in a line of words
 of_word : (w : List ℕ) → IsWord w → AllByRecursion IsLineByte w
 of_word w is = all_map IsWordByte IsLineByte w (λ b h. (omega (arith, h.0), h.1, h.2)) is.1
 
+-- each byte of words with blanks between may stand in a line of words
 of_words : (ws : List (List ℕ)) → AreWords ws → AllByRecursion IsLineByte (spaced ws)
 of_words [] are = tt
 of_words (w ∷ []) are = of_word w are.0
 of_words (w ∷ v ∷ ws) are =
     all_append IsLineByte w (codes " " ++ spaced (v ∷ ws)) (of_word w are.0) (blank_too, of_words (v ∷ ws) are.1)
 
+-- a line of such bytes is plain
 plain_line : (line : List ℕ) → AllByRecursion IsLineByte line → IsPlain line
 plain_line line all = all_map IsLineByte IsPlainByte line (λ b h. (h.0, h.1)) all
 
+-- words with blanks between make a plain line
 pub plain_spaced : (ws : List (List ℕ)) → AreWords ws → IsPlain (spaced ws)
 plain_spaced ws are = plain_line (spaced ws) (of_words ws are)
 
+-- words with blanks between and before them make a plain line
 pub plain_indented : (ws : List (List ℕ)) → AreWords ws → IsPlain (indented ws)
 plain_indented ws are = plain_line (indented ws) (blank_too, (blank_too, of_words ws are))
 
@@ -122,35 +141,43 @@ before_none p (x ∷ xs) all =
     let more : position_or_len p (x ∷ xs) ≡ 1 + position_or_len p xs = rw e refl in
     omega (arith, more, before_none p xs all.1)
 
+-- in a line without the sign that starts a comment all parts are words
 no_hash : (line : List ℕ) → AllByRecursion IsLineByte line → words line ≡ parts line
 no_hash line all =
     ap parts (take_all (position_or_len is_hash line) line
     (before_none is_hash line (all_map IsLineByte _ line (λ b h. ne_eqb b 35 h.2) all)))
 
+-- a byte of a word is no blank
 no_blank : (b : ℕ) → IsWordByte b → is_blank b ≡ false
 no_blank b is = or_from _ _ (ne_eqb b 32 (λ e. omega (arith, is.0))) (ne_eqb b 9 (λ e. omega (arith, is.0)))
 
+-- a part that is not empty stays when the empty ones are dropped
 front_word : (w : List ℕ) (ws : List (List ℕ)) → 0 < length w → filter is_some_word (w ∷ ws) ≡ w ∷ filter is_some_word ws
 front_word [] ws some = absurd (omega arith)
 front_word (b ∷ bs) ws some = refl
 
+-- a word, a blank and a rest have the word as their first part, and then the parts of the rest
 word_then : (w rest : List ℕ) → IsWord w → parts (w ++ (codes " " ++ rest)) ≡ w ∷ parts rest
 word_then w rest is =
     ap (filter is_some_word) (slice_split_at is_blank w 32 rest (All-from_recursion _ w (all_map IsWordByte _ w no_blank is.1)) refl)
     ∙ front_word w (slice_split is_blank rest) is.0
 
+-- a word alone is its own one part
 word_alone : (w : List ℕ) → IsWord w → parts w ≡ w ∷ []
 word_alone w is =
     ap (filter is_some_word) (slice_split_none is_blank w (All-from_recursion _ w (all_map IsWordByte _ w no_blank is.1)))
     ∙ front_word w [] is.0
 
+-- the parts of words with blanks between are those words
 parts_spaced : (ws : List (List ℕ)) → AreWords ws → parts (spaced ws) ≡ ws
 parts_spaced [] are = refl
 parts_spaced (w ∷ []) are = word_alone w are.0
 parts_spaced (w ∷ v ∷ ws) are = word_then w (spaced (v ∷ ws)) are.0 ∙ ap (λ l. w ∷ l) (parts_spaced (v ∷ ws) are.1)
 
+-- words that are written with blanks between are read back
 pub words_spaced : (ws : List (List ℕ)) → AreWords ws → words (spaced ws) ≡ ws
 words_spaced ws are = no_hash (spaced ws) (of_words ws are) ∙ parts_spaced ws are
 
+-- words that are written with blanks between and before them are read back
 pub words_indented : (ws : List (List ℕ)) → AreWords ws → words (indented ws) ≡ ws
 words_indented ws are = no_hash (indented ws) (blank_too, (blank_too, of_words ws are)) ∙ parts_spaced ws are

@@ -35,12 +35,15 @@ use Rattle.gl_asm.proofs.ListedTable.{AreFree, Stands, counts, definition, found
 use Rattle.gl_asm.proofs.ListedSayings.{Known, said_catch, said_class, said_header, said_instr, said_label}
 use Rattle.gl_asm.proofs.ListedWords.{Fits, catch_are_words, catch_form, catch_words, class_are_words, class_form, class_words, header_are_words, header_form, header_words, instr_are_words, instr_form, instr_words, label_are_words, label_form, label_words, template_for}
 
+-- what is less passes the test for less
 below : (a b : ℕ) → a < b → nat_lt a b ≡ true
 below a b less = grind (arith, nat_tests)
 
+-- where a function more is counted, there is one
 some_function : (g : ℕ) → (g + 1 == 0) ≡ false
 some_function g = grind (arith, nat_tests)
 
+-- how far a reader has come may be said with equal counts, labels and drafts
 moved : {M : Type 0} {T : List Definition} {whole : Result (Draft × List ℤ) LineFault} {main : ℕ} {left : List (List ℕ)}
     (c k : Counts) (label next : ℕ) (D E : Draft) → c ≡ k → label ≡ next → D ≡ E → Stands M T whole main c label left D
     → Stands M T whole main k next left E
@@ -172,12 +175,15 @@ module _ {M : Type 0} {T : List Definition} {whole : Result (Draft × List ℤ) 
 
 -- ## Drafts
 
+-- the draft of classes alone, with this main
 abbrev pub classes_draft : List Fields → Option ℕ → Draft
 classes_draft Cs m = record { classes = Cs; functions = []; main = m }
 
+-- the draft whose last function is this one, after these others
 abbrev pub draft_with : List Fields → List Function → Function → Option ℕ → Draft
 draft_with Cs Fs F m = record { classes = Cs; functions = Fs ++ F ∷ []; main = m }
 
+-- a change of the last function changes the one that was put at the end
 last_changed : (change : Function → Function) (Fs : List Function) (F : Function) → with_last change (Fs ++ F ∷ []) ≡ Fs ++ change F ∷ []
 last_changed change [] F = refl
 last_changed change (G ∷ []) F = refl
@@ -185,9 +191,11 @@ last_changed change (G ∷ H ∷ Fs) F = ap (λ l. G ∷ l) (last_changed change
 
 -- ## Classes
 
+-- a class with no more fields than a class may have
 abbrev pub IsShortClass : Fields → Type 0
 IsShortClass fields = (fields.plain ≤ VARIABLES) × (fields.volatile ≤ VOLATILES)
 
+-- a reader that goes through the rows of classes has added them all, and each class's name means its number
 pub walk_classes : {M : Type 0} {T : List Definition} {whole : Result (Draft × List ℤ) LineFault} {main : ℕ} (Cs : List Fields) (n end : ℕ)
     (done all : List Fields) (m : Option ℕ) (rest : List (List ℕ))
     → end ≡ n + length Cs → end ≤ CLASSES → all ≡ done ++ Cs → AllByRecursion IsShortClass Cs
@@ -228,6 +236,7 @@ pub record IsSayable (P : Bytecode) (F : Function) (i : Instr) : Type 0 where
   pub fits : Fits (operand_of i)
   pub there : IsThere P F (operand_of i)
 
+-- a place of a function, or its end, that a jump or a catch names
 abbrev pub IsLabel : Function → ℕ → Type 0
 IsLabel F at = (at ≤ length F.code) × (names_of F at ≡ true)
 
@@ -253,6 +262,7 @@ Meant P T = ((k : ℕ) → k < length P.classes → meaning_of T Classes (class_
 abbrev pub Labelled : List Definition → ℕ → Function → Type 0
 Labelled T g F = (p : ℕ) → IsLabel F p → meaning_of T (Labels g) (label_name p) ≡ Ok p
 
+-- the name that an operand needs is known, where classes, functions and labels have their meanings
 knows : (P : Bytecode) (F : Function) (T : List Definition) (n g p k : ℕ) (o : Operand) → IsThere P F o → Meant P T → Labelled T g F
     → Known T (counts n g p k) P.main o
 knows P F T n g p k Nothing there meant labels = tt
@@ -266,6 +276,7 @@ knows P F T n g p k (Class c) there meant labels = meant.0 c there
 
 -- ## One function
 
+-- a function of which so many instructions and catches are read
 abbrev pub part : Function → List Instr → List Catch → Function
 part F code catches = record { args = F.args; locals = F.locals; code = code; catches = catches }
 
@@ -335,6 +346,7 @@ weaker : {M N : Type 0} {T : List Definition} {whole : Result (Draft × List ℤ
     → (N → M) → Stands M T whole main c label left D → Stands N T whole main c label left D
 weaker so s = record { before = s.before; line = s.line; table = s.table; going = λ n. s.going (so n); free = s.free }
 
+-- a reader that goes through a function's rows has added the whole function, and its name means its number
 walk_function : (P : Bytecode) (F : Function) (T : List Definition) (whole : Result (Draft × List ℤ) LineFault) (Cs : List Fields)
     (Fs : List Function) (m : Option ℕ)
     (n f p k label : ℕ) (rest : List (List ℕ)) → f < FUNCTIONS → IsListable P F
@@ -364,6 +376,7 @@ walk_function P F T whole Cs Fs m n f p k label rest room listable s =
 
 -- ## All functions
 
+-- a reader that goes through the rows of all functions has read the whole text, and each function's name means its number
 pub walk_functions : (P : Bytecode) (T : List Definition) (whole : Result (Draft × List ℤ) LineFault) (Cs : List Fields) (m : Option ℕ)
     (Gs : List Function) (n f end p k label : ℕ) (done all : List Function) → end ≡ f + length Gs → end ≤ FUNCTIONS → all ≡ done ++ Gs
     → AllByRecursion (IsListable P) Gs
