@@ -8,10 +8,12 @@ use Rattle.gl_bytecode.specs.declared.instr.Instr.TheVariants.{Push, Pop, Dup, S
 use Rattle.gl_bytecode.specs.Faults.{IsFirstIn, IsFirstOfFunctions, IsKind, catch_fault, fault_at, has_args, instr_fault, unless}
 use Rattle.gl_bytecode.specs.Programs.{Bytecode, Function, function_at}
 
+-- a fault unless a test holds is of the kind it is given
 of_unless : (b : Bool) (kind : ℕ) → IsKind kind → IfSome (unless b kind) IsKind
 of_unless true kind is = tt
 of_unless false kind is = is
 
+-- a fault of an instruction is of one of the kinds
 of_instr : (P : Bytecode) (F : Function) (i : Instr) → IfSome (instr_fault P F i) IsKind
 of_instr P F (Push n) = tt
 of_instr P F Pop = tt
@@ -56,10 +58,12 @@ of_instr P F Commit = tt
 of_instr P F Print = tt
 of_instr P F Input = tt
 
+-- a fault of something that is there or not is of one of the kinds, where that of each thing is
 of_option : {X : Type 0} (f : X → Option ℕ) (o : Option X) → ((x : X) → IfSome (f x) IsKind) → IfSome (option_and_then f o) IsKind
 of_option f None all = tt
 of_option f (Some x) all = all x
 
+-- a fault at a place of a function is of one of the kinds
 of_place : (P : Bytecode) (F : Function) (at : ℕ) → IfSome (fault_at P F at) IsKind
 of_place P F at = by_test (nat_lt at (length F.code)) where
   by_test :
@@ -74,14 +78,17 @@ of_place P F at = by_test (nat_lt at (length F.code)) where
       (λ c. of_unless (nat_lt c.target (length F.code) && nat_le c.from c.to && nat_le c.to (length F.code)) BAD_JUMP
       (omega arith, omega arith))
 
+-- what holds of a fault that there may be holds of the one that there is
 of_some : (o : Option ℕ) (kind : ℕ) → o ≡ Some kind → IfSome o IsKind → IsKind kind
 of_some None kind e is = cc
 of_some (Some k) kind e is = (let same : k ≡ kind = cc in rw (sym same) is)
 
+-- the first fault of a function is of one of the kinds
 of_function : (P : Bytecode) (F : Function) (kind at : ℕ) → IsFirstIn P F kind at → IsKind kind
 of_function P F kind at (inl x) = of_some (fault_at P F at) kind x.wrong (of_place P F at)
 of_function P F kind at (inr (inl x)) = rw x.kind_is (omega arith, omega arith)
 of_function P F kind at (inr (inr x)) = rw x.kind_is (omega arith, omega arith)
 
+-- the first fault of the functions is of one of the kinds
 pub of_functions : (P : Bytecode) (x : ProgFault) → IsFirstOfFunctions P x → IsKind x.kind
 of_functions P x r = of_function P r.function x.kind x.at r.first

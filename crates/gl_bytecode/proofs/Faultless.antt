@@ -19,46 +19,56 @@ use Rattle.gl_bytecode.specs.Validity.{Depths, Goes, IsValid, NamesWhatIs}
 
 -- ## Tests
 
+-- where not one of two holds, neither does
 neither : (a b : Bool) → (a || b) ≡ false → (a ≡ false) × (b ≡ false)
 neither true b is = cc
 neither false b is = (refl, is)
 
+-- where two hold, each does
 both : (a b : Bool) → (a && b) ≡ true → (a ≡ true) × (b ≡ true)
 both true b is = (refl, is)
 both false b is = cc
 
+-- where a test is the only guard against a fault and there is none, it holds
 pub holds : (b : Bool) (kind : ℕ) → unless b kind ≡ None → b ≡ true
 holds true kind is = refl
 holds false kind is = cc
 
+-- what passes the test for less is less
 less : (a b : ℕ) → nat_lt a b ≡ true → a < b
 less a b is = grind (arith, nat_tests)
 
+-- what does not pass the test for less is at least as great
 not_more : (a b : ℕ) → nat_lt a b ≡ false → b ≤ a
 not_more a b is = grind (arith, nat_tests)
 
 -- ## Lists
 
+-- where no element of a list passes a test, the one at a place does not
 none_at : {X : Type 0} (p : X → Bool) (xs : List X) (k : ℕ) (x : X) → list_any p xs ≡ false → slice_get xs k ≡ Some x → p x ≡ false
 none_at p [] k x none is = cc
 none_at p (y ∷ xs) zero x none is = (let same : y ≡ x = cc in rw (sym same) (neither (p y) (list_any p xs) none).0)
 none_at p (y ∷ xs) (suc k) x none is = none_at p xs k x (neither (p y) (list_any p xs) none).1 is
 
+-- what one element counts for is at most what all of them do
 at_most_sum : {X : Type 0} (f : X → ℕ) (xs : List X) (k : ℕ) (x : X) → slice_get xs k ≡ Some x → f x ≤ sum_by f xs
 at_most_sum f [] k x is = cc
 at_most_sum f (y ∷ xs) zero x is =
     (let same : y ≡ x = cc in let sum = sum_by-cons f y xs in let same' : f y ≡ f x = ap f same in omega arith)
 at_most_sum f (y ∷ xs) (suc k) x is = (let sum = sum_by-cons f y xs in let more = at_most_sum f xs k x is in omega arith)
 
+-- what holds of the element at each place holds of all elements
 pub all_from : {X : Type 0} (Q : X → Type 0) (xs : List X) → ((k : ℕ) (x : X) → slice_get xs k ≡ Some x → Q x) → AllByRecursion Q xs
 all_from Q [] each = tt
 all_from Q (x ∷ xs) each = (each 0 x refl, all_from Q xs (λ k y is. each (suc k) y is))
 
+-- what follows from two facts about each element follows for all elements of which both hold
 pub all_with : {X : Type 0} (Q R S : X → Type 0) (xs : List X) → ((x : X) → Q x → R x → S x) → AllByRecursion Q xs → AllByRecursion R xs
     → AllByRecursion S xs
 all_with Q R S [] join q r = tt
 all_with Q R S (x ∷ xs) join q r = (join x q.0 r.0, all_with Q R S xs join q.1 r.1)
 
+-- below a list's length there is an element
 there_below : {X : Type 0} (xs : List X) (k : ℕ) → k < length xs → (x : X) × (slice_get xs k ≡ Some x)
 there_below [] k less = absurd (omega arith)
 there_below (x ∷ xs) zero less = (x, refl)
@@ -66,6 +76,7 @@ there_below (x ∷ xs) (suc k) less = there_below xs k (omega arith)
 
 -- ## What is named
 
+-- an instruction without a fault names what is there
 pub names_right : (P : Bytecode) (F : Function) (i : Instr) → instr_fault P F i ≡ None → NamesWhatIs P F i
 names_right P F (Load k) none = less k F.locals (holds (nat_lt k F.locals) _ none)
 names_right P F (Store k) none = less k F.locals (holds (nat_lt k F.locals) _ none)
@@ -85,6 +96,7 @@ TargetIsThere F Next = Unit {0}
 TargetIsThere F (Always to) = to < length F.code
 TargetIsThere F (Either to) = to < length F.code
 
+-- where an instruction without a fault jumps to is in the code
 target_there : (P : Bytecode) (F : Function) (i : Instr) → instr_fault P F i ≡ None → TargetIsThere F (flow i)
 target_there P F (Jump to) none = less to (length F.code) (holds (nat_lt to (length F.code)) _ none)
 target_there P F (Jz to) none = less to (length F.code) (holds (nat_lt to (length F.code)) _ none)
@@ -105,6 +117,7 @@ next_there F at i is ended goes_on = by_test (nat_lt (at + 1) (length F.code)) r
       let falls : falls_off F ≡ true = rw (last, is, goes_on) refl in
       cc
 
+-- all places that an instruction leads to are in the code, where its target is and what follows it if it goes on
 successors_there :
     (F : Function) (at : ℕ) (fl : Flow) → TargetIsThere F fl → (is_closed fl ≡ false → at + 1 < length F.code) →
     AllByRecursion (λ to. to < length F.code) (places_after fl at)
@@ -119,6 +132,7 @@ successors_there F at (Either to) target next = (target, (next refl, tt))
 abbrev pub IsNamed : Bytecode → Function → Type 0
 IsNamed P F = (at : ℕ) → fault_at P F at ≡ None
 
+-- where a function's names are right, none of its instructions has a fault
 pub instr_right : (P : Bytecode) (F : Function) → IsNamed P F → (at : ℕ) (i : Instr) → slice_get F.code at ≡ Some i → instr_fault P F i
     ≡ None
 instr_right P F named at i is =
@@ -126,6 +140,7 @@ instr_right P F named at i is =
     let passes : nat_lt at (length F.code) ≡ true = grind (arith, nat_tests) in
     (rw (passes, is) at (named at))
 
+-- where a function's names are right, none of its catches has a fault
 pub catch_named : (P : Bytecode) (F : Function) → IsNamed P F → (k : ℕ) (c : Catch) → slice_get F.catches k ≡ Some c → catch_fault F c
     ≡ None
 catch_named P F named k c is =
@@ -133,6 +148,7 @@ catch_named P F named k c is =
     let back : (length F.code + k) - length F.code ≡ k = omega arith in
     (rw (past, back, is) at (named (length F.code + k)))
 
+-- where a function's names are right, the target of each catch is in the code
 pub catch_right : (P : Bytecode) (F : Function) → IsNamed P F → (k : ℕ) (c : Catch) → slice_get F.catches k ≡ Some c
     → c.target < length F.code
 catch_right P F named k c is =
@@ -140,12 +156,14 @@ catch_right P F named k c is =
     let target = (both _ _ (both _ _ all).0).0 in
     less c.target (length F.code) target
 
+-- all successors of an instruction are in the code, where names are right and the end is not run past
 pub successors_of :
     (P : Bytecode) (F : Function) → IsNamed P F → falls_off F ≡ false → (at : ℕ) (i : Instr) → slice_get F.code at ≡ Some i →
     AllByRecursion (λ to. to < length F.code) (successors i at)
 successors_of P F named ended at i is =
     successors_there F at (flow i) (target_there P F i (instr_right P F named at i is)) (next_there F at i is ended)
 
+-- a function that is not run past its end has an instruction
 pub starts_there : (F : Function) → falls_off F ≡ false → 0 < length F.code
 starts_there F ended = by_code F.code ended where
   by_code : (code : List Instr) → not (closes (slice_get code (length code - 1))) ≡ false → 0 < length code
@@ -156,9 +174,11 @@ starts_there F ended = by_code F.code ended where
 abbrev clipped : Function → (ℕ → Option ℕ) → ℕ → Option ℕ
 clipped F depth at = if nat_lt at (length F.code) then depth at else None
 
+-- depths that are cut at the code's end are the same within the code
 clipped_there : (F : Function) (depth : ℕ → Option ℕ) (at : ℕ) → at < length F.code → clipped F depth at ≡ depth at
 clipped_there F depth at within = (let passes : nat_lt at (length F.code) ≡ true = grind (arith, nat_tests) in rw passes refl)
 
+-- a depth that is left after the cut is at a place in the code, and was there before
 within_clip : (F : Function) (depth : ℕ → Option ℕ) (at n : ℕ) → clipped F depth at ≡ Some n → (at < length F.code) × (depth at ≡ Some n)
 within_clip F depth at n is = by_test (nat_lt at (length F.code)) refl is where
   by_test : (b : Bool) → nat_lt at (length F.code) ≡ b → (if b then depth at else None) ≡ Some n → (at < length F.code)
@@ -181,6 +201,7 @@ room_after P F depth are m to within is =
     let there = there_below F.code to within in
     (are.leads to m there.0 there.1 is).within
 
+-- what an instruction leaves on the stack is no more than the stack holds, where each successor has that depth
 room_of :
     (P : Bytecode) (F : Function) (depth : ℕ → Option ℕ) → AreDepths P F depth → (i : Instr) (at n m : ℕ) (fl : Flow) → flow i ≡ fl →
     n ≤ OPERANDS → m ≡ (n - needs P i) + gives i → AllByRecursion (λ to. to < length F.code) (places_after fl at) →
@@ -203,6 +224,7 @@ record DepthsOf (P : Bytecode) (D : Depths) (f : ℕ) (F : Function) : Type 0 wh
   are : AreDepths P F depth
   same : (at : ℕ) → D f at ≡ clipped F depth at
 
+-- the depths of all functions are depths for each of them
 depths_of :
     (P : Bytecode) (Fs : List Function) (all : AllByRecursion (HasDepths P) Fs) (f : ℕ) (F : Function) → slice_get Fs f ≡ Some F →
     DepthsOf P (all_depths P Fs all) f F
@@ -238,17 +260,20 @@ goes_from P D f F right d at n is =
           (λ to within has. d.same to ∙ clipped_there F d.depth to within ∙ has) there leads.onward;
     }
 
+-- where the arguments of a function are counted, there is the function with that many
 main_there : (n : ℕ) (o : Option Function) → has_args n o ≡ true → (F : Function) × (o ≡ Some F) × (F.args ≡ n)
 main_there n None is = cc
 main_there n (Some F) is = (F, refl, grind (arith, nat_tests))
 
 -- ## The limits
 
+-- each of the limits on a program
 abbrev Limits : Bytecode → Type 0
 Limits P =
     (nat_lt CODE (sum_by (λ F. length F.code) P.functions) ≡ false) × (nat_lt FUNCTIONS (length P.functions) ≡ false)
     × (nat_lt CLASSES (length P.classes) ≡ false) × (list_any is_long_function P.functions ≡ false)
 
+-- a program that is not too long keeps to each of the limits
 limits_of : (P : Bytecode) → is_too_long P ≡ false → Limits P
 limits_of P short =
     let a = neither _ _ short in
@@ -257,12 +282,14 @@ limits_of P short =
     let d = neither _ _ c.0 in
     (d.0, d.1, c.1, b.1)
 
+-- each function of a faultless program is within the limit of instructions
 short_of : (P : Bytecode) → IsFaultless P → (f : ℕ) (F : Function) → function_at P f ≡ Some F → length F.code ≤ CODE
 short_of P ok f F is =
     let all = not_more CODE (sum_by (λ G. length G.code) P.functions) (limits_of P ok.short).0 in
     let one = at_most_sum (λ (G : Function). length G.code) P.functions f F is in
     omega arith
 
+-- each function of a faultless program has no more arguments than locals, and no more locals than a function may have
 locals_of : (P : Bytecode) → IsFaultless P → (f : ℕ) (F : Function) → function_at P f ≡ Some F → (F.args ≤ F.locals) × (F.locals ≤ LOCALS)
 locals_of P ok f F is =
     let none = none_at is_long_function P.functions f F (limits_of P ok.short).3 is in
@@ -270,6 +297,7 @@ locals_of P ok f F is =
     let b = neither _ _ a.0 in
     (not_more F.locals F.args b.1, not_more LOCALS F.locals a.1)
 
+-- a faultless program is valid
 pub faultless_is_sound : (P : Bytecode) → IsFaultless P → IsValid P
 faultless_is_sound P ok =
     let all = all_from (HasDepths P) P.functions (λ f F is. (ok.right f F is).depths) in
