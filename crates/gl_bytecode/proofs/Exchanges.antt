@@ -529,7 +529,7 @@ tail_entries (Quiet r) (Quiet s) xs ys same es = es
 tail_entries (Made e) (Quiet s) xs ys same es = cc
 tail_entries (Quiet r) (Made f) xs ys same es = cc
 
--- exchanges that end with an entry do so without their first one, or are none
+-- exchanges that end with an entry do so without their first one, or none are left
 tail_made : (x : Exchange) (xs : List Exchange) → EndsMade (x ∷ xs) → EndsMade xs
 tail_made x [] made = tt
 tail_made (Made e) (y ∷ ys) made = made

@@ -267,13 +267,13 @@ main_there n (Some F) is = (F, refl, grind (arith, nat_tests))
 
 -- ## The limits
 
--- each of the limits on a program
+-- each of the limits on a program, but that on a class's fields
 abbrev Limits : Bytecode → Type 0
 Limits P =
     (nat_lt CODE (sum_by (λ F. length F.code) P.functions) ≡ false) × (nat_lt FUNCTIONS (length P.functions) ≡ false)
     × (nat_lt CLASSES (length P.classes) ≡ false) × (list_any is_long_function P.functions ≡ false)
 
--- a program that is not too long keeps to each of the limits
+-- a program that is not too long keeps to each of these limits
 limits_of : (P : Bytecode) → is_too_long P ≡ false → Limits P
 limits_of P short =
     let a = neither _ _ short in
