@@ -14,6 +14,7 @@ use Rattle.gl_vm.specs.Orderly.{IsOrderly}
 use Rattle.gl_vm.proofs.Work.{step_falls}
 use Rattle.gl_follow.specs.Steps.{HasRoomFor}
 
+-- a reply that the machine takes leads to its next state, with the looks and writes after it
 pub told_by : (P : Bytecode) (p : Progress) (reply : Reply) → takes p.config reply ≡ true → replied P p (Some reply) ≡ Some (record {
   config = next P p.config reply;
   looks = looks_after p (ask_of p.config.stage) reply;
@@ -21,26 +22,32 @@ pub told_by : (P : Bytecode) (p : Progress) (reply : Reply) → takes p.config r
 })
 told_by P p reply fits = rw fits refl
 
+-- a reply that leaves no entry, and leads on, is an exchange that does
 pub told_quietly : (P : Bytecode) (p q : Progress) (reply : Reply) → is_quiet p.config.attempt p (ask_of p.config.stage) reply ≡ true
     → replied P p (Some reply) ≡ Some q → told_one P (Quiet reply) p ≡ Some q
 told_quietly P p q reply quiet told = ap (λ b. replied P p (when b reply)) quiet ∙ told
 
+-- the reply that an entry tells, where it leads on, is an exchange with that entry
 pub told_made : (P : Bytecode) (p q : Progress) (e : Entry) (reply : Reply) → reply_in p (ask_of p.config.stage) e ≡ Some reply
     → replied P p (Some reply) ≡ Some q → told_one P (Made e) p ≡ Some q
 told_made P p q e reply gives told = ap (replied P p) gives ∙ told
 
+-- an entry that tells no reply to what is asked is no exchange
 pub made_none : (P : Bytecode) (p : Progress) (e : Entry) → reply_in p (ask_of p.config.stage) e ≡ None → told_one P (Made e) p ≡ None
 made_none P p e none = ap (replied P p) none
 
+-- an entry whose reply the machine does not take is no exchange
 pub made_refused : (P : Bytecode) (p : Progress) (e : Entry) (reply : Reply) → reply_in p (ask_of p.config.stage) e ≡ Some reply
     → takes p.config reply ≡ false → told_one P (Made e) p ≡ None
 made_refused P p e reply gives refused = ap (replied P p) gives ∙ rw refused refl
 
+-- a word that is among neither the writes nor the looks is not known
 unknown : (w l : Option ℤ) → (is_some w || is_some l) ≡ false → known_word w l ≡ None
 unknown (Some a) l is = cc
 unknown None (Some b) is = cc
 unknown None None is = refl
 
+-- a number that passes the test for room is below the most variables of an attempt
 below : (n : ℕ) → nat_lt n TX_VARIABLES ≡ true → n < TX_VARIABLES
 below n is = search (rules, is)
 
@@ -89,6 +96,7 @@ made_room p ask e reply gives = record {
       let gives' : reply_in p (Write x a) e ≡ Some reply = ap (λ k. reply_in p k e) (sym asks) ∙ gives in
       cc
 
+-- an orderly machine is orderly after each reply that it takes
 pub orderly_next : (P : Bytecode) (p : Progress) (reply : Reply) → IsOrderly P p.config → takes p.config reply ≡ true
     → IsOrderly P (next P p.config reply)
 orderly_next P p reply orderly taken = (step_falls P p.config reply orderly taken).orderly

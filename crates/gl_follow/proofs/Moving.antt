@@ -22,6 +22,7 @@ use Rattle.gl_follow.proofs.Peeling.{ByEntry, Cut, Leads, Quietly, all_fit, cut,
 
 -- ## Lists
 
+-- an entry that is no trim stays where the trims are left out
 pub no_trim : (e : Entry) (es : List Entry) → (IsTrim e → ⊥) → without_trims (e ∷ es) ≡ e ∷ without_trims es
 no_trim (Trim low) es not = absurd (not tt)
 no_trim (Sync at act value) es not = refl
@@ -30,14 +31,17 @@ no_trim (Plain x nth cached write value raised) es not = refl
 no_trim (Abort tx why) es not = refl
 no_trim (Ended ending) es not = refl
 
+-- entries, one more and others are the same however they are put together
 pub behind_one : (front : List Entry) (e : Entry) (more : List Entry) → (front ++ e ∷ []) ++ more ≡ front ++ (e ∷ more)
 behind_one [] e more = refl
 behind_one (f ∷ front) e more = ap (λ l. f ∷ l) (behind_one front e more)
 
+-- where each thread of a list begins rightly, each thread of its beginning does
 right_front : (P : Bytecode) (es back : List Entry) → EachBeginsRight P (es ++ back) → EachBeginsRight P es
 right_front P [] back right = tt
 right_front P (e ∷ es) back right = (right.0, right_front P es back right.1)
 
+-- where each thread of a list begins rightly, it does in the list without its trims
 right_trims : (P : Bytecode) (es : List Entry) → EachBeginsRight P es → EachBeginsRight P (without_trims es)
 right_trims P [] right = tt
 right_trims P (Trim low ∷ es) right = right_trims P es right.1
@@ -47,6 +51,7 @@ right_trims P (Plain x nth cached write value raised ∷ es) right = (right.0, r
 right_trims P (Abort tx why ∷ es) right = (right.0, right_trims P es right.1)
 right_trims P (Ended ending ∷ es) right = (right.0, right_trims P es right.1)
 
+-- an option that is there is one thing
 same_some : {A : Type 0} (o : Option A) (m n : A) → o ≡ Some m → o ≡ Some n → m ≡ n
 same_some o m n first second = cc
 
@@ -60,6 +65,7 @@ quiet_over p list ending over = ap (λ s. quiet_for p list (ask_of s)) over ∙ 
   at None = refl
   at (Some a) = refl
 
+-- a machine that is over runs no attempt
 over_outside : (P : Bytecode) (q : Progress) (ending : Ending) → Fits P q.config → q.config.stage ≡ IsOver ending → q.config.attempt ≡ None
 over_outside P q ending fits over = at q.config.attempt refl where
   at : (o : Option Attempt) → q.config.attempt ≡ o → q.config.attempt ≡ None

@@ -22,9 +22,11 @@ use Rattle.gl_follow.specs.Following.{quiet_at, quiet_for, quiet_inside, quiet_o
 
 -- ## It leaves no entry
 
+-- an integer is equal to itself
 same_int : (v : ℤ) → int_eq v v ≡ true
 same_int v = search rules
 
+-- where not one of two holds, neither does
 either_none : (a b : Bool) → (a || b) ≡ false → (a ≡ false) × (b ≡ false)
 either_none true b is = cc
 either_none false b is = (refl, is)
@@ -78,17 +80,21 @@ module _ (p : Progress) where
 
 -- ## There is no other
 
+-- a word that is among neither the writes nor the looks is not known
 not_known : (w l : Option ℤ) → (is_some w || is_some l) ≡ false → known_word w l ≡ None
 not_known (Some a) l is = cc
 not_known None (Some b) is = cc
 not_known None None is = refl
 
+-- integers that pass the test for equality are equal
 int_same : (a b : ℤ) → int_eq a b ≡ true → a ≡ b
 int_same a b is = search (rules, is)
 
+-- where an attempt has as many variables as it may, there is no room for another
 no_room : (n : ℕ) → (n == TX_VARIABLES) ≡ true → nat_lt n TX_VARIABLES ≡ false
 no_room n is = (let same : n ≡ TX_VARIABLES = eqb-true n TX_VARIABLES is in rw same refl)
 
+-- where all three hold, the first is false and the other two are true
 three : (k e d : Bool) → (not k && e && d) ≡ true → (k ≡ false) × (e ≡ true) × (d ≡ true)
 three true e d is = cc
 three false true true is = (refl, refl, refl)
@@ -148,11 +154,13 @@ module _ (p : Progress) (list : List Entry) where
 
 -- ## The machine takes it
 
+-- the reply that leaves no entry answers a read
 read_fits : (x : ℕ) (k : Option ℤ) (room : Bool) (ahead : Option ℤ) → answers TX_TOO_LARGE (Read x) (quiet_read k room ahead) ≡ true
 read_fits x (Some a) room ahead = refl
 read_fits x None true ahead = refl
 read_fits x None false ahead = refl
 
+-- the reply that leaves no entry answers a write
 write_fits : (x : ℕ) (v : ℤ) (b : Bool) → answers TX_TOO_LARGE (Write x v) (quiet_write b) ≡ true
 write_fits x v true = refl
 write_fits x v false = refl

@@ -24,41 +24,48 @@ use Rattle.gl_follow.proofs.Stopping.{fails, holds, take_back}
 
 -- ## Lists
 
+-- what is left of a mapped list is what is left of the list, mapped
 pub drop_map : {A : Type 0} {B : Type 0} (f : A → B) (n : ℕ) (xs : List A) → map f (drop n xs) ≡ drop n (map f xs)
 drop_map f zero xs = refl
 drop_map f (suc n) [] = refl
 drop_map f (suc n) (x ∷ xs) = drop_map f n xs
 
+-- a beginning with one entry more is the beginning and the entry that is next
 take_next : (es : List Entry) (n : ℕ) (e : Entry) (fs : List Entry) → drop n es ≡ e ∷ fs → take (suc n) es ≡ take n es ++ e ∷ []
 take_next [] zero e fs is = cc
 take_next [] (suc n) e fs is = cc
 take_next (a ∷ es) zero e fs is = (let same : a ≡ e = cc in ap (λ h. h ∷ []) same)
 take_next (a ∷ es) (suc n) e fs is = ap (λ l. a ∷ l) (take_next es n e fs is)
 
+-- what is left after the next entry is left when one more is passed
 drop_next : (es : List Entry) (n : ℕ) (e : Entry) (fs : List Entry) → drop n es ≡ e ∷ fs → drop (suc n) es ≡ fs
 drop_next [] zero e fs is = cc
 drop_next [] (suc n) e fs is = cc
 drop_next (a ∷ es) zero e fs is = cc
 drop_next (a ∷ es) (suc n) e fs is = drop_next es n e fs is
 
+-- where an entry is left, fewer are passed than there are
 pub less_by : (es : List Entry) (n : ℕ) (e : Entry) (fs : List Entry) → drop n es ≡ e ∷ fs → n < length es
 less_by [] zero e fs is = absurd (cc)
 less_by [] (suc n) e fs is = absurd (cc)
 less_by (a ∷ es) zero e fs is = omega arith
 less_by (a ∷ es) (suc n) e fs is = (let more = less_by es n e fs is in omega arith)
 
+-- the first entry that is left is the one at the number of those passed
 pub at_by : (es : List Entry) (n : ℕ) (e : Entry) (fs : List Entry) → drop n es ≡ e ∷ fs → slice_get es n ≡ Some e
 at_by [] zero e fs is = absurd (cc)
 at_by [] (suc n) e fs is = absurd (cc)
 at_by (a ∷ es) zero e fs is = (let same : a ≡ e = cc in ap Some same)
 at_by (a ∷ es) (suc n) e fs is = at_by es n e fs is
 
+-- where as many entries are passed as there are, none is left
 none_left : (es : List Entry) (n : ℕ) → length es ≤ n → drop n es ≡ []
 none_left [] zero le = refl
 none_left [] (suc n) le = refl
 none_left (a ∷ es) zero le = absurd (omega arith)
 none_left (a ∷ es) (suc n) le = none_left es n (omega arith)
 
+-- a beginning of so many entries has that length, where there are so many
 take_length : (es : List Entry) (n : ℕ) → n ≤ length es → length (take n es) ≡ n
 take_length es zero le = refl
 take_length [] (suc n) le = absurd (omega arith)
@@ -70,6 +77,7 @@ take_length (a ∷ es) (suc n) le = ap suc (take_length es n (omega arith))
 abbrev pub answers_left : Config → ℕ
 answers_left c = 4 * (c.limit - c.counted) + due c
 
+-- each exchange of an orderly machine leaves it fewer answers to come
 one_falls : (P : Bytecode) (x : Exchange) (p q : Progress) → IsOrderly P p.config → told_one P x p ≡ Some q
     → answers_left q.config < answers_left p.config
 one_falls P x p q orderly is =

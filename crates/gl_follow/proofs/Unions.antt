@@ -33,6 +33,7 @@ one_one x y (z ∷ zs) l = elim (cases_lt x z) [
   ])
 ]
 
+-- two variables may be put among others in either order
 pub either_order : (x y : ℕ) (zs : List ℕ) → with_one x (with_one y zs) ≡ with_one y (with_one x zs)
 either_order x y zs = elim (cases_lt x y) [
   | inl l ↦ one_one x y zs l
@@ -60,6 +61,7 @@ pub all_one : (xs : List ℕ) (y : ℕ) (zs : List ℕ) → with_all xs (with_on
 all_one [] y zs = refl
 all_one (x ∷ xs) y zs = ap (with_all xs) (either_order x y zs) ∙ all_one xs y (with_one x zs)
 
+-- a variable that is put among the first may as well be put among all
 pub one_all : (x : ℕ) (ws zs : List ℕ) → with_all (with_one x ws) zs ≡ with_one x (with_all ws zs)
 one_all x [] zs = refl
 one_all x (w ∷ ws) zs = elim (cases_lt x w) [
@@ -82,6 +84,7 @@ one_grows x (y ∷ ys) = elim (cases_lt x y) [
   ]
 ]
 
+-- a variable below all others is put before them
 first_above : (x : ℕ) (xs : List ℕ) → AllByRecursion (λ y. x < y) xs → with_one x xs ≡ x ∷ xs
 first_above x [] all = refl
 first_above x (y ∷ ys) all = with_one-above x y ys all.0
@@ -91,6 +94,7 @@ pub all_none : (xs : List ℕ) → Rises xs → with_all xs [] ≡ xs
 all_none [] r = refl
 all_none (x ∷ xs) r = all_one xs x [] ∙ ap (with_one x) (all_none xs r.1) ∙ first_above x xs r.0
 
+-- putting variables among others leaves at least as many as the others were
 pub all_grow : (xs ys : List ℕ) → length ys ≤ length (with_all xs ys)
 all_grow [] ys = omega arith
 all_grow (x ∷ xs) ys = let one = one_grows x ys in let rest = all_grow xs (with_one x ys) in omega arith
@@ -104,9 +108,11 @@ all_longer ws (z ∷ zs) r s =
     let rest = all_longer ws zs r s.1 in
     omega arith
 
+-- what is in a list is in it with one more before
 pub in_next : {A : Type 0} (x : A) (xs : List A) (y : A) → Contains xs y → Contains (x ∷ xs) y
 in_next x xs y c = (suc c.0, (let l = c.1 in omega arith), c.2)
 
+-- what is in a list is its first element or in the rest
 in_cases : {A : Type 0} (x : A) (xs : List A) (y : A) → Contains (x ∷ xs) y → (x ≡ y) ⊎ Contains xs y
 in_cases x xs y (zero, l, e) = inl e
 in_cases x xs y (suc k, l, e) = inr (k, omega arith, e)
@@ -122,6 +128,7 @@ one_there x (z ∷ zs) = elim (cases_lt x z) [
   ]
 ]
 
+-- what is among others is among them when one more is put there
 pub one_still : (x : ℕ) (zs : List ℕ) (y : ℕ) → Contains zs y → Contains (with_one x zs) y
 one_still x [] y c = absurd (let l = c.1 in omega arith)
 one_still x (z ∷ zs) y c = elim (cases_lt x z) [
@@ -133,10 +140,12 @@ one_still x (z ∷ zs) y c = elim (cases_lt x z) [
   ]
 ]
 
+-- what is in the second of two lists is among both
 pub all_right : (xs zs : List ℕ) (y : ℕ) → Contains zs y → Contains (with_all xs zs) y
 all_right [] zs y c = c
 all_right (x ∷ xs) zs y c = all_right xs (with_one x zs) y (one_still x zs y c)
 
+-- what is in the first of two lists is among both
 pub all_left : (xs zs : List ℕ) (y : ℕ) → Contains xs y → Contains (with_all xs zs) y
 all_left [] zs y c = absurd (let l = c.1 in omega arith)
 all_left (x ∷ xs) zs y c = elim (in_cases x xs y c) [
@@ -144,6 +153,7 @@ all_left (x ∷ xs) zs y c = elim (in_cases x xs y c) [
   | inr there ↦ all_left xs (with_one x zs) y there
 ]
 
+-- a variable that was not there makes the others one more
 one_new : (x : ℕ) (ys : List ℕ) → (Contains ys x → ⊥) → length (with_one x ys) ≡ length ys + 1
 one_new x [] out = refl
 one_new x (y ∷ ys) out = elim (cases_lt x y) [
