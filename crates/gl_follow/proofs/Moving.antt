@@ -36,12 +36,12 @@ pub behind_one : (front : List Entry) (e : Entry) (more : List Entry) → (front
 behind_one [] e more = refl
 behind_one (f ∷ front) e more = ap (λ l. f ∷ l) (behind_one front e more)
 
--- where each thread of a list begins rightly, each thread of its beginning does
+-- where each entry of a list that begins a thread is right, each in the front of the list is
 right_front : (P : Bytecode) (es back : List Entry) → EachBeginsRight P (es ++ back) → EachBeginsRight P es
 right_front P [] back right = tt
 right_front P (e ∷ es) back right = (right.0, right_front P es back right.1)
 
--- where each thread of a list begins rightly, it does in the list without its trims
+-- where each entry of a list that begins a thread is right, each is in the list without its trims
 right_trims : (P : Bytecode) (es : List Entry) → EachBeginsRight P es → EachBeginsRight P (without_trims es)
 right_trims P [] right = tt
 right_trims P (Trim low ∷ es) right = right_trims P es right.1

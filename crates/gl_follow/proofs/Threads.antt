@@ -23,7 +23,7 @@ use Rattle.gl_follow.proofs.Beginnings.{one_length}
 
 -- ## What the lists are
 
--- each thread of a list begins rightly, where each entry that begins one does
+-- each entry of a list that begins a thread is right, where the one at each place is
 each_right : (P : Bytecode) (es : List Entry)
     → ((i at f : ℕ) (value : ℤ) → At es i (Sync at (Begin f) value) → StartsRight P (Start f value)) → EachBeginsRight P es
 each_right P [] right = tt
@@ -33,7 +33,7 @@ each_right P (e ∷ es) right = (
       (λ i at f value there. right (suc i) at f value there),
 )
 
--- in a record whose beginnings are right, each thread of each list begins rightly
+-- in a record whose beginnings are right, they are right in the list of each thread
 pub begins_right : (P : Bytecode) (R : Lists) (t : ℕ) → BeginsAreRight P R → EachBeginsRight P (R t)
 begins_right P R t right = each_right P (R t) (λ i at f value there. right t i at f value there)
 

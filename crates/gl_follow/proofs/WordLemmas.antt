@@ -15,7 +15,7 @@ use Rattle.gl_bytecode.specs.Runs.{Progress, is_its_end, known_word, same_words,
 use Rattle.gl_follow.specs.Words.{Touched, look_word, pair_var, pair_word, size_of}
 use Rattle.gl_follow.proofs.Unions.{all_grow, all_left, all_one, all_right, in_next, keys_with, one_all, one_fits}
 
--- the word of a variable is the value of its pair, if there is one
+-- the word of a variable among pairs is the value of the first pair that has it, if there is one
 pub word_pairs : (ws : List Pair) (x : ℕ) → word_of (map pair_word ws) x ≡ option_map (λ w. w.value) (find (λ p. p.var == x) ws)
 word_pairs [] x = refl
 word_pairs (w ∷ ws) x = by_test (w.var == x) (word_pairs ws x) where
@@ -26,7 +26,7 @@ word_pairs (w ∷ ws) x = by_test (w.var == x) (word_pairs ws x) where
   by_test true more = refl
   by_test false more = more
 
--- the look at a variable is the value of its entry's look, if there is one
+-- the word of a variable among looks is the value of the first look at it, if there is one
 pub word_looks : (ls : List Look) (x : ℕ) → word_of (map look_word ls) x ≡ option_map (λ l. l.value) (find (λ p. p.var == x) ls)
 word_looks [] x = refl
 word_looks (l ∷ ls) x = by_test (l.var == x) (word_looks ls x) where
@@ -109,7 +109,7 @@ pub look_enters : (looks writes : List Pair) (all : List ℕ) → all ≡ vars_o
     → length all ≡ TX_VARIABLES → ⊥
 look_enters looks writes all is room full = (let e = size_all looks writes all is in omega arith)
 
--- the looks alone do not fill the room where fewer variables are touched than may be
+-- where fewer variables are touched than may be, the looks are not as many as may be
 pub look_fits : (looks writes : List Pair) → size_of (touched_by looks writes) < TX_VARIABLES → length looks ≡ TX_VARIABLES → ⊥
 look_fits looks writes room full =
     let e = size_is looks writes in
@@ -134,7 +134,7 @@ write_more x a looks writes all is =
     ap (with_one x) is ∙ sym (ap (λ l. with_all l (map pair_var looks)) (keys_with pair_var (record { var = x; value = a }) writes)
     ∙ one_all x (map pair_var writes) (map pair_var looks))
 
--- where a write is known or has room, its variable is among the touched or there is room for it
+-- where a write is of a known word or has room, and as many variables are touched as may be, its own is among them
 pub write_enters :
     (x : ℕ) (looks writes : List Pair) (all : List ℕ) → all ≡ vars_of looks writes →
     ((is_some (word_of (map pair_word writes) x) || is_some (word_of (map pair_word looks) x)) || nat_lt
@@ -146,7 +146,7 @@ write_enters x looks writes all is room full out = elim (either _ _ room) [
       let no : nat_lt (size_of (touched_by looks writes)) TX_VARIABLES ≡ false = rw same refl in cc)
 ]
 
--- where the variables fit with a new one that is not written yet, the writes do not fill the room
+-- where the variables touched are no more than may be with one that is not written yet, fewer are written than may be
 pub write_fits :
     (x : ℕ) (looks writes : List Pair) (all : List ℕ) → all ≡ with_one x (vars_of looks writes) → AreVariables (map pair_var looks)
     → AreVariables (map pair_var writes) →
