@@ -39,12 +39,14 @@ more_at (a ∷ xs) x y (suc n) there = elim (more_at xs x y n there) [
   | inr last ↦ inr (ap suc last.0, last.1)
 ]
 
+-- a list with one more at its end is one longer
 pub one_longer : {A : Type 0} (xs : List A) (x : A) → length (xs ++ x ∷ []) ≡ length xs + 1
 one_longer [] x = refl
 one_longer (a ∷ xs) x = (let more = one_longer xs x in omega arith)
 
 -- ## The maker of one entry
 
+-- at each stage an instruction is at work, and its place is the frame's, or none is
 by_stage : (s : Stage) (f : Frame) → ((site : Site) × (site_at s f ≡ Some site) × IsOfInstruction s × (f.function ≡ site.function)
     × (f.place ≡ site.place))
     ⊎ ((site_at s f ≡ None) × (IsOfInstruction s → ⊥))
@@ -66,6 +68,7 @@ first_is : (rest : List StoredEntry) (e : StoredEntry) → slice_get rest 0 ≡ 
 first_is [] e there = absurd (cc)
 first_is (a ∷ rest) e there = (let same : a ≡ e = cc in (map seen rest, ap (λ b. seen b ∷ map seen rest) same))
 
+-- a machine that no silent reply moves passes the next entry, and what its stage and the entry say made it
 pub passes_by : (P : Bytecode) (p r q : Progress) (rest : List StoredEntry) (e : StoredEntry) (site : Option Site) (m : Maker)
     → slice_get rest 0 ≡ Some e → StaysSilent p (map seen rest) r → site ≡ site_of r.config → Passes P r (seen e) q
     → m ≡ maker_of site (seen e) → PassesBy P p (map seen rest) q m
