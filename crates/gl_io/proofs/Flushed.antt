@@ -4,6 +4,7 @@ use Rattle.std.proofs.lemmas.List.{take_all, take_at, length-take-le}
 use Rattle.std.specs.Io.KnownBytes.{Keeps, Appends}
 use Rattle.gl_io.specs.Adapters.{without_lost}
 
+-- known bytes of which none is lost are those bytes
 pub none_lost : (known : Option (List ℕ)) → without_lost 0 known ≡ known
 none_lost None = refl
 none_lost (Some xs) = ap Some (take_all (length xs - 0) xs (omega arith))
