@@ -14,20 +14,24 @@ use Rattle.gl_model.specs.Report.{all_entries, end_lines, end_of, event_count, i
 use Rattle.gl_report.specs.ByThread.{by_thread, with_thread}
 use Rattle.gl_report.specs.Lines.{ended_lines, is_raised, raced_lines}
 
+-- a list that is mapped twice is mapped once by both
 map_map : {A B C : Type 0} (f : B → C) (g : A → B) (xs : List A) → map f (map g xs) ≡ map (λ x. f (g x)) xs
 map_map f g [] = refl
 map_map f g (x ∷ xs) = ap (λ rest. f (g x) ∷ rest) (map_map f g xs)
 
+-- lists of lists that are made and joined twice are made and joined once by both
 flat_flat : {A B C : Type 0} (f : B → List C) (g : A → List B) (xs : List A) → flat_map f (flat_map g xs)
     ≡ flat_map (λ x. flat_map f (g x)) xs
 flat_flat f g [] = refl
 flat_flat f g (x ∷ xs) = flat_map-append f (g x) (flat_map g xs) ∙ ap (λ rest. flat_map f (g x) ++ rest) (flat_flat f g xs)
 
+-- what counts each element the same counts all the same
 sum_same : {A : Type 0} (f g : A → ℕ) (xs : List A) → ((x : A) → f x ≡ g x) → sum_by f xs ≡ sum_by g xs
 sum_same f g [] same = refl
 sum_same f g (x ∷ xs) same = (let one = same x in let more = sum_same f g xs same in let left = sum_by-cons f x xs
     in let right = sum_by-cons g x xs in omega arith)
 
+-- the sum over a mapped list is the sum over the list, of what each element is mapped to
 sum_mapped : {A B : Type 0} (v : A → B) (f : B → ℕ) (xs : List A) → sum_by f (map v xs) ≡ sum_by (λ x. f (v x)) xs
 sum_mapped v f [] = refl
 sum_mapped v f (x ∷ xs) = (let more = sum_mapped v f xs in let left = sum_by-cons f (v x) (map v xs)
