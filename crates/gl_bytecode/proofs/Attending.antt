@@ -28,7 +28,7 @@ use Rattle.gl_bytecode.specs.Attending.{IsAskedInside, Attends, runs_after}
 
 -- ## What a row asks inside an attempt
 
--- what an instruction comes to minds the attempt: what it asks is asked inside one, unless it is barred there
+-- what an instruction comes to minds attempts: unless it is barred in one it asks what may be asked there and does not halt; only ret returns
 abbrev Minds : Instr → Outcome → Type 0
 Minds i (Asks ask) = is_barred i ≡ false → IsAskedInside ask
 Minds i Halts = is_barred i ≡ true
@@ -272,7 +272,7 @@ again_attends : (c : Config) (o : Option Attempt) → c.attempt ≡ o → Attend
 again_attends c None is = without c is
 again_attends c (Some a) is = without _ refl
 
--- a machine that attends to its attempt does so however that it runs is said
+-- a machine attends to its attempt as well where it is told by an equal truth whether one runs
 told_so : (b d : Bool) (c : Config) → b ≡ d → AttendsWith b c → AttendsWith d c
 told_so b d c is k = record { runs = k.runs ∙ is; attends = k.attends }
 
