@@ -20,6 +20,7 @@ use Rattle.gl_asm.specs.NameIndex.{IsIndex, IsNoted, Key, is_key, key_cmp, place
 -- ## Places
 
 module _ {X : Type 0} (p : X → Bool) where
+  -- the place that is told of the first that passes is at most the length
   place_upto : (xs : List X) → position_or_len p xs ≤ length xs
   place_upto [] = omega arith
   place_upto (x ∷ xs) = by (p x) (place_upto xs)
@@ -28,6 +29,7 @@ module _ {X : Type 0} (p : X → Bool) where
       by true rest = omega arith
       by false rest = omega (arith, rest)
 
+  -- the first place that passes, with one more at the end, is the one before, or else the end if the new one passes
   place_push : (xs : List X) (x : X) → position p (xs ++ x ∷ []) ≡ option_or (position p xs) (if p x then Some (length xs) else None)
   place_push xs x = by (p x) (position_or_len p xs) (position_or_len p (xs ++ x ∷ [])) (length xs) (length (xs ++ x ∷ [])) (place_upto xs)
       (position_or_len_push p xs x) (length-append xs (x ∷ []))
@@ -37,6 +39,7 @@ module _ {X : Type 0} (p : X → Bool) where
       by true n m k l upto e f = grind (arith, tests)
       by false n m k l upto e f = grind (arith, tests)
 
+  -- what stands at the first place that passes is what is found
   at_place : (xs : List X) → option_and_then (slice_get xs) (position p xs) ≡ find p xs
   at_place xs = ⊎_elim
       (λ yes. ap (option_and_then (slice_get xs)) (ap (λ b. cond b (Some (position_or_len p xs)) None) yes) ∙ sym (find_at p xs))

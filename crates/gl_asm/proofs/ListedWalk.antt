@@ -54,6 +54,7 @@ moved {M} {T} {whole} {main} {left} c k label next D E same there is s =
 -- ## A row of each kind
 
 module _ {M : Type 0} {T : List Definition} {whole : Result (Draft × List ℤ) LineFault} {main : ℕ} where
+  -- a reader that comes to a class's row adds the class, and its name means its number
   class_step : (n : ℕ) (fields : Fields) (left : List (List ℕ)) (D : Draft) → n < CLASSES → fields.plain ≤ VARIABLES
       → fields.volatile ≤ VOLATILES
       → Stands M T whole main (counts n 0 0 0) 0 (class_row n fields ∷ left) D
@@ -77,6 +78,7 @@ module _ {M : Type 0} {T : List Definition} {whole : Result (Draft × List ℤ) 
         means T Classes name s.line n found,
       )
 
+  -- a reader that comes to a function's header adds the function, and its name means its number
   header_step : (n f p k label args locals : ℕ) (left : List (List ℕ)) (D : Draft) → f < FUNCTIONS → args ≤ LOCALS → locals ≤ LOCALS
       → Stands M T whole main (counts n f p k) label (header_row main f args locals ∷ left) D
       → Stands M T whole main (counts n (f + 1) 0 0) 0 left (added D (AddsFunction args locals))
@@ -100,6 +102,7 @@ module _ {M : Type 0} {T : List Definition} {whole : Result (Draft × List ℤ) 
         means T Functions name s.line f found,
       )
 
+  -- a reader that comes to a label's row adds nothing, and the label means its place
   label_step : (n g p : ℕ) (left : List (List ℕ)) (D : Draft) → p ≤ MOST_INDEX
       → Stands M T whole main (counts n (g + 1) p 0) p (label_row p ∷ left) D
       → Stands M T whole main (counts n (g + 1) p 0) (p + 1) left D × (meaning_of T (Labels (g + 1)) (label_name p) ≡ Ok p)
@@ -147,6 +150,7 @@ module _ {M : Type 0} {T : List Definition} {whole : Result (Draft × List ℤ) 
       in
       stands_on s form ws [] a k label are is adds says none count free
 
+  -- a reader that comes to an instruction's row adds the instruction, where its operands fit and the names they need are known
   instr_step : (n g p label : ℕ) (i : Instr) (left : List (List ℕ)) (D : Draft) → p < MOST_INDEX → Fits (operand_of i)
       → (M → Known T (counts n (g + 1) p 0) main (operand_of i))
       → Stands M T whole main (counts n (g + 1) p 0) label (instr_row main i ∷ left) D
@@ -159,6 +163,7 @@ module _ {M : Type 0} {T : List Definition} {whole : Result (Draft × List ℤ) 
       (λ m. said_instr T c s.line 0 main i refl (some_function g) fits (knows m)) refl
       (ap (λ q. counts n (g + 1) q 0) (more_is p most)) refl refl
 
+  -- a reader that comes to a catch's row adds the catch, where its labels mean their places
   catch_step : (n g p k label : ℕ) (h : Catch) (left : List (List ℕ)) (D : Draft) → k < CATCHES → h.from ≤ MOST_INDEX → h.to ≤ MOST_INDEX
       → h.target ≤ MOST_INDEX
       → (M → (meaning_of T (Labels (g + 1)) (label_name h.from) ≡ Ok h.from) × (meaning_of T (Labels (g + 1)) (label_name h.to) ≡ Ok h.to)
@@ -282,6 +287,8 @@ part F code catches = record { args = F.args; locals = F.locals; code = code; ca
 
 module _ (P : Bytecode) (F : Function) (T : List Definition) (whole : Result (Draft × List ℤ) LineFault) (Cs : List Fields)
     (Fs : List Function) (m : Option ℕ) where
+  -- a reader that goes through the rows of a function's code has added all its instructions, and the labels before them mean
+  -- their places
   walk_code : (n g : ℕ) (is : List Instr) (at end : ℕ) (done all : List Instr) (rest : List (List ℕ))
       → end ≡ at + length is → end ≤ CODE → all ≡ done ++ is → AllByRecursion (IsSayable P F) is
       → Stands (Meant P T × Labelled T (g + 1) F) T whole P.main (counts n (g + 1) at 0) at (code_rows P.main (names_of F) at is rest)
@@ -315,6 +322,7 @@ module _ (P : Bytecode) (F : Function) (T : List Definition) (whole : Result (Dr
         ],
       )
 
+  -- a reader that goes through the rows of a function's catches has added them all
   walk_catches : (n g p label : ℕ) (hs : List Catch) (k end : ℕ) (done all : List Catch) (rest : List (List ℕ))
       → end ≡ k + length hs → end ≤ CATCHES → all ≡ done ++ hs → length F.code ≤ CODE → AllByRecursion (IsHandler F) hs
       → Stands (Meant P T × Labelled T (g + 1) F) T whole P.main (counts n (g + 1) p k) label (catch_rows hs rest)

@@ -208,10 +208,12 @@ module _ (P : Bytecode) where
       → is_some m.config.attempt ≡ true
   still_runs x p m t no_end lives = rw t.config (next_lives P p.config t.reply no_end t.fits lives)
 
+  -- a look that is there stays with its value through an exchange that does not end the attempt
   still_known : (x : Exchange) (p m : Progress) (y : ℕ) (w : ℤ) → Told P x p m → IsNoEnd (ask_of p.config.stage) → word_of p.looks y
       ≡ Some w → word_of m.looks y ≡ Some w
   still_known x p m y w t no_end is = rw t.looks (looks_stay p (ask_of p.config.stage) t.reply y w no_end is)
 
+  -- inside an attempt nothing comes of what only goes on outside one
   plain_not : (p : Progress) (ask : Ask) (o : Option Reply) → is_some p.config.attempt ≡ true
       → (if is_none p.config.attempt then o else None) ≡ None
   plain_not p ask o lives = by_attempt p.config.attempt refl where
@@ -219,6 +221,7 @@ module _ (P : Bytecode) where
     by_attempt None none = (let e : is_some p.config.attempt ≡ false = rw none refl in cc)
     by_attempt (Some a) some = refl
 
+  -- a look of a running attempt is the word that is ahead in the entries, where they end outside attempts
   ahead :
       (xs : List Exchange) (p q : Progress) (y : ℕ) (w : ℤ) → told P p xs ≡ Some q → q.config.attempt ≡ None →
       is_some p.config.attempt ≡ true → word_of p.looks y ≡ Some w → word_ahead (entries_of xs) y ≡ Some w
@@ -485,6 +488,7 @@ module _ (P : Bytecode) where
       let now : m.looks ≡ with_word x a p.looks = t.looks ∙ by_ask ∙ looked in
       ahead P xs m q x a more over (still_runs P (Quiet (Value a)) p m t no_end lives) (ap (λ ws. word_of ws x) now ∙ word_put x a p.looks)
 
+  -- two ways from one progress with the same entries begin with the same exchange, where they end outside attempts
   same_first :
       (x y : Exchange) (xs ys : List Exchange) (p m n q r : Progress) → told_one P x p ≡ Some m → told_one P y p ≡ Some n →
       told P m xs ≡ Some q → told P n ys ≡ Some r → entries_of (x ∷ xs) ≡ entries_of (y ∷ ys) → q.config.attempt ≡ None →

@@ -80,6 +80,7 @@ pub record Begun (P : Bytecode) (p : Progress) (list es : List Entry) (q : Progr
   pub first : Quietly P p list es q ⊎ ByEntry P p list es q
 
 module _ (P : Bytecode) (steps t : ℕ) where
+  -- a new machine that fits follows a list whose beginnings are right, with nothing of it passed yet
   pub begin_follow : (es : List Entry) → Fits P (fresh P t steps) → EachBeginsRight P es → Follows P steps t [] es (outset P t steps)
   begin_follow es fits right = record {
     along = along_new P steps t;
@@ -90,6 +91,7 @@ module _ (P : Bytecode) (steps t : ℕ) where
     over = λ more back r ending same along over. record { exchanges = along.exchanges; entries = along.made; reached = along.reached };
   }
 
+  -- what is left of a list is led by the entries at its front without their trims
   leads : (more back rest : List Entry) → rest ≡ more ++ back → Leads rest (without_trims more)
   leads more back rest same = record { back = without_trims back; same = ap without_trims same ∙ without_trims-append more back }
 
@@ -203,9 +205,11 @@ module _ (P : Bytecode) (steps t : ℕ) where
         let mids : w.mid ≡ q = same_some (told_one P (Made e) p) w.mid q first' first in
         subst (λ l. Reaches P q l r) later (subst (λ m. Reaches P m w.later r) mids w.rest)
 
+  -- a list that starts with no trim is not empty without its trims
   has_entry : (e : Entry) (more : List Entry) → (IsTrim e → ⊥) → without_trims (e ∷ more) ≡ [] → ⊥
   has_entry e more not none = (let some = no_trim e more not in cc)
 
+  -- a machine that is moved by the next entry, and by no silent reply before, follows the list past this entry
   pub move_entry :
       (front rest : List Entry) (e : Entry) (p q : Progress) → Follows P steps t front (e ∷ rest) p → touched p ≤ TX_VARIABLES
       → (IsTrim e → ⊥) →
@@ -239,6 +243,7 @@ module _ (P : Bytecode) (steps t : ℕ) where
     to_end more r (inl (same, empty)) = absurd (has_entry e more not empty)
     to_end more r (inr b) = rest_entry e rest more p q r not none first b
 
+  -- a machine follows the list past a trim as it is
   pub move_trim :
       (front rest : List Entry) (low : ℕ) (p : Progress) → Follows P steps t front (Trim low ∷ rest) p
       → Follows P steps t (front ++ Trim low ∷ []) rest p

@@ -118,12 +118,14 @@ ExchangeIsRight P (Made e) = BeginsRight P e
 ExchangeIsRight P (Quiet r) = Unit {0}
 
 module _ (P : Bytecode) where
+  -- the reply of an exchange that starts no thread wrongly starts none wrongly
   told_starts : (x : Exchange) (p q : Progress) (t : Told P x p q) → ExchangeIsRight P x → StartsRight P t.reply
   told_starts (Made e) p q t right = entry_starts P p (ask_of p.config.stage) e t.reply right t.gives
   told_starts (Quiet r) p q t right =
       let both = when_true _ r t.reply t.gives in
       subst (StartsRight P) both.1 (quiet_starts P p.config.attempt p (ask_of p.config.stage) r both.0)
 
+  -- a machine that fits still fits after an exchange that starts no thread wrongly
   pub told_fits : (x : Exchange) (p q : Progress) → Fits P p.config → ExchangeIsRight P x → told_one P x p ≡ Some q → Fits P q.config
   told_fits x p q fits right is =
       let t = told_of P x p q is in
@@ -140,10 +142,12 @@ module _ (P : Bytecode) where
   ends_by p (Some a) (Write x v) e r is attends gives = (let none = no_entry p (Some a) (Write x v) e is tt in cc)
   ends_by p (Some a) ask e r is attends gives = absurd attends
 
+  -- an option that is not there is none
   some_not : (o : Option Attempt) → is_some o ≡ false → o ≡ None
   some_not None is = refl
   some_not (Some a) is = cc
 
+  -- no attempt runs after an exchange with an entry
   made_over : (e : Entry) (p q : Progress) → Fits P p.config → told_one P (Made e) p ≡ Some q → q.config.attempt ≡ None
   made_over e p q fits is =
       let t = told_of P (Made e) p q is in
@@ -154,11 +158,13 @@ module _ (P : Bytecode) where
 
   -- ## Ways
 
+  -- an exchange and then others lead where the others lead after it
   pub told_more : (x : Exchange) (xs : List Exchange) (p m : Progress) (o : Option Progress) → told_one P x p ≡ Some m → told P m xs ≡ o
       → told P p (x ∷ xs) ≡ o
   unfolding told
   told_more x xs p m o first rest = ap (option_and_then (λ n. told P n xs)) first ∙ rest
 
+  -- a machine that fits still fits after exchanges whose entries begin threads rightly
   pub all_fit : (xs : List Exchange) (p q : Progress) → Fits P p.config → EachBeginsRight P (entries_of xs) → told P p xs ≡ Some q
       → Fits P q.config
   all_fit [] p q fits right is = (let same = told_none P p q is in subst (λ (m : Progress). Fits P m.config) same fits)
@@ -175,6 +181,7 @@ module _ (P : Bytecode) where
     pub way : Reaches P p es last
     pub outside : last.config.attempt ≡ None
 
+  -- where a way by entries leads to where no attempt runs, so does one with an exchange more before it
   one_more : (x : Exchange) (es fs : List Entry) (p m : Progress) → told_one P x p ≡ Some m
       → ((xs : List Exchange) → entries_of xs ≡ es → entries_of (x ∷ xs) ≡ fs) → Cut m es → Cut p fs
   one_more x es fs p m first same c = record {
@@ -187,6 +194,7 @@ module _ (P : Bytecode) where
     outside = c.outside;
   }
 
+  -- exchanges of a machine that fits make no entries, or up to their last entry they lead to where no attempt runs
   pub cut : (xs : List Exchange) (p q : Progress) → Fits P p.config → EachBeginsRight P (entries_of xs) → told P p xs ≡ Some q
       → (entries_of xs ≡ []) ⊎ Cut p (entries_of xs)
   unfolding told

@@ -107,6 +107,7 @@ no_over P (Made e ∷ xs) p q [] zs ending is es =
 -- ## The list
 
 module _ (P : Bytecode) (steps t : ℕ) where
+  -- where a machine that is over has followed a list up to the entry that says so, its machine runs the list
   pub holds : (front rest : List Entry) (p : Progress) (ending : Ending) → Follows P steps t front rest p → rest ≡ Ended ending ∷ []
       → p.config.stage ≡ IsOver ending → Runs P steps t (front ++ rest)
   holds front rest p ending f last over =

@@ -90,6 +90,7 @@ one_falls P x p q orderly is =
     subst (λ (c : Config). answers_left c < answers_left p.config) (sym t.config) (omega arith)
 
 module _ (P : Bytecode) (steps t : ℕ) (es : List Entry) where
+  -- a new machine that fits is at the start of a list whose beginnings are right
   pub begins : Fits P (fresh P t steps) → EachBeginsRight P es → IsAt P steps t es (outset P t steps) 0
   begins fits right = record {
     within = omega arith;
@@ -97,6 +98,7 @@ module _ (P : Bytecode) (steps t : ℕ) (es : List Entry) where
     can = record { fits = fits; orderly = orderly_fresh P t steps; in_range = tt };
   }
 
+  -- a machine that can go on and follows the list past the next entry is at the place after it
   one_on : (p q : Progress) (n : ℕ) (e : Entry) (later : List Entry) → drop n es ≡ e ∷ later → CanGo P q
       → Follows P steps t (take n es ++ e ∷ []) later q → IsAt P steps t es q (n + 1)
   one_on p q n e later same can f =
@@ -110,6 +112,7 @@ module _ (P : Bytecode) (steps t : ℕ) (es : List Entry) where
         can = can;
       })
 
+  -- a machine that is at a trim, and stays as it is, follows the list past it
   passed : (p q : Progress) (n : ℕ) (e : Entry) (later : List Entry) → IsAt P steps t es p n → drop n es ≡ e ∷ later → IsTrim e → q ≡ p
       → CanGo P q → Follows P steps t (take n es ++ e ∷ []) later q
   passed p q n (Trim low) later a same trim still can =
@@ -160,6 +163,7 @@ module _ (P : Bytecode) (steps t : ℕ) (es : List Entry) where
 
   -- ## The end
 
+  -- an orderly stage that asks to be over is over
   over_stage : (s : Stage) (c : Config) (ending : Ending) → StageIsOrderly P c s → ask_of s ≡ AskOver ending → s ≡ IsOver ending
   over_stage New c ending orderly is = cc
   over_stage Begins c ending orderly is = cc
@@ -170,6 +174,7 @@ module _ (P : Bytecode) (steps t : ℕ) (es : List Entry) where
   over_stage (Ends e) c ending orderly is = cc
   over_stage (IsOver e) c ending orderly is = (let same : e ≡ ending = cc in ap IsOver same)
 
+  -- a list that a machine has followed to its end whole is run by it
   pub whole_runs : (p : Progress) (n : ℕ) → EndsAt P steps t es p n → EndsWithOver es → IsWhole p (drop n es) → Runs P steps t es
   whole_runs p n e over w =
       let long : length es ≡ n + 1 = over.alone n (Ended w.ending) (at_by es n (Ended w.ending) w.later w.same) tt in
@@ -178,6 +183,7 @@ module _ (P : Bytecode) (steps t : ℕ) (es : List Entry) where
       let stage = over_stage p.config.stage p.config w.ending e.at.can.orderly.stage w.over in
       subst (Runs P steps t) (sym (take_back n es)) (holds P steps t (take n es) (drop n es) p w.ending e.at.follows last stage)
 
+  -- a list that a machine has followed as far as it can, and not whole, fails its program there
   pub unwhole_fails : (p : Progress) (n : ℕ) → EndsAt P steps t es p n → EndsWithOver es → (IsWhole p (drop n es) → ⊥)
       → ProgramFails P steps t es n
   unwhole_fails p n e over not =

@@ -176,15 +176,19 @@ one_fits x most ws zs r s few full out =
 
 -- the variables of the parts, where one is put among them
 module _ {A : Type 0} (key : A → ℕ) where
+  -- a part whose key is below the first one's comes before it
   pub part_above : (p q : A) (qs : List A) → key p < key q → with_part key p (q ∷ qs) ≡ p ∷ (q ∷ qs)
   part_above p q qs l = grind (arith, nat_tests)
 
+  -- a part whose key is above the first one's comes after it
   pub part_below : (p q : A) (qs : List A) → key q < key p → with_part key p (q ∷ qs) ≡ q ∷ with_part key p qs
   part_below p q qs l = grind (arith, nat_tests)
 
+  -- a part whose key is the first one's takes its place
   pub part_same : (p q : A) (qs : List A) → key q ≡ key p → with_part key p (q ∷ qs) ≡ p ∷ qs
   part_same p q qs e = grind (arith, nat_tests)
 
+  -- the keys of parts with one put among them are the keys with its own put among them
   pub keys_with : (p : A) (qs : List A) → map key (with_part key p qs) ≡ with_one (key p) (map key qs)
   keys_with p [] = refl
   keys_with p (q ∷ qs) = elim (cases_lt (key p) (key q)) [

@@ -185,10 +185,12 @@ module _ {A : Type 0} {B : Type 0} (f : A → ℕ × ℤ) (g : B → ℕ × ℤ)
   abbrev pub same_from : List A → List B → ℕ → Bool
   same_from xs ys i = same_words (map f (drop i xs)) (map g (drop i ys))
 
+  -- two lists are the same from a place on exactly where what is left of them has the same words
   both : (xs vs : List A) (ys ws : List B) (i : ℕ) → drop i xs ≡ vs → drop i ys ≡ ws → same_from xs ys i ≡ same_words (map f vs) (map g ws)
   both xs vs ys ws i first second = ap (λ l. same_words (map f l) (map g (drop i ys))) first
       ∙ ap (λ l. same_words (map f vs) (map g l)) second
 
+  -- where both lists have the same word at a place, they are the same from it on exactly where they are from the next
   pub same_on :
       (xs : List A) (ys : List B) (i : ℕ) (x : A) (y : B) → slice_get xs i ≡ Some x → slice_get ys i ≡ Some y →
       ((f x).0 == (g y).0 && int_eq (f x).1 (g y).1) ≡ true → same_from xs ys (suc i) ≡ same_from xs ys i
@@ -200,6 +202,7 @@ module _ {A : Type 0} {B : Type 0} (f : A → ℕ × ℤ) (g : B → ℕ × ℤ)
         and_true true false c is = cc
         and_true false b c is = cc
 
+  -- where two lists have different words at a place, they are not the same from it on
   pub other_on :
       (xs : List A) (ys : List B) (i : ℕ) (x : A) (y : B) → slice_get xs i ≡ Some x → slice_get ys i ≡ Some y →
       ((f x).0 == (g y).0 && int_eq (f x).1 (g y).1) ≡ false → same_from xs ys i ≡ false
@@ -210,17 +213,21 @@ module _ {A : Type 0} {B : Type 0} (f : A → ℕ × ℤ) (g : B → ℕ × ℤ)
         and_false true false c is = refl
         and_false false b c is = refl
 
+  -- where neither list has anything at a place, they are the same from it on
   pub none_from : (xs : List A) (ys : List B) (i : ℕ) → slice_get xs i ≡ None → slice_get ys i ≡ None → same_from xs ys i ≡ true
   none_from xs ys i first second = both xs [] ys [] i (drop_past xs i first) (drop_past ys i second)
 
+  -- where only the first list goes on, they are not the same from there on
   pub longer_from : (xs : List A) (ys : List B) (i : ℕ) (x : A) → slice_get xs i ≡ Some x → slice_get ys i ≡ None → same_from xs ys i
       ≡ false
   longer_from xs ys i x first second = both xs _ ys [] i (drop_at xs i x first) (drop_past ys i second)
 
+  -- where only the second list goes on, they are not the same from there on
   pub shorter_from : (xs : List A) (ys : List B) (i : ℕ) (y : B) → slice_get xs i ≡ None → slice_get ys i ≡ Some y → same_from xs ys i
       ≡ false
   shorter_from xs ys i y first second = both xs [] ys _ i (drop_past xs i first) (drop_at ys i y second)
 
+  -- past the ends of both lists they are the same
   pub past_both : (xs : List A) (ys : List B) (i : ℕ) → length xs ≤ i → length ys ≤ i → same_from xs ys i ≡ true
   past_both xs ys i first second = both xs [] ys [] i (drop_long xs i first) (drop_long ys i second)
 

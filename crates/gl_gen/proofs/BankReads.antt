@@ -161,6 +161,7 @@ abbrev with_transfer : ℕ → ℕ → Draft → Draft
 with_transfer n k D = fold added (added (added D (AddsFunction 1 2)) (AddsInstruction (Push (pos n)))) (code_additions k)
 
 module _ (n : ℕ) (push : SaysPush n (codes "  push " ++ decimal n)) where
+  -- the line with the number of transfers
   abbrev push_line : Line
   push_line = codes "  push " ++ decimal n
 
@@ -185,6 +186,7 @@ module _ (n : ℕ) (push : SaysPush n (codes "  push " ++ decimal n)) where
       ∙ ap (λ d. table_of k ++ definitions_from d (((at + 1) + 1) + 21) rest) says.onward
       ∙ ap (λ m. table_of k ++ definitions_from (counts (k + 1) 21) m rest) e
 
+  -- the lines of an account's function, before others, add this function and lead to the counts after it
   adds_on : (k places : ℕ) → SaysTransfer k places → (rest : List Line) (D : Draft)
       → built D [] (read_from table (counts k places) (94 + 23 * k) 0 (transfer_lines n k ++ rest))
       ≡ built (with_transfer n k D) [] (read_from table (counts (k + 1) 21) (94 + 23 * (k + 1)) 0 rest)
@@ -205,9 +207,11 @@ module _ (n : ℕ) (push : SaysPush n (codes "  push " ++ decimal n)) where
 
   -- ## All lines
 
+  -- the lines of so many accounts' functions from one on
   abbrev lines_of : ℕ → ℕ → List Line
   lines_of k many = flat_map (transfer_lines n) (range_with_len k many)
 
+  -- the bank's lines define what the table says
   all_define : definitions (bank_lines n) ≡ table
   all_define =
       definitions_on none_yet 1 head (lines_of 0 8)
@@ -227,13 +231,16 @@ module _ (n : ℕ) (push : SaysPush n (codes "  push " ++ decimal n)) where
       (defines_on 5 21 says_5 (lines_of 6 2)
       ∙ ap (λ l. table_of 5 ++ l) (defines_on 6 21 says_6 (lines_of 7 1) ∙ ap (λ l. table_of 6 ++ l) (defines_on 7 21 says_7 []))))))))
 
+  -- the draft before the first line
   abbrev empty : Draft
   empty = record { classes = []; functions = []; main = Some 0 }
 
+  -- with the bank's table the draft starts empty, with main known
   starts : start table ≡ empty
   unfolding digits
   starts = refl
 
+  -- all lines of the bank add the whole bank, and no inputs
   all_add : built empty [] (read_from table none_yet 1 0 (bank_lines n)) ≡ Ok (draft_of (bank_program n), [])
   all_add =
       let D = fold added empty head_additions in
@@ -250,6 +257,7 @@ module _ (n : ℕ) (push : SaysPush n (codes "  push " ++ decimal n)) where
       ∙ adds_on 3 21 says_3 (lines_of 4 4) draft_2 ∙ adds_on 4 21 says_4 (lines_of 5 3) draft_3 ∙ adds_on 5 21 says_5 (lines_of 6 2) draft_4
       ∙ adds_on 6 21 says_6 (lines_of 7 1) draft_5 ∙ adds_on 7 21 says_7 [] draft_6
 
+  -- the bank's lines are read as the bank, with no inputs
   pub lines_say : lines_read (bank_lines n) ≡ Ok (draft_of (bank_program n), [])
   lines_say =
       ap (λ T. built (start T) [] (read_from T none_yet 1 0 (bank_lines n))) all_define

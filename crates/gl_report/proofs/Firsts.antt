@@ -78,5 +78,6 @@ module _ {A : Type 0} (v : A → Entry) (es : List Entry) (slots : List (Option 
       ∙ ap (λ back. flat_map out_line (printed_below es n) ++ back) last
       ∙ sym (flat_map-append out_line (printed_below es n) (entry_prints (find (is_event_at n) es)))
 
+  -- the lines of output for the first entries at all positions are those of what is printed
   pub prints_are : flat_map (out_lines_at v) slots ≡ flat_map out_line (printed_below es (length slots))
   prints_are = ap (flat_map (out_lines_at v)) (sym (take-length slots)) ∙ prints_below (length slots) (omega arith)

@@ -72,6 +72,7 @@ module _ {A : Type 0} (v : A → ℕ × Entry) (xs : List A) (made : List (ℕ �
   pub all_are : map (λ x. (v x).1) xs ≡ all_entries made
   all_are = sym (map_map (λ p. p.1) v xs) ∙ ap (map (λ p. p.1)) are ∙ entries_are made
 
+  -- the events that are counted among the entries are those of the record
   pub events_are : count_by (λ x. is_event (v x).1) xs ≡ event_count made
   events_are = sym (sum_mapped (λ x. (v x).1) (λ e. cond (is_event e) 1 0) xs) ∙ ap (count_by is_event) all_are
 
@@ -79,12 +80,15 @@ module _ {A : Type 0} (v : A → ℕ × Entry) (xs : List A) (made : List (ℕ �
   gives : {B : Type 0} (h : ℕ → Entry → List B) → flat_map (λ x. h (v x).0 (v x).1) xs ≡ flat_map (λ l. flat_map (h l.0) l.1) made
   gives h = sym (flat_map-map (λ p. h p.0 p.1) v xs) ∙ ap (flat_map (λ p. h p.0 p.1)) are ∙ gives_are h made
 
+  -- the lines for races among the entries are the record's lines of races
   pub races_are : flat_map (λ x. raced_lines (v x).0 (v x).1) xs ≡ flat_map (λ bytes. bytes) (race_lines made)
   races_are = sym (flat_flat (λ bytes. bytes) (λ x. race_of (v x).0 (v x).1) xs) ∙ ap (flat_map (λ bytes. bytes)) (gives race_of)
 
+  -- the lines for ends of threads among the entries are the record's lines of ends
   pub ends_are : flat_map (λ x. ended_lines (v x).0 (v x).1) xs ≡ flat_map (λ bytes. bytes) (end_lines made)
   ends_are = sym (flat_flat (λ bytes. bytes) (λ x. end_of (v x).0 (v x).1) xs) ∙ ap (flat_map (λ bytes. bytes)) (gives end_of)
 
+  -- the races that are counted among the entries are as many as the record's lines of races
   pub many_races : count_by (λ x. is_raised (v x).1) xs ≡ length (race_lines made)
   many_races =
       sym

@@ -86,6 +86,7 @@ passes_by P p r q rest e site m there silent stands passes by =
     }
 
 module _ (P : Bytecode) (steps t : ℕ) (es : List Entry) where
+  -- an entry that answers a machine is made by what the machine's stage says
   answered_by : (p : Progress) (n : ℕ) → IsAnswered P steps t es n p → IsMaker P steps t es n (maker_by (site_of p.config))
   answered_by p n is = elim (by_stage p.config.stage p.config.frame) [
     | inl (site, standing, by, function, place) ↦
@@ -132,6 +133,7 @@ module _ (P : Bytecode) (steps t : ℕ) (es : List Entry) where
     answered = answer.1;
   })
 
+  -- the first makers of a list and that of the next entry are its first makers, one more
   one_more : (makers : List Maker) (m : Maker) → AreFirstMakers P steps t es makers → IsMaker P steps t es (length makers) m
       → AreFirstMakers P steps t es (makers ++ m ∷ [])
   one_more makers m before here n k there = elim (more_at makers m k n there) [
@@ -141,9 +143,11 @@ module _ (P : Bytecode) (steps t : ℕ) (es : List Entry) where
 
   -- ## Along the list
 
+  -- before the first entry no maker is told
   pub none_made : Fits P (fresh P t steps) → EachBeginsRight P es → AreMadeTo P steps t es (outset P t steps) []
   none_made fits right = record { at = begins P steps t es fits right; made = λ n m there. absurd (cc) }
 
+  -- a reply that leaves no entry keeps the makers that are told
   pub goes_quietly : (p q : Progress) (makers : List Maker) → AreMadeTo P steps t es p makers → touched p ≤ TX_VARIABLES
       → GoesQuietly P p (drop (length makers) es) q → CanGo P q → AreMadeTo P steps t es q makers
   goes_quietly p q makers so_far few goes can = record {
@@ -151,6 +155,7 @@ module _ (P : Bytecode) (steps t : ℕ) (es : List Entry) where
     made = so_far.made;
   }
 
+  -- an entry that is passed adds its maker to those that are told
   pub goes_by : (p q : Progress) (makers : List Maker) (m : Maker) → AreMadeTo P steps t es p makers → touched p ≤ TX_VARIABLES
       → PassesBy P p (drop (length makers) es) q m → CanGo P q → AreMadeTo P steps t es q (makers ++ m ∷ [])
   goes_by p q makers m so_far few passes can =
@@ -183,6 +188,8 @@ module _ (P : Bytecode) (steps t : ℕ) (es : List Entry) where
   left_over p n ends over runs (Abort tx why ∷ l) is =
       absurd ((unwhole_fails P steps t es p n ends over (λ w. (let same = w.same in cc))).not_whole runs)
 
+  -- where a machine stops at the end of a list that it runs, the makers told and a note for the last entry are the makers of the
+  -- list
   pub all_made : (p : Progress) (makers : List Maker) → AreMadeTo P steps t es p makers → touched p ≤ TX_VARIABLES
       → Stops P p (drop (length makers) es) → EndsWithOver es → Runs P steps t es → AreMakers P steps t es (makers ++ Note ∷ [])
   all_made p makers so_far few stops over runs =

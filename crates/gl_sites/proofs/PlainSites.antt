@@ -55,6 +55,7 @@ no_note x nth cached write value raised e is note =
 
 module _ (P : Bytecode) (steps t : ℕ) (list : List Entry) (n : ℕ) (text : List ℕ) (inputs : List ℤ) (says : IsText text P inputs)
     (x nth : ℕ) (cached write : Bool) (value : ℤ) (raised : Bool) (there : At list n (Plain x nth cached write value raised)) where
+  -- where a plain access answers a machine, it has a line of the program's text
   from_answer : (p : Progress) → IsAnswered P steps t list n p → HasLine text P steps t list n
   from_answer p is =
       let same : is.entry ≡ Plain x nth cached write value raised = (let a = is.there in let b = there in cc) in
@@ -72,6 +73,7 @@ module _ (P : Bytecode) (steps t : ℕ) (list : List Entry) (n : ℕ) (text : Li
         is_line = line.1;
       }
 
+  -- a plain access in a list that its machine runs has a line of the program's text
   has_line : Runs P steps t list → HasLine text P steps t list n
   has_line runs =
       elim (some_maker P steps t list n runs (slice_get_within list n (Plain x nth cached write value raised) there)) [
