@@ -28,7 +28,7 @@ use Rattle.gl_bytecode.specs.Attending.{IsAskedInside, Attends, runs_after}
 
 -- ## What a row asks inside an attempt
 
--- what an instruction comes to minds attempts: unless it is barred in one it asks what may be asked there and does not halt; only ret returns
+-- what an instruction comes to minds attempts: unless barred in one it asks what may be asked there and does not halt; only ret returns
 abbrev Minds : Instr → Outcome → Type 0
 Minds i (Asks ask) = is_barred i ≡ false → IsAskedInside ask
 Minds i Halts = is_barred i ≡ true
