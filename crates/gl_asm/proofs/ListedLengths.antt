@@ -16,17 +16,21 @@ use Rattle.gl_asm.specs.Listable.{IsValue}
 use Rattle.gl_asm.proofs.ListedNumbers.{few_digits, few_digits_below}
 use Rattle.gl_asm.proofs.ListedWords.{Fits, catch_words, class_words, header_words, instr_words, label_words, operand_words, short_keyword}
 
+-- one word more before others makes a line longer by the word and one blank
 one_longer : (w v : List ℕ) (ws : List (List ℕ)) → length (spaced (w ∷ v ∷ ws)) ≡ length w + (1 + length (spaced (v ∷ ws)))
 one_longer w v ws = omega (arith, length-append w (codes " " ++ spaced (v ∷ ws)))
 
+-- an index is written with five digits at most
 short_number : (n : ℕ) → n ≤ MOST_INDEX → length (decimal n) ≤ 5
 short_number n small = length-decimal-le 5 n (omega arith) (omega arith) (omega arith)
 
+-- an integer of 64 bits is written with 20 bytes at most
 short_value : (z : ℤ) → IsValue z → length (signed_decimal z) ≤ 20
 short_value (pos n) is = omega (arith, length-decimal-le 19 n (omega arith) (few_digits n is.1) (omega (arith, few_digits n is.1)))
 short_value (negsuc n) is =
     omega (arith, length-decimal-le 19 (suc n) (omega arith) (few_digits_below n is.0) (omega (arith, few_digits_below n is.0)))
 
+-- a function's name in a listing is six bytes at most
 short_function : (main f : ℕ) → f ≤ MOST_INDEX → length (function_name main f) ≤ 6
 short_function main f small = of_function (λ name. length name ≤ 6) main f (omega arith) (omega (arith, short_number f small))
 
@@ -35,6 +39,7 @@ four_words : (first a b c : List ℕ) → length (spaced (first ∷ a ∷ b ∷ 
 four_words first a b c =
     omega (arith, one_longer first a (b ∷ c ∷ []), one_longer a b (c ∷ []), one_longer b c [])
 
+-- a class's line is 24 bytes at most
 pub class_length : (c : ℕ) (fields : Fields) → c ≤ MOST_INDEX → fields.plain ≤ MOST_INDEX → fields.volatile ≤ MOST_INDEX
     → length (spaced (class_words c fields)) ≤ 24
 class_length c fields small plain volatile =
@@ -46,6 +51,7 @@ class_length c fields small plain volatile =
       short_number fields.volatile volatile,
     )
 
+-- a function's header is 23 bytes at most
 pub header_length : (main f args locals : ℕ) → f ≤ MOST_INDEX → args ≤ MOST_INDEX → locals ≤ MOST_INDEX
     → length (spaced (header_words main f args locals)) ≤ 23
 header_length main f args locals small few short =
@@ -57,9 +63,11 @@ header_length main f args locals small few short =
       short_number locals short,
     )
 
+-- a label's line is seven bytes at most
 pub label_length : (at : ℕ) → at ≤ MOST_INDEX → length (spaced (label_words at)) ≤ 7
 label_length at small = omega (arith, length-append (label_name at) (codes ":"), short_number at small)
 
+-- a catch's line is 28 bytes at most
 pub catch_length : (c : Catch) → c.from ≤ MOST_INDEX → c.to ≤ MOST_INDEX → c.target ≤ MOST_INDEX → length (indented (catch_words c)) ≤ 28
 catch_length c from to target =
     omega (
@@ -70,6 +78,7 @@ catch_length c from to target =
       short_number c.target target,
     )
 
+-- a word of seven bytes at most takes 34 with its operands, where they fit
 operand_length : (main : ℕ) (word : List ℕ) (o : Operand) → length word ≤ 7 → Fits o → length (spaced (word ∷ operand_words main o)) ≤ 34
 operand_length main word Nothing short fits = omega arith
 operand_length main word (Value n) short fits = omega (arith, one_longer word (signed_decimal n) [], short_value n fits)
@@ -88,5 +97,6 @@ operand_length main word (Label to) short fits = omega (arith, one_longer word (
 operand_length main word (Function f) short fits = omega (arith, one_longer word (function_name main f) [], short_function main f fits)
 operand_length main word (Class c) short fits = omega (arith, one_longer word (class_name c) [], short_number c fits)
 
+-- an instruction's line is 36 bytes at most, where its operands fit
 pub instr_length : (main : ℕ) (i : Instr) → Fits (operand_of i) → length (indented (instr_words main i)) ≤ 36
 instr_length main i fits = omega (arith, operand_length main (word_of i) (operand_of i) (short_keyword i) fits)

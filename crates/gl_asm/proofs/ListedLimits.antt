@@ -34,6 +34,7 @@ pub record Limits (P : Bytecode) : Type 0 where
   pub each_function : list_any is_long_function P.functions ≡ false
   pub each_class : list_any is_long_class P.classes ≡ false
 
+-- a program that is not too long keeps to each single limit
 pub limits_of : (P : Bytecode) → is_too_long P ≡ false → Limits P
 limits_of P short =
     let a = neither _ _ short in
@@ -48,11 +49,13 @@ limits_of P short =
       each_class = a.1;
     }
 
+-- each class of a program that is not too long has no more fields than a class may have
 pub short_classes : (P : Bytecode) → is_too_long P ≡ false → AllByRecursion IsShortClass P.classes
 short_classes P short = all_from IsShortClass P.classes (λ k fields is.
     let ends = neither _ _ (none_at is_long_class P.classes k fields (limits_of P short).each_class is) in
     (not_more VARIABLES fields.plain ends.0, not_more VOLATILES fields.volatile ends.1))
 
+-- where the arguments of a function are counted, there is the function
 args_there : (n : ℕ) (o : Option Function) → has_args n o ≡ true → (F : Function) × (o ≡ Some F)
 args_there n None is = cc
 args_there n (Some F) is = (F, refl)
@@ -61,20 +64,25 @@ args_there n (Some F) is = (F, refl)
 function_there : (P : Bytecode) (n f : ℕ) → has_args n (function_at P f) ≡ true → f < length P.functions
 function_there P n f is = let there = args_there n (function_at P f) is in slice_get_within P.functions f there.0 there.1
 
+-- the main of a faultless program is one of its functions
 pub has_main : (P : Bytecode) → IsFaultless P → P.main < length P.functions
 has_main P ok = function_there P 0 P.main ok.main
 
 -- ## Labels
 
+-- where an element at some place passes a test, some element of the list passes it
 some_has : {X : Type 0} (p : X → Bool) (xs : List X) (k : ℕ) (x : X) → slice_get xs k ≡ Some x → p x ≡ true → list_any p xs ≡ true
 some_has p xs k x is has = list_any_at p xs k x (slice_get_within xs k x is) (ap p (get_or_from_slice_get xs k x x is) ∙ has)
 
+-- a number is equal to itself
 itself : (n : ℕ) → (n == n) ≡ true
 itself n = grind (arith, nat_tests)
 
+-- a test for less that is true says less
 less : (a b : ℕ) → nat_lt a b ≡ true → a < b
 less a b is = grind (arith, nat_tests)
 
+-- a test for at most that is true says at most
 at_most : (a b : ℕ) → nat_le a b ≡ true → a ≤ b
 at_most a b is = grind (arith, nat_tests)
 
@@ -95,20 +103,24 @@ catch_label F k h at there names within =
     let jumps = list_any (λ j. is_label at (operand_of j)) F.code in
     (within, ap (λ b. jumps || b) some ∙ or-true jumps)
 
+-- where the first of three holds, one of them does
 first_of_three : (a b c : Bool) → a ≡ true → (a || b || c) ≡ true
 first_of_three true b c is = refl
 first_of_three false b c is = cc
 
+-- where the second of three holds, one of them does
 second_of_three : (a b c : Bool) → b ≡ true → (a || b || c) ≡ true
 second_of_three true b c is = refl
 second_of_three false true c is = refl
 second_of_three false false c is = cc
 
+-- where the third of three holds, one of them does
 third_of_three : (a b c : Bool) → c ≡ true → (a || b || c) ≡ true
 third_of_three true b c is = refl
 third_of_three false true c is = refl
 third_of_three false false c is = is
 
+-- the three places of each catch of a function whose names are right are places that get labels
 handler_there : (P : Bytecode) (F : Function) → IsNamed P F → (k : ℕ) (h : Catch) → slice_get F.catches k ≡ Some h → IsHandler F h
 handler_there P F named k h is =
     let all = holds _ _ (catch_named P F named k h is) in
@@ -127,6 +139,7 @@ handler_there P F named k h is =
 
 -- ## Operands
 
+-- what an instruction names is there, where the instruction has no fault
 there_of : (P : Bytecode) (F : Function) (at : ℕ) (i : Instr) → slice_get F.code at ≡ Some i → instr_fault P F i ≡ None
     → IsThere P F (operand_of i)
 there_of P F at (Jump to) there right = jump_label F at (Jump to) to there refl (holds (nat_lt to (length F.code)) _ right)
@@ -137,6 +150,7 @@ there_of P F at (Fork f) there right = function_there P 1 f (holds (has_args 1 (
 there_of P F at (New c) there right = less c (length P.classes) (holds (nat_lt c (length P.classes)) _ right)
 there_of P F at _ there right = tt
 
+-- an operand fits a line, where it is of its type and the code that is thrown is in range
 fits_if : (i : Instr) → ThrowsInRange i → IsTyped (operand_of i) → Fits (operand_of i)
 fits_if (Push n) thrown typed = typed
 fits_if (Load k) thrown typed = typed
@@ -155,11 +169,13 @@ fits_if (Vput k) thrown typed = typed
 fits_if (Fork f) thrown typed = typed
 fits_if _ thrown typed = tt
 
+-- what holds of all elements holds of the one at each place
 holds_at : {X : Type 0} (P : X → Type 0) (xs : List X) (k : ℕ) (x : X) → AllByRecursion P xs → slice_get xs k ≡ Some x → P x
 holds_at P [] k x all is = cc
 holds_at P (y ∷ xs) zero x all is = let same : y ≡ x = cc in subst P same all.0
 holds_at P (y ∷ xs) (suc k) x all is = holds_at P xs k x all.1 is
 
+-- the operands of an instruction that is there fit a line, where codes are in range and operands of their types
 fit_of : (P : Bytecode) (o : Option Function) (at : ℕ) (i : Instr) → ((F : Function) → o ≡ Some F → AllByRecursion ThrowsInRange F.code)
     → AreTyped (code_of o)
     → option_and_then (λ (F : Function). slice_get F.code at) o ≡ Some i → Fits (operand_of i)
@@ -175,6 +191,7 @@ fits_at P thrown typed f at i is =
 
 -- ## Functions
 
+-- each function of a faultless program can be listed, where its codes are in range and its operands of their types
 pub listable : (P : Bytecode) → IsFaultless P → AllThrowInRange P.functions → OperandsAreTyped P → (f : ℕ) (F : Function) → function_at P f
     ≡ Some F → IsListable P F
 listable P ok thrown typed f F is =

@@ -24,6 +24,7 @@ use Rattle.gl_asm.proofs.ListedSize.{rows_fit}
 use Rattle.gl_asm.proofs.ListedTable.{Stands, nothing_free}
 use Rattle.gl_asm.proofs.ListedWalk.{IsListable, IsShortClass, Meant, classes_draft, walk_classes, walk_functions}
 
+-- a name that means a number has a definition with this number
 number_is : (o : Option Definition) (n : ℕ) → meant o ≡ Ok n → option_map (λ (d : Definition). d.number) o ≡ Some n
 number_is None n is = cc
 number_is (Some d) n is = let e : d.number ≡ n = cc in ap Some e
@@ -48,13 +49,16 @@ rows_say P ok classes functions =
     (ap (meaning_of T Functions) (sym (main_is P.main)) ∙ known.1 P.main (has_main P ok)) in
     sym (others.0 known) ∙ ap (λ m. Ok (record { classes = P.classes; functions = P.functions; main = m }, [])) main
 
+-- what is at most as great does not pass a test for greater
 not_over : (a b : ℕ) → b ≤ a → nat_lt a b ≡ false
 not_over a b most = grind (arith, nat_tests)
 
+-- a text that is not too long is read by its lines
 read_short : (text : List ℕ) → length text ≤ LONGEST → text_read text ≡ lines_read (lines text)
 unfolding text_read
 read_short text short = rw (not_over LONGEST (length text) short) refl
 
+-- the listing of a faultless program whose codes are in range and whose operands are of their types is a text of that program
 pub listing_is_text : (P : Bytecode) → IsFaultless P → AllThrowInRange P.functions → OperandsAreTyped P → IsText (listing P) P []
 listing_is_text P ok thrown typed =
     let classes = short_classes P ok.short in
@@ -67,6 +71,7 @@ listing_is_text P ok thrown typed =
       faultless = ok;
     }
 
+-- a reading that is all right gives one draft and one list of inputs
 same_draft : (r : Result (Draft × List ℤ) LineFault) (a b : Draft × List ℤ) → r ≡ Ok a → r ≡ Ok b → b ≡ a
 same_draft r a b one two = cc
 

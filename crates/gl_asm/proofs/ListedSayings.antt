@@ -43,28 +43,35 @@ Known table c main (OfFunction f) = meaning_of table Functions (function_name ma
 Known table c main (Class k) = meaning_of table Classes (class_name k) ≡ Ok k
 Known table c main _ = Unit {0}
 
+-- a value that is written after an instruction's word is read as its operand
 value_operand : (t : Instr) (n : ℤ) → IsValue n → with_value t (signed_decimal n ∷ []) ≡ Ok (filled t 0 n)
 value_operand t n is = ap (λ r. r >>= (λ z. Ok (filled t 0 z))) (value_decimal n is)
 
+-- an index is read back from its digits
 index_back : (k : ℕ) → k ≤ MOST_INDEX → count_of 0 MOST_INDEX (decimal k) ≡ Ok k
 index_back k small = count_decimal 0 MOST_INDEX k (omega arith) small (omega arith)
 
+-- an index that is written after an instruction's word is read as its operand
 index_operand : (t : Instr) (k : ℕ) → k ≤ MOST_INDEX → with_index t (decimal k ∷ []) ≡ Ok (filled t k (pos 0))
 index_operand t k small = ap (λ r. r >>= (λ j. Ok (filled t j (pos 0)))) (index_back k small)
 
+-- an index and a value that are written after an instruction's word are read as its operands
 both_operands : (t : Instr) (k : ℕ) (n : ℤ) → k ≤ MOST_INDEX → IsValue n → with_both t (decimal k ∷ signed_decimal n ∷ [])
     ≡ Ok (filled t k n)
 both_operands t k n small is =
     ap (λ r. r >>= (λ j. value_of (signed_decimal n) >>= (λ z. Ok (filled t j z)))) (index_back k small)
     ∙ ap (λ r. r >>= (λ z. Ok (filled t k z))) (value_decimal n is)
 
+-- a code in range that is written after `throw` is the code that is thrown
 code_operand : (code : ℕ) → LEAST_THROWN ≤ code → code ≤ MOST_THROWN → with_code (decimal code ∷ []) ≡ Ok (Throw code)
 code_operand code low high = ap (λ r. r >>= (λ k. Ok (Throw k))) (count_decimal LEAST_THROWN MOST_THROWN code low high (omega arith))
 
+-- a name with a meaning that is written after an instruction's word is read as that number
 name_operand : (table : List Definition) (scope : Scope) (t : Instr) (name : List ℕ) (number : ℕ) → meaning_of table scope name ≡ Ok number
     → with_meaning table scope t (name ∷ []) ≡ Ok (filled t number (pos 0))
 name_operand table scope t name number known = ap (λ r. r >>= (λ k. Ok (filled t k (pos 0)))) known
 
+-- the operands of a listed instruction are read back, where they fit and the names they need are known
 operands_are : (table : List Definition) (c : Counts) (main : ℕ) (i : Instr) → Fits (operand_of i) → Known table c main (operand_of i)
     → with_operands table c (template_for i) (operand_of (template_for i)) (operand_words main (operand_of i)) ≡ Ok i
 unfolding with_operands
@@ -111,6 +118,7 @@ operands_are table c main Commit fits known = refl
 operands_are table c main Print fits known = refl
 operands_are table c main Input fits known = refl
 
+-- the words of a listed instruction say that instruction, where operands fit and names are known
 says_instr : (table : List Definition) (c : Counts) (main : ℕ) (i : Instr) → Fits (operand_of i) → Known table c main (operand_of i)
     → instruction_of table c (template_for i) (operand_words main (operand_of i)) ≡ Ok (AddsInstruction i)
 unfolding instruction_of
@@ -130,9 +138,11 @@ says table c line have text ws form a plain are tell placed ok =
     ∙ cond-true (is_placed c form) (form_says table c line have form ws) (Err MISPLACED) placed
     ∙ ok
 
+-- before the inputs and inside a function both tests for an instruction's line hold
 before_inputs : (c : Counts) (inside : Bool) → c.given ≡ false → inside ≡ true → (not c.given && inside) ≡ true
 before_inputs c inside first is = and_from (not c.given) inside (not_from_false c.given first) is
 
+-- the line of a listed instruction adds that instruction, inside a function and before the inputs
 pub said_instr : (table : List Definition) (c : Counts) (line have main : ℕ) (i : Instr) → c.given ≡ false → (c.functions == 0) ≡ false
     → Fits (operand_of i) → Known table c main (operand_of i)
     → said table c line have (indented (instr_words main i)) ≡ Ok (AddsInstruction i)
@@ -143,6 +153,7 @@ said_instr table c line have main i first inside fits known =
     (plain_indented (instr_words main i) are) (words_indented (instr_words main i) are) (instr_form main i)
     (before_inputs c (not (c.functions == 0)) first (not_from_false (c.functions == 0) inside)) (says_instr table c main i fits known)
 
+-- the words of a listed class say a class of those fields, where its name is new and there is room
 says_class : (table : List Definition) (c : Counts) (line k : ℕ) (fields : Fields)
     → new_name table Classes line (nat_lt c.classes CLASSES) (class_name k) ≡ Ok tt
     → fields.plain ≤ VARIABLES → fields.volatile ≤ VOLATILES
@@ -156,6 +167,7 @@ says_class table c line k fields named plain volatile =
     (count_decimal 0 VARIABLES fields.plain (omega arith) plain (omega arith))
     ∙ ap (λ r. r >>= (λ v. Ok (AddsClass fields.plain v))) (count_decimal 0 VOLATILES fields.volatile (omega arith) volatile (omega arith))
 
+-- the line of a listed class adds that class, before all functions and the inputs
 pub said_class : (table : List Definition) (c : Counts) (line have k : ℕ) (fields : Fields) → c.given ≡ false → (c.functions == 0) ≡ true
     → new_name table Classes line (nat_lt c.classes CLASSES) (class_name k) ≡ Ok tt → k ≤ MOST_INDEX → fields.plain ≤ VARIABLES
     → fields.volatile ≤ VOLATILES
@@ -167,6 +179,7 @@ said_class table c line have k fields first before named small plain volatile =
     (plain_spaced (class_words k fields) are) (words_spaced (class_words k fields) are) (class_form k fields)
     (before_inputs c (c.functions == 0) first before) (says_class table c line k fields named plain volatile)
 
+-- the words of a listed header say a function of those arguments and locals, where its name is new and there is room
 says_header : (table : List Definition) (c : Counts) (line main f args locals : ℕ)
     → new_name table Functions line (nat_lt c.functions FUNCTIONS) (function_name main f) ≡ Ok tt
     → args ≤ LOCALS → locals ≤ LOCALS
@@ -179,6 +192,7 @@ says_header table c line main f args locals named few short =
     (count_decimal 0 LOCALS args (omega arith) few (omega arith))
     ∙ ap (λ r. r >>= (λ l. Ok (AddsFunction args l))) (count_decimal 0 LOCALS locals (omega arith) short (omega arith))
 
+-- the line of a listed header adds that function, before the inputs
 pub said_header : (table : List Definition) (c : Counts) (line have main f args locals : ℕ) → c.given ≡ false
     → new_name table Functions line (nat_lt c.functions FUNCTIONS) (function_name main f) ≡ Ok tt → f ≤ MOST_INDEX → args ≤ LOCALS
     → locals ≤ LOCALS
@@ -190,12 +204,14 @@ said_header table c line have main f args locals first named small few short =
     (plain_spaced ws are) (words_spaced ws are) (header_form main f args locals)
     (before_inputs c true first refl) (says_header table c line main f args locals named few short)
 
+-- the word of a listed label says nothing to add, where its name is new
 says_label : (table : List Definition) (c : Counts) (line at : ℕ) → new_name table (Labels c.functions) line true (label_name at) ≡ Ok tt
     → label_of_line table c line (defined_word (Some forms.Label) (label_words at)) ≡ Ok AddsNothing
 unfolding label_of_line
 says_label table c line at named =
     ap (label_of_line table c line) (label_of_colon (label_name at)) ∙ ap (λ r. r >>= (λ u. Ok AddsNothing)) named
 
+-- the line of a listed label adds nothing, inside a function and before the inputs
 pub said_label : (table : List Definition) (c : Counts) (line have at : ℕ) → c.given ≡ false → (c.functions == 0) ≡ false
     → new_name table (Labels c.functions) line true (label_name at) ≡ Ok tt → at ≤ MOST_INDEX
     → said table c line have (spaced (label_words at)) ≡ Ok AddsNothing
@@ -205,6 +221,7 @@ said_label table c line have at first inside named small =
     (plain_spaced (label_words at) are) (words_spaced (label_words at) are) (label_form at)
     (before_inputs c (not (c.functions == 0)) first (not_from_false (c.functions == 0) inside)) (says_label table c line at named)
 
+-- the words of a listed catch say that catch, where there is room and its three labels have their meanings
 says_catch : (table : List Definition) (c : Counts) (k : Catch) → nat_lt c.catches CATCHES ≡ true
     → meaning_of table (Labels c.functions) (label_name k.from) ≡ Ok k.from
     → meaning_of table (Labels c.functions) (label_name k.to) ≡ Ok k.to
@@ -220,6 +237,7 @@ says_catch table c k room from to target =
     ∙ ap (λ r. r >>= (λ y. meaning k.target >>= (λ z. Ok (AddsCatch (record { from = k.from; to = y; target = z }))))) to
     ∙ ap (λ r. r >>= (λ z. Ok (AddsCatch (record { from = k.from; to = k.to; target = z })))) target
 
+-- the line of a listed catch adds that catch, inside a function and before the inputs
 pub said_catch : (table : List Definition) (c : Counts) (line have : ℕ) (k : Catch) → c.given ≡ false → (c.functions == 0) ≡ false
     → nat_lt c.catches CATCHES ≡ true
     → meaning_of table (Labels c.functions) (label_name k.from) ≡ Ok k.from

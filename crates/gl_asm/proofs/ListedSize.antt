@@ -21,6 +21,7 @@ use Rattle.gl_asm.proofs.ListedWords.{catch_are_words, catch_words, class_are_wo
 abbrev pub AreRows : List (List ℕ) → ℕ → Type 0
 AreRows rs most = AllByRecursion IsPlain rs × (length (flat_map ended rs) ≤ most)
 
+-- one row more takes as many bytes more as it has, and one for its line feed
 row_more : (row : List ℕ) (rest : List (List ℕ)) (bytes most : ℕ) → IsPlain row → length row ≤ bytes → AreRows rest most
     → AreRows (row ∷ rest) (bytes + 1 + most)
 row_more row rest bytes most plain short are =
@@ -30,6 +31,7 @@ row_more row rest bytes most plain short are =
 more_room : (rs : List (List ℕ)) (few most : ℕ) → few ≤ most → AreRows rs few → AreRows rs most
 more_room rs few most less are = (are.0, omega (arith, are.1))
 
+-- each class's row takes 25 bytes at most
 class_sizes : (c : ℕ) (Cs : List Fields) (rest : List (List ℕ)) (most : ℕ) → c + length Cs ≤ CLASSES → AllByRecursion IsShortClass Cs
     → AreRows rest most
     → AreRows (class_rows c Cs rest) (25 * length Cs + most)
@@ -44,12 +46,14 @@ class_sizes c (fields ∷ Cs) rest most room short are =
     (plain_spaced (class_words c fields) (class_are_words c fields small plain volatile))
     (class_length c fields small plain volatile) others)
 
+-- a label's row takes eight bytes at most
 label_sizes : (named : Bool) (at : ℕ) (rest : List (List ℕ)) (most : ℕ) → at ≤ MOST_INDEX → AreRows rest most
     → AreRows (label_rows named at rest) (8 + most)
 label_sizes true at rest most small are =
     row_more (label_row at) rest 7 most (plain_spaced (label_words at) (label_are_words at small)) (label_length at small) are
 label_sizes false at rest most small are = more_room rest most (8 + most) (omega arith) are
 
+-- each catch's row takes 29 bytes at most
 catch_sizes : (F : Function) (hs : List Catch) (rest : List (List ℕ)) (most : ℕ) → length F.code ≤ CODE → AllByRecursion (IsHandler F) hs
     → AreRows rest most
     → AreRows (catch_rows hs rest) (29 * length hs + most)
@@ -63,6 +67,7 @@ catch_sizes F (h ∷ hs) rest most short there are =
     (plain_indented (catch_words h) (catch_are_words h from to target))
     (catch_length h from to target) (catch_sizes F hs rest most short there.1 are))
 
+-- each instruction's row takes 45 bytes at most, with that of its label
 code_sizes : (P : Bytecode) (F : Function) (at : ℕ) (is : List Instr) (rest : List (List ℕ)) (most : ℕ) → at + length is ≤ CODE
     → AllByRecursion (IsSayable P F) is → AreRows rest most
     → AreRows (code_rows P.main (names_of F) at is rest) (45 * length is + most)
@@ -77,6 +82,7 @@ code_sizes P F at (i ∷ is) rest most room said are =
     (omega arith)
     (label_sizes (names_of F at) at (instr_row P.main i ∷ next) (36 + 1 + (45 * length is + most)) (omega arith) line)
 
+-- a function's rows take 45 bytes for each instruction and 496 for all else, at most
 function_sizes : (P : Bytecode) (F : Function) (f : ℕ) (rest : List (List ℕ)) (most : ℕ) → f < FUNCTIONS → IsListable P F
     → AreRows rest most
     → AreRows (function_rows P.main f F rest) (45 * length F.code + 496 + most)
@@ -98,6 +104,7 @@ function_sizes P F f rest most room is are =
     (plain_spaced (header_words P.main f F.args F.locals) (header_are_words P.main f F.args F.locals (omega arith) args locals))
     (header_length P.main f F.args F.locals (omega arith) args locals) code)
 
+-- the rows of all functions take 45 bytes for each of all instructions and 496 for each function, at most
 functions_sizes : (P : Bytecode) (f : ℕ) (Gs : List Function) → f + length Gs ≤ FUNCTIONS → AllByRecursion (IsListable P) Gs
     → AreRows (functions_rows P.main f Gs) (45 * sum_by (λ (F : Function). length F.code) Gs + 496 * length Gs)
 functions_sizes P f [] room are = (tt, omega arith)

@@ -26,10 +26,12 @@ use Rattle.gl_asm.proofs.Reading.{line_more}
 
 -- ## Counts
 
+-- the counts of so many classes, functions, places and catches, before the inputs
 abbrev pub counts : ℕ → ℕ → ℕ → ℕ → Counts
 counts classes functions places catches =
     record { classes = classes; functions = functions; places = places; catches = catches; given = false }
 
+-- a count below its upper end goes up by one
 pub more_is : (n : ℕ) → n < MOST_INDEX → more n ≡ n + 1
 more_is n below = omega arith
 
@@ -39,26 +41,32 @@ more_is n below = omega arith
 abbrev pub IsFree : List Definition → Scope → List ℕ → Type 0
 IsFree before scope name = find (defines scope name) before ≡ None
 
+-- a word has the same bytes as itself
 same_bytes : (w : List ℕ) → bytes_eq w w ≡ true
 same_bytes w = (bytes_eq-Decides w w).1 refl
 
+-- a scope is the same as itself
 itself : (scope : Scope) → same_scope scope scope ≡ true
 itself Classes = refl
 itself Functions = refl
 itself (Labels f) = grind (arith, nat_tests)
 
+-- the definition of a name in a scope, at a line, with a number
 abbrev pub definition : Scope → List ℕ → ℕ → ℕ → Definition
 definition scope name line number = record { scope = scope; name = name; line = line; number = number }
 
+-- a definition defines its own name in its own scope
 pub defines_itself : (scope : Scope) (name : List ℕ) (line number : ℕ) → defines scope name (definition scope name line number) ≡ true
 defines_itself scope name line number = ap (λ b. b && bytes_eq name name) (itself scope) ∙ same_bytes name
 
+-- an element that passes is found where none before it does
 find_first : (p : Definition → Bool) (before : List Definition) (d : Definition) (behind : List Definition) → find p before ≡ None → p d
     ≡ true
     → find p (before ++ d ∷ behind) ≡ Some d
 find_first p before d behind none is =
     find-append p before (d ∷ behind) ∙ ap (λ o. option_or o (find p (d ∷ behind))) none ∙ ap (λ b. cond b (Some d) (find p behind)) is
 
+-- none is found where none was, and one that does not pass is put at the end
 find_none : (p : Definition → Bool) (before : List Definition) (d : Definition) → find p before ≡ None → p d ≡ false
     → find p (before ++ d ∷ []) ≡ None
 find_none p before d none is = find-append p before (d ∷ []) ∙ ap (λ o. option_or o (find p (d ∷ []))) none
@@ -71,18 +79,22 @@ found_here T before behind scope name line number free is =
     ap (λ t. find (defines scope name) t) is
     ∙ find_first (defines scope name) before (definition scope name line number) behind free (defines_itself scope name line number)
 
+-- a name whose first definition has a number means that number
 pub means : (T : List Definition) (scope : Scope) (name : List ℕ) (line number : ℕ) → first_definition T scope name
     ≡ Some (definition scope name line number)
     → meaning_of T scope name ≡ Ok number
 means T scope name line number is = ap meant is
 
+-- no number is less than itself
 not_less : (n : ℕ) → nat_lt n n ≡ false
 not_less n = grind (arith, nat_tests)
 
+-- a name whose first definition is in this very line is new there, where it is a name and there is room
 pub is_new : (T : List Definition) (scope : Scope) (name : List ℕ) (line number : ℕ) (room : Bool) → is_name name ≡ true → room ≡ true
     → first_definition T scope name ≡ Some (definition scope name line number) → new_name T scope line room name ≡ Ok tt
 is_new T scope name line number room named there is = rw named (rw there (rw is (rw (not_less line) refl)))
 
+-- a line with a name in the place for it defines that name
 pub is_defined : (scope : Scope) (name : List ℕ) (line number : ℕ) → is_name name ≡ true → named scope line number (Some name)
     ≡ Some (definition scope name line number)
 is_defined scope name line number is = rw is refl
@@ -97,9 +109,11 @@ pub record AreFree (before : List Definition) (main classes functions label : �
   pub of_labels : (g at : ℕ) → functions < g → IsFree before (Labels g) (label_name at)
   pub here : (at : ℕ) → label ≤ at → at ≤ MOST_INDEX → IsFree before (Labels functions) (label_name at)
 
+-- a number that is less than another is not equal to it
 differ : (a b : ℕ) → a < b → (a == b) ≡ false
 differ a b less = grind (arith, nat_tests)
 
+-- no name is defined before the first line
 pub nothing_free : (main : ℕ) → AreFree [] main 0 0 0
 nothing_free main = record {
   of_classes = λ k from most. refl;
@@ -108,6 +122,7 @@ nothing_free main = record {
   here = λ at from most. refl;
 }
 
+-- a class's line defines its own name, and the names of all later classes, functions and labels stay free
 pub free_class : (before : List Definition) (main classes functions label line : ℕ) → AreFree before main classes functions label
     → classes ≤ MOST_INDEX
     → AreFree (before ++ definition Classes (class_name classes) line classes ∷ []) main (classes + 1) functions label
@@ -121,6 +136,7 @@ free_class before main classes functions label line free within =
       here = λ at from most. find_none (defines (Labels functions) (label_name at)) before d (free.here at from most) refl;
     }
 
+-- a function's header defines its own name, and the names of later functions and of all its labels stay free
 pub free_function : (before : List Definition) (main classes functions label line : ℕ) → AreFree before main classes functions label
     → functions ≤ MOST_INDEX
     → AreFree (before ++ definition Functions (function_name main functions) line functions ∷ []) main classes (functions + 1) 0
@@ -135,6 +151,7 @@ free_function before main classes functions label line free within =
           (free.of_labels (functions + 1) at (omega arith)) refl;
     }
 
+-- a label's line defines its own name, and the names of the function's later labels stay free
 pub free_label : (before : List Definition) (main classes functions label line : ℕ) → AreFree before main classes functions label
     → label ≤ MOST_INDEX
     → AreFree (before ++ definition (Labels functions) (label_name label) line label ∷ []) main classes functions (label + 1)

@@ -35,12 +35,15 @@ use Rattle.gl_asm.proofs.ListedTable.{AreFree, Stands, counts, definition, found
 use Rattle.gl_asm.proofs.ListedSayings.{Known, said_catch, said_class, said_header, said_instr, said_label}
 use Rattle.gl_asm.proofs.ListedWords.{Fits, catch_are_words, catch_form, catch_words, class_are_words, class_form, class_words, header_are_words, header_form, header_words, instr_are_words, instr_form, instr_words, label_are_words, label_form, label_words, template_for}
 
+-- what is less passes the test for less
 below : (a b : ℕ) → a < b → nat_lt a b ≡ true
 below a b less = grind (arith, nat_tests)
 
+-- where a function more is counted, there is one
 some_function : (g : ℕ) → (g + 1 == 0) ≡ false
 some_function g = grind (arith, nat_tests)
 
+-- how far a reader has come may be said with equal counts, labels and drafts
 moved : {M : Type 0} {T : List Definition} {whole : Result (Draft × List ℤ) LineFault} {main : ℕ} {left : List (List ℕ)}
     (c k : Counts) (label next : ℕ) (D E : Draft) → c ≡ k → label ≡ next → D ≡ E → Stands M T whole main c label left D
     → Stands M T whole main k next left E
@@ -51,6 +54,7 @@ moved {M} {T} {whole} {main} {left} c k label next D E same there is s =
 -- ## A row of each kind
 
 module _ {M : Type 0} {T : List Definition} {whole : Result (Draft × List ℤ) LineFault} {main : ℕ} where
+  -- a reader that comes to a class's row adds the class, and its name means its number
   class_step : (n : ℕ) (fields : Fields) (left : List (List ℕ)) (D : Draft) → n < CLASSES → fields.plain ≤ VARIABLES
       → fields.volatile ≤ VOLATILES
       → Stands M T whole main (counts n 0 0 0) 0 (class_row n fields ∷ left) D
@@ -74,6 +78,7 @@ module _ {M : Type 0} {T : List Definition} {whole : Result (Draft × List ℤ) 
         means T Classes name s.line n found,
       )
 
+  -- a reader that comes to a function's header adds the function, and its name means its number
   header_step : (n f p k label args locals : ℕ) (left : List (List ℕ)) (D : Draft) → f < FUNCTIONS → args ≤ LOCALS → locals ≤ LOCALS
       → Stands M T whole main (counts n f p k) label (header_row main f args locals ∷ left) D
       → Stands M T whole main (counts n (f + 1) 0 0) 0 left (added D (AddsFunction args locals))
@@ -97,6 +102,7 @@ module _ {M : Type 0} {T : List Definition} {whole : Result (Draft × List ℤ) 
         means T Functions name s.line f found,
       )
 
+  -- a reader that comes to a label's row adds nothing, and the label means its place
   label_step : (n g p : ℕ) (left : List (List ℕ)) (D : Draft) → p ≤ MOST_INDEX
       → Stands M T whole main (counts n (g + 1) p 0) p (label_row p ∷ left) D
       → Stands M T whole main (counts n (g + 1) p 0) (p + 1) left D × (meaning_of T (Labels (g + 1)) (label_name p) ≡ Ok p)
@@ -144,6 +150,7 @@ module _ {M : Type 0} {T : List Definition} {whole : Result (Draft × List ℤ) 
       in
       stands_on s form ws [] a k label are is adds says none count free
 
+  -- a reader that comes to an instruction's row adds the instruction, where its operands fit and the names they need are known
   instr_step : (n g p label : ℕ) (i : Instr) (left : List (List ℕ)) (D : Draft) → p < MOST_INDEX → Fits (operand_of i)
       → (M → Known T (counts n (g + 1) p 0) main (operand_of i))
       → Stands M T whole main (counts n (g + 1) p 0) label (instr_row main i ∷ left) D
@@ -156,6 +163,7 @@ module _ {M : Type 0} {T : List Definition} {whole : Result (Draft × List ℤ) 
       (λ m. said_instr T c s.line 0 main i refl (some_function g) fits (knows m)) refl
       (ap (λ q. counts n (g + 1) q 0) (more_is p most)) refl refl
 
+  -- a reader that comes to a catch's row adds the catch, where its labels mean their places
   catch_step : (n g p k label : ℕ) (h : Catch) (left : List (List ℕ)) (D : Draft) → k < CATCHES → h.from ≤ MOST_INDEX → h.to ≤ MOST_INDEX
       → h.target ≤ MOST_INDEX
       → (M → (meaning_of T (Labels (g + 1)) (label_name h.from) ≡ Ok h.from) × (meaning_of T (Labels (g + 1)) (label_name h.to) ≡ Ok h.to)
@@ -172,12 +180,15 @@ module _ {M : Type 0} {T : List Definition} {whole : Result (Draft × List ℤ) 
 
 -- ## Drafts
 
+-- the draft of classes alone, with this main
 abbrev pub classes_draft : List Fields → Option ℕ → Draft
 classes_draft Cs m = record { classes = Cs; functions = []; main = m }
 
+-- the draft whose last function is this one, after these others
 abbrev pub draft_with : List Fields → List Function → Function → Option ℕ → Draft
 draft_with Cs Fs F m = record { classes = Cs; functions = Fs ++ F ∷ []; main = m }
 
+-- a change of the last function changes the one that was put at the end
 last_changed : (change : Function → Function) (Fs : List Function) (F : Function) → with_last change (Fs ++ F ∷ []) ≡ Fs ++ change F ∷ []
 last_changed change [] F = refl
 last_changed change (G ∷ []) F = refl
@@ -185,9 +196,11 @@ last_changed change (G ∷ H ∷ Fs) F = ap (λ l. G ∷ l) (last_changed change
 
 -- ## Classes
 
+-- a class with no more fields than a class may have
 abbrev pub IsShortClass : Fields → Type 0
 IsShortClass fields = (fields.plain ≤ VARIABLES) × (fields.volatile ≤ VOLATILES)
 
+-- a reader that goes through the rows of classes has added them all, and each class's name means its number
 pub walk_classes : {M : Type 0} {T : List Definition} {whole : Result (Draft × List ℤ) LineFault} {main : ℕ} (Cs : List Fields) (n end : ℕ)
     (done all : List Fields) (m : Option ℕ) (rest : List (List ℕ))
     → end ≡ n + length Cs → end ≤ CLASSES → all ≡ done ++ Cs → AllByRecursion IsShortClass Cs
@@ -228,6 +241,7 @@ pub record IsSayable (P : Bytecode) (F : Function) (i : Instr) : Type 0 where
   pub fits : Fits (operand_of i)
   pub there : IsThere P F (operand_of i)
 
+-- a place of a function, or its end, that a jump or a catch names
 abbrev pub IsLabel : Function → ℕ → Type 0
 IsLabel F at = (at ≤ length F.code) × (names_of F at ≡ true)
 
@@ -253,6 +267,7 @@ Meant P T = ((k : ℕ) → k < length P.classes → meaning_of T Classes (class_
 abbrev pub Labelled : List Definition → ℕ → Function → Type 0
 Labelled T g F = (p : ℕ) → IsLabel F p → meaning_of T (Labels g) (label_name p) ≡ Ok p
 
+-- the name that an operand needs is known, where classes, functions and labels have their meanings
 knows : (P : Bytecode) (F : Function) (T : List Definition) (n g p k : ℕ) (o : Operand) → IsThere P F o → Meant P T → Labelled T g F
     → Known T (counts n g p k) P.main o
 knows P F T n g p k Nothing there meant labels = tt
@@ -266,11 +281,14 @@ knows P F T n g p k (Class c) there meant labels = meant.0 c there
 
 -- ## One function
 
+-- a function of which so many instructions and catches are read
 abbrev pub part : Function → List Instr → List Catch → Function
 part F code catches = record { args = F.args; locals = F.locals; code = code; catches = catches }
 
 module _ (P : Bytecode) (F : Function) (T : List Definition) (whole : Result (Draft × List ℤ) LineFault) (Cs : List Fields)
     (Fs : List Function) (m : Option ℕ) where
+  -- a reader that goes through the rows of a function's code has added all its instructions, and the labels before them mean
+  -- their places
   walk_code : (n g : ℕ) (is : List Instr) (at end : ℕ) (done all : List Instr) (rest : List (List ℕ))
       → end ≡ at + length is → end ≤ CODE → all ≡ done ++ is → AllByRecursion (IsSayable P F) is
       → Stands (Meant P T × Labelled T (g + 1) F) T whole P.main (counts n (g + 1) at 0) at (code_rows P.main (names_of F) at is rest)
@@ -304,6 +322,7 @@ module _ (P : Bytecode) (F : Function) (T : List Definition) (whole : Result (Dr
         ],
       )
 
+  -- a reader that goes through the rows of a function's catches has added them all
   walk_catches : (n g p label : ℕ) (hs : List Catch) (k end : ℕ) (done all : List Catch) (rest : List (List ℕ))
       → end ≡ k + length hs → end ≤ CATCHES → all ≡ done ++ hs → length F.code ≤ CODE → AllByRecursion (IsHandler F) hs
       → Stands (Meant P T × Labelled T (g + 1) F) T whole P.main (counts n (g + 1) p k) label (catch_rows hs rest)
@@ -335,6 +354,7 @@ weaker : {M N : Type 0} {T : List Definition} {whole : Result (Draft × List ℤ
     → (N → M) → Stands M T whole main c label left D → Stands N T whole main c label left D
 weaker so s = record { before = s.before; line = s.line; table = s.table; going = λ n. s.going (so n); free = s.free }
 
+-- a reader that goes through a function's rows has added the whole function, and its name means its number
 walk_function : (P : Bytecode) (F : Function) (T : List Definition) (whole : Result (Draft × List ℤ) LineFault) (Cs : List Fields)
     (Fs : List Function) (m : Option ℕ)
     (n f p k label : ℕ) (rest : List (List ℕ)) → f < FUNCTIONS → IsListable P F
@@ -364,6 +384,7 @@ walk_function P F T whole Cs Fs m n f p k label rest room listable s =
 
 -- ## All functions
 
+-- a reader that goes through the rows of all functions has read the whole text, and each function's name means its number
 pub walk_functions : (P : Bytecode) (T : List Definition) (whole : Result (Draft × List ℤ) LineFault) (Cs : List Fields) (m : Option ℕ)
     (Gs : List Function) (n f end p k label : ℕ) (done all : List Function) → end ≡ f + length Gs → end ≤ FUNCTIONS → all ≡ done ++ Gs
     → AllByRecursion (IsListable P) Gs

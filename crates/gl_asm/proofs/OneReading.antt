@@ -12,9 +12,11 @@ use Rattle.gl_asm.specs.Texts.{HasProgramFault, IsFirstFaultBy, IsTextBy, LineFa
 same_read : (r : Result (Draft × List ℤ) LineFault) (a b : Draft × List ℤ) → r ≡ Ok a → r ≡ Ok b → a ≡ b
 same_read r a b one two = cc
 
+-- a reading that fails has one fault
 same_fault : (r : Result (Draft × List ℤ) LineFault) (a b : LineFault) → r ≡ Err a → r ≡ Err b → a ≡ b
 same_fault r a b one two = cc
 
+-- a reading does not both succeed and fail
 not_both : (r : Result (Draft × List ℤ) LineFault) (a : Draft × List ℤ) (b : LineFault) → r ≡ Ok a → r ≡ Err b → ⊥
 not_both r a b one two = cc
 
@@ -30,6 +32,7 @@ program_faults r text a b j k one two same = (
 abbrev pub ProgramsApart : Type 0
 ProgramsApart = (P : Bytecode) (x : ProgFault) → IsFaultless P → IsProgramsFirstFault (draft_of P) x → ⊥
 
+-- a draft has one first fault at most
 abbrev pub ProgramsOnce : Type 0
 ProgramsOnce = (D : Draft) (x y : ProgFault) → IsProgramsFirstFault D x → IsProgramsFirstFault D y → x ≡ y
 

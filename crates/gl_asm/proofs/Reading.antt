@@ -27,12 +27,14 @@ pub record Reads (table : List Definition) (text : List ℕ) (parts : Draft) (in
 
 -- ## One addition more
 
+-- what is built from an addition and others is what is built from the others on the draft with that addition
 pub built_more : (D : Draft) (zs : List ℤ) (a : Addition) (r : Result (List Addition) LineFault)
     → built D zs (r >>= (λ others. Ok (a ∷ others))) ≡ built (added D a) (zs ++ inputs_in a) r
 built_more D zs a (Ok others) = ap (λ l. Ok (fold added (added D a) others, l))
     (sym (append_assoc zs (inputs_in a) (flat_map inputs_in others)))
 built_more D zs a (Err fault) = refl
 
+-- a line that says an addition puts it into the draft, and the other lines are read on with its counts
 pub line_more : (table : List Definition) (c : Counts) (n : ℕ) (D : Draft) (zs : List ℤ) (text : List ℕ) (rest : List (List ℕ))
     (a : Addition)
     → said table c n (length zs) text ≡ Ok a
@@ -47,11 +49,13 @@ line_more table c n D zs text rest a says =
 
 -- ## Functions
 
+-- a change of the last function leaves at least one function where there was one
 some_last : (change : Function → Function) (Fs : List Function) → 0 < length Fs → 0 < length (with_last change Fs)
 some_last change [] h = h
 some_last change (F ∷ []) h = omega arith
 some_last change (F ∷ G ∷ Fs) h = omega arith
 
+-- an addition leaves a function where there was one
 pub stays_some : (D : Draft) (a : Addition) → 0 < length D.functions → 0 < length (added D a).functions
 stays_some D Nothing h = h
 stays_some D (AddsClass p v) h = h
@@ -60,6 +64,7 @@ stays_some D (AddsInstruction i) h = some_last _ D.functions h
 stays_some D (AddsCatch k) h = some_last _ D.functions h
 stays_some D (AddsInputs zs) h = h
 
+-- an addition that starts a function leaves a function
 starts_some : (D : Draft) (a : Addition) → IsFunction a → 0 < length (added D a).functions
 starts_some D Nothing is = absurd is
 starts_some D (AddsClass p v) is = absurd is
@@ -68,6 +73,7 @@ starts_some D (AddsInstruction i) is = absurd is
 starts_some D (AddsCatch k) is = absurd is
 starts_some D (AddsInputs zs) is = absurd is
 
+-- where the counts say that there is a function, the draft has one, after one more line too
 pub inside_more : (D : Draft) (a : Addition) (c : Counts) (form : Option Form) → StartsFunction form a
     → (0 < c.functions → 0 < length D.functions)
     → 0 < (counted c form).functions → 0 < length (added D a).functions
@@ -80,6 +86,7 @@ inside_more D a c (Some Catch) is before h = stays_some D a (before h)
 inside_more D a c (Some Inputs) is before h = stays_some D a (before h)
 inside_more D a c (Some (Instruction i)) is before h = stays_some D a (before h)
 
+-- what a line adds has no more inputs than there is room for
 pub within_room : (functions room : ℕ) (a : Addition) → IsPlaced functions room a → length (inputs_in a) ≤ room
 within_room functions room Nothing is = omega arith
 within_room functions room (AddsClass p v) is = omega arith
@@ -90,6 +97,7 @@ within_room functions room (AddsInputs zs) is = is
 
 -- ## One line more
 
+-- a reader that has come to a line and adds what it says has come to the line after it
 pub reads_on : (table : List Definition) (text : List ℕ) (parts : Draft) (inputs : List ℤ) (c : Counts) (rest : LinesLeft)
     (line : List ℕ) (after : LinesLeft) (a : Addition) (D : Draft) (zs : List ℤ) (k : Counts)
     → Reads table text parts inputs c rest → rest.left ≡ line ∷ after.left → after.given ≡ rest.given + 1

@@ -9,10 +9,12 @@ abbrev pub behind : List ℤ → Result (List ℤ) ℕ → Result (List ℤ) ℕ
 behind zs (Ok more) = Ok (zs ++ more)
 behind zs (Err kind) = Err kind
 
+-- values after none are those values
 pub behind_nothing : (r : Result (List ℤ) ℕ) → behind [] r ≡ r
 behind_nothing (Ok zs) = refl
 behind_nothing (Err kind) = refl
 
+-- a value read and then put before the others is one more at the end of those that came before
 one_more : (zs : List ℤ) (z : ℤ) (r : Result (List ℤ) ℕ) → behind zs (r >>= (λ more. Ok (z ∷ more))) ≡ behind (zs ++ z ∷ []) r
 one_more zs z (Ok more) = ap Ok (sym (append_assoc zs (z ∷ []) more))
 one_more zs z (Err kind) = refl

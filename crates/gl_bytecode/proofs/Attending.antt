@@ -28,24 +28,29 @@ use Rattle.gl_bytecode.specs.Attending.{IsAskedInside, Attends, runs_after}
 
 -- ## What a row asks inside an attempt
 
+-- what an instruction comes to minds attempts: unless barred in one it asks what may be asked there and does not halt; only ret returns
 abbrev Minds : Instr → Outcome → Type 0
 Minds i (Asks ask) = is_barred i ≡ false → IsAskedInside ask
 Minds i Halts = is_barred i ≡ true
 Minds i (Returns a) = i ≡ Ret
 Minds i _ = Unit {0}
 
+-- what holds of both branches holds of a choice between them
 either_way : (Q : Outcome → Type 0) (b : Bool) (x y : Outcome) → Q x → Q y → Q (if b then x else y)
 either_way Q true x y one other = one
 either_way Q false x y one other = other
 
+-- an instruction on an object minds the attempt, where it does on each object
 on_some : (i : Instr) (o : Option Object) (f : Object → Outcome) → ((x : Object) → Minds i (f x)) → Minds i (on_object o f)
 on_some i None f there = tt
 on_some i (Some x) f there = there x
 
+-- joining a thread minds the attempt
 joining_minds : (t : ℕ) (a : ℤ) → Minds Join (joining t a)
 joining_minds t (pos u) = either_way (Minds Join) (nat_lt u THREADS && not (u == t)) _ _ (λ e. absurd (cc e)) tt
 joining_minds t (negsuc u) = tt
 
+-- what each instruction's row comes to minds the attempt
 row_minds : (P : Bytecode) (t : ℕ) (locals stack : List ℤ) (i : Instr) → Minds i (row P t locals stack i)
 row_minds P t locals stack (Push n) = tt
 row_minds P t locals stack Pop = tt
@@ -101,10 +106,12 @@ pub record AttendsWith (b : Bool) (d : Config) : Type 0 where
   pub runs : is_some d.attempt ≡ b
   pub attends : Attends d.attempt (ask_of d.stage)
 
+-- without an attempt anything may be asked
 none_attends : (o : Option Attempt) (ask : Ask) → o ≡ None → Attends o ask
 none_attends None ask is = tt
 none_attends (Some a) ask is = cc
 
+-- an exception that is thrown outside an attempt begins none
 thrown_none : (P : Bytecode) (code : ℕ) (c : Config) (callers : List Frame) → c.attempt ≡ None → (thrown P code c callers).attempt ≡ None
 thrown_none P code c [] none = by_handler (handler P c.frame) where
   by_handler : (o : Option Catch) → (handled_or o code c (ending_with (Uncaught code) c)).attempt ≡ None
@@ -118,19 +125,23 @@ thrown_none P code c (caller ∷ callers) none =
       by_handler None up = up
       by_handler (Some h) up = none
 
+-- a machine without an attempt attends to none
 without : (d : Config) → d.attempt ≡ None → AttendsWith false d
 without d none = record { runs = ap is_some none; attends = none_attends d.attempt (ask_of d.stage) none }
 
+-- an attempt may always ask to be dropped
 any_drops : (o : Option Attempt) → Attends o (TxEnd false)
 any_drops None = tt
 any_drops (Some b) = tt
 
+-- a machine that fails attends to its attempt, if it has one
 failed_attends : (P : Bytecode) (failure : Failure) (c : Config) (o : Option Attempt) → c.attempt ≡ o
     → AttendsWith (is_some o) (failed_in o P failure c)
 failed_attends P (RaisesOn code) c None is = without (raised P code c) (thrown_none P code c c.callers is)
 failed_attends P Spends c None is = without (failing P Spends c) is
 failed_attends P failure c (Some a) is = record { runs = ap is_some is; attends = any_drops c.attempt }
 
+-- going on may always be asked
 runs_attends : (o : Option Attempt) → Attends o Go
 runs_attends None = tt
 runs_attends (Some a) = tt
@@ -141,15 +152,18 @@ same d o is attends = record { runs = ap is_some is; attends = rw is attends }
 
 -- ## Starting an instruction
 
+-- an instruction that an attempt does not refuse is not barred in attempts
 not_barred : (a : Attempt) (c : Config) (i : Instr) → is_refused (Some a) c i ≡ false → is_barred i ≡ false
 not_barred a c Ret allowed = refl
 not_barred a c i allowed = allowed
 
+-- what an instruction that is not refused asks may be asked where the machine stands
 asks_inside : (o : Option Attempt) (c : Config) (i : Instr) (ask : Ask) → is_refused o c i ≡ false
     → (is_barred i ≡ false → IsAskedInside ask) → Attends o ask
 asks_inside None c i ask allowed minds = tt
 asks_inside (Some a) c i ask allowed minds = minds (not_barred a c i allowed)
 
+-- a barred instruction that is not refused runs outside an attempt
 halts_outside : (o : Option Attempt) (c : Config) (i : Instr) → is_refused o c i ≡ false → is_barred i ≡ true → o ≡ None
 halts_outside None c i allowed barred = refl
 halts_outside (Some a) c i allowed barred = (let free = not_barred a c i allowed in cc)
@@ -159,6 +173,7 @@ abbrev HasBelow : Option Attempt → List Frame → Type 0
 HasBelow None callers = Unit {0}
 HasBelow (Some a) callers = a.depth ≤ length callers
 
+-- a return from the outermost frame that is not refused runs outside an attempt
 returns_outside : (o : Option Attempt) (c : Config) (i : Instr) → HasBelow o c.callers → c.callers ≡ [] → is_refused o c i ≡ false → i
     ≡ Ret → o ≡ None
 returns_outside None c i over none allowed is = refl
@@ -168,6 +183,7 @@ returns_outside (Some a) c i over none allowed is =
     let same : (length c.callers == a.depth) ≡ true = (let zero' : a.depth ≡ 0 = omega (arith, over) in rw (long, zero') refl) in
     cc
 
+-- a machine that has done an instruction attends to its attempt, where the instruction is not refused and minds it
 done_attends :
     (P : Bytecode) (i : Instr) (c : Config) (outcome : Outcome) → HasBelow c.attempt c.callers → is_refused c.attempt c i ≡ false
     → Minds i outcome →
@@ -190,6 +206,7 @@ done_attends P i c Halts over allowed minds = same _ c.attempt refl (none_attend
 done_attends P i c (Raises code) over allowed minds = failed_attends P (RaisesOn code) c c.attempt refl
 done_attends P i c (Asks ask) over allowed minds = same _ c.attempt refl (asks_inside c.attempt c i ask allowed minds)
 
+-- a machine that runs the instruction at its place attends to its attempt
 ran_attends : (P : Bytecode) (c : Config) → HasBelow c.attempt c.callers → c.stage ≡ Runs → (o : Option Instr)
     → AttendsWith (is_some c.attempt) (ran P c o)
 ran_attends P c over runs None = same c c.attempt refl (rw runs (runs_attends c.attempt))
@@ -200,6 +217,7 @@ ran_attends P c over runs (Some i) = by_refusal (is_refused c.attempt c i) refl 
   by_refusal true refused = failed_attends P (RaisesOn TX_STATE) c c.attempt refl
   by_refusal false allowed = done_attends P i c _ over allowed (row_minds P c.thread c.frame.locals c.frame.stack i)
 
+-- a machine that starts its next instruction attends to its attempt
 started_attends : (P : Bytecode) (c : Config) → HasBelow c.attempt c.callers → c.stage ≡ Runs
     → AttendsWith (is_some c.attempt) (started P c)
 started_attends P c over runs = by_steps (c.counted == c.limit) where
@@ -232,27 +250,33 @@ no_start n (Alloc c) f a is = cc
 no_start n (AskPrint b) f a is = cc
 no_start n AskInput f a is = cc
 
+-- an attempt runs after an ask exactly where the ask says so
 begins_or_ends : (ask : Ask) (c : Config) → is_some (attempt_after ask c) ≡ runs_after ask (is_some c.attempt)
 begins_or_ends TxBegin c = refl
 begins_or_ends (TxEnd keep) c = refl
 begins_or_ends ask c = refl
 
+-- an ask that is answered by a value neither begins nor ends an attempt
 by_value : (n : ℕ) (ask : Ask) (a : ℤ) (b : Bool) → answers n ask (Value a) ≡ true → b ≡ runs_after ask b
 by_value n TxBegin a b taken = cc
 by_value n (TxEnd keep) a b taken = cc
 by_value n ask a b taken = refl
 
+-- after an ask that is answered by a retry no attempt runs
 by_retry : (n : ℕ) (ask : Ask) (b : Bool) → answers n ask Retry ≡ true → false ≡ runs_after ask b
 by_retry n (TxEnd keep) b taken = refl
 by_retry n ask b taken = cc
 
+-- a machine that goes back to its attempt's beginning has no attempt
 again_attends : (c : Config) (o : Option Attempt) → c.attempt ≡ o → AttendsWith false (again o c)
 again_attends c None is = without c is
 again_attends c (Some a) is = without _ refl
 
+-- a machine attends to its attempt as well where it is told by an equal truth whether one runs
 told_so : (b d : Bool) (c : Config) → b ≡ d → AttendsWith b c → AttendsWith d c
 told_so b d c is k = record { runs = k.runs ∙ is; attends = k.attends }
 
+-- a machine whose ask is answered attends to its attempt, as it runs after the ask
 settled_attends :
     (P : Bytecode) (c : Config) (ask : Ask) (reply : Reply) (n : ℕ) (i : Instr) → instr_at P c.frame.function c.frame.place ≡ Some i →
     answers n ask reply ≡ true → AttendsWith (runs_after ask (is_some c.attempt)) (settled P c ask reply)
@@ -266,6 +290,7 @@ settled_attends P c ask (Raise code) n i there taken =
 settled_attends P c ask Retry n i there taken = told_so _ _ _ (by_retry n ask (is_some c.attempt) taken) (again_attends c c.attempt refl)
 settled_attends P c ask (Start f a) n i there taken = absurd (no_start n ask f a taken)
 
+-- a machine whose attempt was dropped has no attempt
 dropped_attends : (P : Bytecode) (failure : Failure) (c : Config) (reply : Reply) → AttendsWith false (dropped P failure c reply)
 dropped_attends P (RaisesOn code) c (Raise other) = without _ (thrown_none P other (record c { attempt = None }) c.callers refl)
 dropped_attends P (RaisesOn code) c Retry = again_attends c c.attempt refl
@@ -274,6 +299,7 @@ dropped_attends P (RaisesOn code) c (Value a) = without _ (thrown_none P code (r
 dropped_attends P (RaisesOn code) c (Start f a) = without _ (thrown_none P code (record c { attempt = None }) c.callers refl)
 dropped_attends P Spends c reply = without _ refl
 
+-- a machine that begins outside an attempt has none
 begun_attends : (P : Bytecode) (c : Config) (reply : Reply) → c.attempt ≡ None → AttendsWith (is_some c.attempt) (begun P reply c)
 begun_attends P c (Start f a) none = same _ c.attempt refl (runs_attends c.attempt)
 begun_attends P c Gone none = same _ c.attempt refl (none_attends c.attempt _ none)
@@ -281,10 +307,12 @@ begun_attends P c (Value a) none = same _ c.attempt refl (none_attends c.attempt
 begun_attends P c (Raise code) none = same _ c.attempt refl (none_attends c.attempt _ none)
 begun_attends P c Retry none = same _ c.attempt refl (none_attends c.attempt _ none)
 
+-- where something else is asked than what may be asked inside an attempt, none runs
 outside : (o : Option Attempt) (ask : Ask) → (IsAskedInside ask → ⊥) → Attends o ask → o ≡ None
 outside None ask never attends = refl
 outside (Some a) ask never attends = absurd (never attends)
 
+-- a machine attends to its attempt after each reply that it takes
 next_attends :
     (P : Bytecode) (D : Depths) (c : Config) (reply : Reply) (stage : Stage) → c.stage ≡ stage → HasBelow c.attempt c.callers
     → Holds P D c stage →
@@ -303,6 +331,7 @@ next_attends P D c reply (Ends ending) is over held taken attends =
     same _ c.attempt refl (none_attends c.attempt _ (outside c.attempt End (λ e. e) attends))
 next_attends P D c reply (Over ending) is over held taken attends = cc
 
+-- a living machine has at least as many callers as its attempt had at its beginning
 lives_over : (P : Bytecode) (c : Config) (D : Depths) (a : Attempt) → c.attempt ≡ Some a → LivesWith P D c → a.depth ≤ length c.callers
 lives_over P c D a is lives = (let stands : AnyAttemptStands P D c.callers (Some a) = (rw is at lives.attempt) in stands.below)
 

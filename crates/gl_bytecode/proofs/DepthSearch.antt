@@ -19,6 +19,7 @@ use Rattle.gl_bytecode.proofs.Faultless.{IsNamed, all_from, catch_right, starts_
 
 -- ## Lists
 
+-- a claim among others and one more is among the others or is that one
 in_snoc : (claim c : Claim) (cs : List Claim) → IsIn claim (cs ++ c ∷ []) → IsIn claim cs ⊎ (c ≡ claim)
 in_snoc claim c [] (inl is) = inr is
 in_snoc claim c [] (inr no_more) = absurd no_more
@@ -28,38 +29,46 @@ in_snoc claim c (d ∷ cs) (inr later) = deeper (in_snoc claim c cs later) where
   deeper (inl there) = inl (inr there)
   deeper (inr is) = inr is
 
+-- a claim among the first of two lists is among both together
 in_left : (claim : Claim) (xs ys : List Claim) → IsIn claim xs → IsIn claim (xs ++ ys)
 in_left claim [] ys there = absurd there
 in_left claim (x ∷ xs) ys (inl is) = inl is
 in_left claim (x ∷ xs) ys (inr later) = inr (in_left claim xs ys later)
 
+-- a claim among the second of two lists is among both together
 in_right : (claim : Claim) (xs ys : List Claim) → IsIn claim ys → IsIn claim (xs ++ ys)
 in_right claim [] ys there = there
 in_right claim (x ∷ xs) ys there = inr (in_right claim xs ys there)
 
+-- what holds of all elements of two lists holds of those of the first
 all_left : {X : Type 0} (Q : X → Type 0) (xs ys : List X) → AllByRecursion Q (xs ++ ys) → AllByRecursion Q xs
 all_left Q [] ys all = tt
 all_left Q (x ∷ xs) ys all = (all.0, all_left Q xs ys all.1)
 
+-- what holds of all elements of two lists holds of those of the second
 all_right : {X : Type 0} (Q : X → Type 0) (xs ys : List X) → AllByRecursion Q (xs ++ ys) → AllByRecursion Q ys
 all_right Q [] ys all = all
 all_right Q (x ∷ xs) ys all = all_right Q xs ys all.1
 
+-- what holds of all elements of each of two lists holds of those of both together
 all_append : {X : Type 0} (Q : X → Type 0) (xs ys : List X) → AllByRecursion Q xs → AllByRecursion Q ys → AllByRecursion Q (xs ++ ys)
 all_append Q [] ys left right = right
 all_append Q (x ∷ xs) ys left right = (left.0, all_append Q xs ys left.1 right)
 
+-- what follows for each element follows for all elements of a list
 all_so : {X : Type 0} (Q R : X → Type 0) (xs : List X) → ((x : X) → Q x → R x) → AllByRecursion Q xs → AllByRecursion R xs
 all_so Q R [] so all = tt
 all_so Q R (x ∷ xs) so all = (so x all.0, all_so Q R xs so all.1)
 
 -- ## Depths
 
+-- a depth that is noted at a place is found there
 found_set : (ds : List (Option ℕ)) (k n : ℕ) → k < length ds → found (slice_set ds k (Some n)) k ≡ Some n
 found_set [] k n within = absurd (omega arith)
 found_set (d ∷ ds) zero n within = refl
 found_set (d ∷ ds) (suc k) n within = found_set ds k n (omega arith)
 
+-- a depth that is noted at one place changes what is found at no other
 found_else : (ds : List (Option ℕ)) (k j n : ℕ) → j ≢ k → found (slice_set ds k (Some n)) j ≡ found ds j
 found_else [] k j n other = refl
 found_else (d ∷ ds) zero zero n other = absurd (other refl)
@@ -67,20 +76,24 @@ found_else (d ∷ ds) zero (suc j) n other = refl
 found_else (d ∷ ds) (suc k) zero n other = refl
 found_else (d ∷ ds) (suc k) (suc j) n other = found_else ds k j n (λ same. other (ap suc same))
 
+-- before the search no depth is found anywhere
 none_found : (n at : ℕ) → found (replicate n None) at ≡ None
 none_found zero at = refl
 none_found (suc n) zero = refl
 none_found (suc n) (suc at) = none_found n at
 
+-- a list of so many depths that are not found has that length
 length_none : (n : ℕ) → (let ds : List (Option ℕ) = replicate n None in length ds) ≡ n
 length_none zero = refl
 length_none (suc n) = ap suc (length_none n)
 
+-- noting a depth leaves the list as long as it was
 length_set : (ds : List (Option ℕ)) (k : ℕ) (d : Option ℕ) → length (slice_set ds k d) ≡ length ds
 length_set [] k d = refl
 length_set (e ∷ ds) zero d = refl
 length_set (e ∷ ds) (suc k) d = ap suc (length_set ds k d)
 
+-- where a depth is noted that was unknown, one less is unknown
 unknown_set : (ds : List (Option ℕ)) (k n : ℕ) → k < length ds → found ds k ≡ None → unknown (slice_set ds k (Some n)) + 1 ≡ unknown ds
 unknown_set [] k n within none = absurd (omega arith)
 unknown_set (None ∷ ds) zero n within none = refl
@@ -90,9 +103,11 @@ unknown_set (Some m ∷ ds) (suc k) n within none = unknown_set ds k n (omega ar
 
 -- ## What is known stays known
 
+-- what was found or claimed before a step is found or claimed after it
 abbrev Keeps : List (Option ℕ) → List Claim → List (Option ℕ) → List Claim → Type 0
 Keeps ds cs ds' cs' = (to n : ℕ) → IsKnown ds cs to n → IsKnown ds' cs' to n
 
+-- an instruction that was seen counts as seen after each step that keeps what was found and claimed
 seen_still :
     (P : Bytecode) (ds ds' : List (Option ℕ)) (cs cs' : List Claim) → Keeps ds cs ds' cs' → (i : Instr) (at n : ℕ) →
     WasSeen P ds cs i at n → WasSeen P ds' cs' i at n
@@ -106,6 +121,7 @@ seen_still P ds ds' cs cs' keeps i at n seen = record {
 
 -- ## A claim that agrees with what was found
 
+-- dropping a claim whose depth is found at its place keeps all that was found or claimed
 keeps_popped : (ds : List (Option ℕ)) (cs : List Claim) (c : Claim) → found ds c.at ≡ Some c.depth → Keeps ds (cs ++ c ∷ []) ds cs
 keeps_popped ds cs c is to n (inl at) = inl at
 keeps_popped ds cs c is to n (inr there) = by_place (in_snoc _ c cs there) where
@@ -113,6 +129,7 @@ keeps_popped ds cs c is to n (inr there) = by_place (in_snoc _ c cs there) where
   by_place (inl in_rest) = inr in_rest
   by_place (inr same) = inl (sym (ap (λ (d : Claim). found ds d.at) same) ∙ is ∙ ap (λ (d : Claim). Some d.depth) same)
 
+-- what holds along the search still holds when a claim is dropped whose depth is found at its place
 pub popped :
     (P : Bytecode) (F : Function) (ds : List (Option ℕ)) (cs : List Claim) (c : Claim) → Passing P F ds (cs ++ c ∷ []) →
     found ds c.at ≡ Some c.depth → Passing P F ds cs
@@ -132,16 +149,19 @@ popped P F ds cs c p is =
           record { by_depths = f.by_depths; by_claims = all_left (λ (d : Claim). depth d.at ≡ Some d.depth) cs (c ∷ []) f.by_claims };
     }
 
+-- dropping a claim leaves less work
 pub popped_less : (ds : List (Option ℕ)) (cs : List Claim) (c : Claim) → work ds cs < work ds (cs ++ c ∷ [])
 popped_less ds cs c = omega (arith, length-append cs (c ∷ []))
 
 -- ## A claim of a place that has no depth yet
 
+-- where a function has depths, its last claim is true of them
 claim_last :
     (P : Bytecode) (F : Function) (ds : List (Option ℕ)) (cs : List Claim) (c : Claim) → Passing P F ds (cs ++ c ∷ []) →
     (depth : ℕ → Option ℕ) → AreDepths P F depth → depth c.at ≡ Some c.depth
 claim_last P F ds cs c p depth are = (all_right (λ (d : Claim). depth d.at ≡ Some d.depth) cs (c ∷ []) (p.forced depth are).by_claims).0
 
+-- the claims for places at one depth have all those places
 claims_in : (n : ℕ) (tos : List ℕ) → AllByRecursion (λ to. IsIn (record { at = to; depth = n }) (claims_after n tos)) tos
 claims_in n [] = tt
 claims_in n (to ∷ tos) = (
@@ -151,11 +171,13 @@ claims_in n (to ∷ tos) = (
       (λ x there. inr there) (claims_in n tos),
 )
 
+-- what holds of a claim for each place holds of all the claims for the places
 claims_all : (Q : Claim → Type 0) (n : ℕ) (tos : List ℕ) → AllByRecursion (λ to. Q (record { at = to; depth = n })) tos
     → AllByRecursion Q (claims_after n tos)
 claims_all Q n [] all = tt
 claims_all Q n (to ∷ tos) all = (all.0, claims_all Q n tos all.1)
 
+-- a step that notes the depth of its last claim and puts others in its place keeps all that was found or claimed
 keeps_entered :
     (ds : List (Option ℕ)) (cs more : List Claim) (c : Claim) → c.at < length ds → found ds c.at ≡ None →
     Keeps ds (cs ++ c ∷ []) (slice_set ds c.at (Some c.depth)) (cs ++ more)
@@ -187,9 +209,11 @@ entered_or ds c at n within is = by_test (at == c.at) refl where
       let other : at ≢ c.at = (λ same. (let passes : (at == c.at) ≡ true = grind (arith, nat_tests) in cc)) in
       inr (sym (found_else ds c.at at c.depth other) ∙ is)
 
+-- at one place there is one instruction
 same_there : (o : Option Instr) (i j : Instr) → o ≡ Some i → o ≡ Some j → i ≡ j
 same_there o i j first second = cc
 
+-- after a step that notes a depth, each instruction with a depth has been seen
 entered_seen :
     (P : Bytecode) (F : Function) (ds : List (Option ℕ)) (cs : List Claim) (c : Claim) (i : Instr) → Passing P F ds (cs ++ c ∷ []) →
     c.at < length ds → found ds c.at ≡ None → slice_get F.code c.at ≡ Some i → needs P i ≤ c.depth → c.depth ≤ OPERANDS
@@ -228,6 +252,7 @@ entered_seen P F ds cs c i p within none is operands room at n j there at_depth 
       (keeps_entered ds cs (claims_after ((c.depth - needs P i) + gives i) (successors i c.at)) c within none) j at n
       (p.seen at n j there before)
 
+-- after a step that notes a depth, what is found and claimed is still forced by any depths of the function
 entered_forced :
     (P : Bytecode) (F : Function) (ds : List (Option ℕ)) (cs : List Claim) (c : Claim) (i : Instr) → Passing P F ds (cs ++ c ∷ []) →
     c.at < length ds → slice_get F.code c.at ≡ Some i → (depth : ℕ → Option ℕ) → AreDepths P F depth →
@@ -244,6 +269,7 @@ entered_forced P F ds cs c i p within is depth are = record {
   by_place at n (inl same) = ap depth (sym same.0) ∙ claim_last P F ds cs c p depth are ∙ ap Some same.1
   by_place at n (inr before) = (p.forced depth are).by_depths at n before
 
+-- what holds along the search holds after a step that notes a claim's depth and claims it for the successors
 pub entered :
     (P : Bytecode) (F : Function) (ds : List (Option ℕ)) (cs : List Claim) (c : Claim) (i : Instr) → Passing P F ds (cs ++ c ∷ []) →
     found ds c.at ≡ None → slice_get F.code c.at ≡ Some i → needs P i ≤ c.depth → c.depth ≤ OPERANDS →
@@ -271,12 +297,14 @@ entered P F ds cs c i p none is operands room =
       forced = entered_forced P F ds cs c i p within is;
     }
 
+-- an instruction makes two claims at most
 few_successors : (fl : Flow) (at n : ℕ) → length (claims_after n (places_after fl at)) ≤ 2
 few_successors Leaves at n = omega arith
 few_successors Next at n = omega arith
 few_successors (Always to) at n = omega arith
 few_successors (Either to) at n = omega arith
 
+-- noting a depth that was unknown leaves less work, whatever is claimed for the successors
 pub entered_less :
     (P : Bytecode) (F : Function) (ds : List (Option ℕ)) (cs : List Claim) (c : Claim) (i : Instr) (n : ℕ) → Passing P F ds (cs ++ c ∷ []) →
     found ds c.at ≡ None → work (slice_set ds c.at (Some c.depth)) (cs ++ claims_after n (successors i c.at)) < work ds (cs ++ c ∷ [])
@@ -289,6 +317,7 @@ entered_less P F ds cs c i n p none =
 
 -- ## A claim that cannot be met
 
+-- where another depth is found at a claim's place, the function has no depths
 pub in_conflict :
     (P : Bytecode) (F : Function) (ds : List (Option ℕ)) (cs : List Claim) (c : Claim) (n : ℕ) → Passing P F ds (cs ++ c ∷ []) →
     found ds c.at ≡ Some n → n ≢ c.depth → HasDepths P F → ⊥
@@ -298,6 +327,7 @@ in_conflict P F ds cs c n p is other has =
     let same : n ≡ c.depth = cc in
     other same
 
+-- where a claim brings fewer values than its instruction needs, the function has no depths
 pub too_few :
     (P : Bytecode) (F : Function) (ds : List (Option ℕ)) (cs : List Claim) (c : Claim) (i : Instr) → Passing P F ds (cs ++ c ∷ []) →
     slice_get F.code c.at ≡ Some i → c.depth < needs P i → HasDepths P F → ⊥
@@ -306,6 +336,7 @@ too_few P F ds cs c i p is wanting has =
     let enough = leads.operands in
     omega arith
 
+-- where a claim brings more values than a stack holds, the function has no depths
 pub too_many :
     (P : Bytecode) (F : Function) (ds : List (Option ℕ)) (cs : List Claim) (c : Claim) (i : Instr) → Passing P F ds (cs ++ c ∷ []) →
     slice_get F.code c.at ≡ Some i → OPERANDS < c.depth → HasDepths P F → ⊥
@@ -316,11 +347,13 @@ too_many P F ds cs c i p is over has =
 
 -- ## Beginning and end
 
+-- the claims at the start: the function's beginning with no value, and each catch's target with one
 abbrev pub first_claims : List Catch → List Claim
 first_claims catches =
     (let c : Claim = record { at = 0; depth = 0 } in c)
     ∷ map (λ (h : Catch). let c : Claim = record { at = h.target; depth = 1 } in c) catches
 
+-- among the claims for catches is one for each catch's target, with one value
 handlers_in : (hs : List Catch) (before : List Claim)
     → AllByRecursion (λ (h : Catch). IsIn (record { at = h.target; depth = 1 })
     (map (λ (h : Catch). let c : Claim = record { at = h.target; depth = 1 } in c) hs)) hs
@@ -334,11 +367,13 @@ handlers_in (h ∷ hs) before = (
       (λ k there. inr there) (handlers_in hs before),
 )
 
+-- what holds of a claim for each catch's target holds of all the claims for catches
 handlers_all : (Q : Claim → Type 0) (hs : List Catch) → AllByRecursion (λ (h : Catch). Q (record { at = h.target; depth = 1 })) hs
     → AllByRecursion Q (map (λ (h : Catch). let c : Claim = record { at = h.target; depth = 1 } in c) hs)
 handlers_all Q [] all = tt
 handlers_all Q (h ∷ hs) all = (all.0, handlers_all Q hs all.1)
 
+-- what holds along the search holds at its start, where the names are right and the end is not run past
 pub first_pass : (P : Bytecode) (F : Function) → IsNamed P F → falls_off F ≡ false → (n : ℕ) → n ≡ length F.code
     → Passing P F (replicate n None) (first_claims F.catches)
 first_pass P F named ended n is = record {
@@ -365,10 +400,12 @@ first_pass P F named ended n is = record {
   nothing : (at m : ℕ) → found (replicate n None) at ≡ Some m → ⊥
   nothing at m at_depth = (let none = none_found n at in cc)
 
+-- where no claims are left, what is known is found
 known_at_end : (ds : List (Option ℕ)) (to n : ℕ) → IsKnown ds [] to n → found ds to ≡ Some n
 known_at_end ds to n (inl is) = is
 known_at_end ds to n (inr there) = absurd there
 
+-- where no claims are left, the function has depths
 pub last_pass : (P : Bytecode) (F : Function) (ds : List (Option ℕ)) → Passing P F ds [] → HasDepths P F
 last_pass P F ds p = (
   found ds,
@@ -391,6 +428,7 @@ last_pass P F ds p = (
 
 -- ## As the code has it
 
+-- a claim's place is within the code and within the list of depths
 pub claim_within :
     (P : Bytecode) (F : Function) (ds : List (Option ℕ)) (cs : List Claim) (c : Claim) → Passing P F ds (cs ++ c ∷ []) →
     (c.at < length F.code) × (c.at < length ds)
@@ -399,15 +437,18 @@ claim_within P F ds cs c p =
     let within : c.at < length F.code = (all_right (λ (d : Claim). d.at < length F.code) cs (c ∷ []) p.within).0 in
     (within, omega arith)
 
+-- what stands in the list of depths at a place is what is found there
 pub found_is : (ds : List (Option ℕ)) (k : ℕ) (d : Option ℕ) → k < length ds → d ≡ slice_index_or ds k d → found ds k ≡ d
 found_is [] k d within is = absurd (omega arith)
 found_is (e ∷ ds) zero d within is = sym is
 found_is (e ∷ ds) (suc k) d within is = found_is ds k d (omega arith) is
 
+-- what stands in the code at a place within it is its instruction there
 pub instr_is : (items code : List Instr) (k : ℕ) (i : Instr) → items ≡ code → k < length code → i ≡ slice_index_or items k i
     → slice_get code k ≡ Some i
 instr_is items code k i same within is = slice_get_read code (length code) k i refl within (rw same at is)
 
+-- where a depth is found at a claim's place, the claim is dropped if it agrees, and else the function has no depths
 pub agreed :
     (P : Bytecode) (F : Function) (ds : List (Option ℕ)) (cs : List Claim) (c : Claim) (n : ℕ) → Passing P F ds (cs ++ c ∷ []) →
     found ds c.at ≡ Some n → MatchBool (n == c.depth) (Passing P F ds cs × (work ds cs < work ds (cs ++ c ∷ []))) (¬ HasDepths P F)
@@ -419,6 +460,7 @@ agreed P F ds cs c n p is = by_test (n == c.depth) refl where
   by_test false fails =
       in_conflict P F ds cs c n p is (λ same. (let passes : (n == c.depth) ≡ true = grind (arith, nat_tests) in cc))
 
+-- a step that notes a claim's depth, told by what it computed, keeps what holds along the search and leaves less work
 pub entered_so :
     (P : Bytecode) (F : Function) (ds : List (Option ℕ)) (cs cs' : List Claim) (c : Claim) (i : Instr) (takes leaves : ℕ) →
     Passing P F ds (cs ++ c ∷ []) → found ds c.at ≡ None → slice_get F.code c.at ≡ Some i → takes ≡ needs P i → leaves ≡ gives i →
@@ -429,14 +471,17 @@ entered_so P F ds cs cs' c i takes leaves p none is takes_is leaves_is operands 
     rw (more, takes_is, leaves_is)
     (entered P F ds cs c i p none is operands' room, entered_less P F ds cs c i ((c.depth - needs P i) + gives i) p none)
 
+-- what holds along the search holds for the lists that it starts with
 pub begins :
     (P : Bytecode) (F : Function) (ds : List (Option ℕ)) (cs : List Claim) (n : ℕ) → IsNamed P F → falls_off F ≡ false →
     n ≡ length F.code → ds ≡ replicate n None → cs ≡ first_claims F.catches → Passing P F ds cs
 begins P F ds cs n named ended is depths_are claims_are = rw (depths_are, claims_are) (first_pass P F named ended n is)
 
+-- a list of claims of no length is empty
 no_more : (cs : List Claim) → length cs ≡ 0 → cs ≡ []
 no_more [] none = refl
 no_more (c ∷ cs) none = absurd (omega arith)
 
+-- a search that has no claims left has found depths
 pub ends : (P : Bytecode) (F : Function) (ds : List (Option ℕ)) (cs : List Claim) → Passing P F ds cs → length cs ≡ 0 → HasDepths P F
 ends P F ds cs p none = last_pass P F ds (rw (no_more cs none) at p)

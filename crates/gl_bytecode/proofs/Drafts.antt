@@ -21,6 +21,7 @@ with_last-push change [] F = refl
 with_last-push change (G ∷ []) F = refl
 with_last-push change (G ∷ H ∷ Fs) F = ap (λ Is. G ∷ Is) (with_last-push change (H ∷ Fs) F)
 
+-- writing a changed function at the last place is changing the last function
 pub written_last :
     (change : Function → Function) (Fs : List Function) (n : ℕ) (old new : Function) → n ≡ length Fs → 0 < length Fs →
     old ≡ slice_index_or Fs (n - 1) old → new ≡ change old → slice_set Fs (n - 1) new ≡ with_last change Fs
@@ -29,10 +30,12 @@ written_last change Fs n old new many some was is =
     ∙ ap change (was ∙ ap (λ k. slice_index_or Fs (k - 1) old) many) in
     rw (many, new_is) (set_last change Fs old some)
 
+-- what follows from what holds of a success holds of it
 pub on_ok_then : {T E : Type 0} (r : Result T E) (P Q : Type 0) → OnOk r P → (P → Q) → OnOk r Q
 on_ok_then (Ok x) P Q p then = then p
 on_ok_then (Err e) P Q p then = tt
 
+-- changing the last function leaves as many functions as there were
 pub length_with_last : (change : Function → Function) (Fs : List Function) → length (with_last change Fs) ≡ length Fs
 length_with_last change [] = refl
 length_with_last change (F ∷ []) = refl

@@ -30,6 +30,7 @@ pub record Told (P : Bytecode) (x : Exchange) (p q : Progress) : Type 0 where
   pub config : q.config ≡ next P p.config reply
   pub looks : q.looks ≡ looks_after p (ask_of p.config.stage) reply
 
+-- an exchange that leads from one progress to another is told so
 pub told_of : (P : Bytecode) (x : Exchange) (p q : Progress) → told_one P x p ≡ Some q → Told P x p q
 told_of P x p q is = by_reply (reply_of p (ask_of p.config.stage) x) refl where
   made : Reply → Progress
@@ -61,6 +62,7 @@ pub record Parts (P : Bytecode) (x : Exchange) (xs : List Exchange) (p q : Progr
   pub first : told_one P x p ≡ Some mid
   pub rest : told P mid xs ≡ Some q
 
+-- exchanges that lead on are the first one, a progress between, and the others from there
 pub told_cons : (P : Bytecode) (x : Exchange) (xs : List Exchange) (p q : Progress) → told P p (x ∷ xs) ≡ Some q → Parts P x xs p q
 unfolding told
 told_cons P x xs p q is = by_first (told_one P x p) refl is where
@@ -68,6 +70,7 @@ told_cons P x xs p q is = by_first (told_one P x p) refl is where
   by_first None first rest = cc
   by_first (Some m) first rest = record { mid = m; first = first; rest = rest }
 
+-- no exchanges lead nowhere else
 pub told_none : (P : Bytecode) (p q : Progress) → told P p [] ≡ Some q → p ≡ q
 unfolding told
 told_none P p q is = cc
@@ -79,13 +82,16 @@ when_true false r s is = cc
 
 -- ## The words of an attempt are those of its end
 
+-- where two hold, the first does
 first_of : (a b : Bool) → (a && b) ≡ true → a ≡ true
 first_of true b is = refl
 first_of false b is = cc
 
+-- a transaction that fits the end of an attempt has the attempt's looks
 its_looks : (p : Progress) (keep : Bool) (tx : Tx) → is_its_end p keep tx ≡ true → looks_of tx ≡ p.looks
 its_looks p keep tx is = words_same (looks_of tx) p.looks (first_of _ _ is)
 
+-- a commit that is a reply has the attempt's looks
 commit_looks : (p : Progress) (ask : Ask) (tx : Tx) (r : Reply) → reply_of_commit p ask tx ≡ Some r → looks_of tx ≡ p.looks
 commit_looks p (TxEnd keep) tx r is = its_looks p keep tx (when_true _ _ r is).0
 commit_looks p Go tx r is = cc
@@ -105,6 +111,7 @@ commit_looks p (Print a) tx r is = cc
 commit_looks p Input tx r is = cc
 commit_looks p TxBegin tx r is = cc
 
+-- an abort that is a reply has the attempt's looks
 abort_looks : (p : Progress) (ask : Ask) (tx : Tx) (why : Why) (r : Reply) → reply_of_abort p ask tx why ≡ Some r → looks_of tx ≡ p.looks
 abort_looks p (TxEnd keep) tx (Changed var read found) r is = its_looks p keep tx (when_true _ _ r is).0
 abort_looks p (TxEnd keep) tx (Raised var) r is = its_looks p keep tx (when_true _ _ r is).0
@@ -201,10 +208,12 @@ module _ (P : Bytecode) where
       → is_some m.config.attempt ≡ true
   still_runs x p m t no_end lives = rw t.config (next_lives P p.config t.reply no_end t.fits lives)
 
+  -- a look that is there stays with its value through an exchange that does not end the attempt
   still_known : (x : Exchange) (p m : Progress) (y : ℕ) (w : ℤ) → Told P x p m → IsNoEnd (ask_of p.config.stage) → word_of p.looks y
       ≡ Some w → word_of m.looks y ≡ Some w
   still_known x p m y w t no_end is = rw t.looks (looks_stay p (ask_of p.config.stage) t.reply y w no_end is)
 
+  -- inside an attempt nothing comes of what only goes on outside one
   plain_not : (p : Progress) (ask : Ask) (o : Option Reply) → is_some p.config.attempt ≡ true
       → (if is_none p.config.attempt then o else None) ≡ None
   plain_not p ask o lives = by_attempt p.config.attempt refl where
@@ -212,6 +221,7 @@ module _ (P : Bytecode) where
     by_attempt None none = (let e : is_some p.config.attempt ≡ false = rw none refl in cc)
     by_attempt (Some a) some = refl
 
+  -- a look of a running attempt is the word that is ahead in the entries, where they end outside attempts
   ahead :
       (xs : List Exchange) (p q : Progress) (y : ℕ) (w : ℤ) → told P p xs ≡ Some q → q.config.attempt ≡ None →
       is_some p.config.attempt ≡ true → word_of p.looks y ≡ Some w → word_ahead (entries_of xs) y ≡ Some w
@@ -257,6 +267,7 @@ module _ (P : Bytecode) where
 
 -- ## Two quiet replies to one ask
 
+-- where three hold, each of them does
 three : (a b c : Bool) → (a && b && c) ≡ true → (a ≡ true) × (b ≡ true) × (c ≡ true)
 three true true true is = (refl, refl, refl)
 three true true false is = cc
@@ -271,10 +282,12 @@ clash false e n room refused =
     let less : n < TX_VARIABLES = search (rules, room) in
     omega arith
 
+-- two codes that are equal to the same third are equal
 same_codes : (a b c d : Bool) (m n k : ℕ) → (a && b && m == k) ≡ true → (c && d && n == k) ≡ true → m ≡ n
 same_codes a b c d m n k first second =
     eqb-true m k (three a b (m == k) first).2 ∙ sym (eqb-true n k (three c d (n == k) second).2)
 
+-- going on takes no other reply without an entry than the plain one
 go_only : (p : Progress) (r : Reply) → is_quiet_within p Go r ≡ true → r ≡ Gone
 go_only p Gone is = refl
 go_only p (Value a) is = cc
@@ -282,6 +295,7 @@ go_only p (Raise code) is = cc
 go_only p (Start f a) is = cc
 go_only p Retry is = cc
 
+-- outside an attempt the only reply without an entry is the plain one
 pub outside_only : (p : Progress) (ask : Ask) (r : Reply) → is_quiet None p ask r ≡ true → r ≡ Gone
 outside_only p ask Gone is = refl
 outside_only p Go (Value z) is = cc
@@ -358,15 +372,18 @@ abbrev LooksSame : Progress → Ask → Reply → Reply → Type 0
 LooksSame p ask r s =
     (x : ℕ) (a b : ℤ) → ask ≡ Read x → r ≡ Value a → s ≡ Value b → known_word (word_of p.writes x) (word_of p.looks x) ≡ None → a ≡ b
 
+-- one of two holds where the first does
 or_left : (a b : Bool) → a ≡ true → (a || b) ≡ true
 or_left true b is = refl
 or_left false b is = cc
 
+-- one of two holds where the second does
 or_right : (a b : Bool) → b ≡ true → (a || b) ≡ true
 or_right true b is = refl
 or_right false true is = refl
 or_right false false is = cc
 
+-- a word that is known or has room is not refused for want of room
 refused_word :
     (w l : Option ℤ) (a : ℤ) (n : ℕ) (e : Bool) → is_word (known_word w l) (nat_lt n TX_VARIABLES) a ≡ true →
     (not (is_some w || is_some l) && n == TX_VARIABLES && e) ≡ true → ⊥
@@ -377,6 +394,7 @@ refused_word w l a n e is refused = by_known (known_word w l) refl is where
       clash (is_some w || is_some l) e n (or_left (is_some w || is_some l) (nat_lt n TX_VARIABLES) some) refused
   by_known None known word = clash (is_some w || is_some l) e n (or_right (is_some w || is_some l) (nat_lt n TX_VARIABLES) word) refused
 
+-- a read has one reply without an entry, where equal looks are forced
 reads_same : (p : Progress) (x : ℕ) (r s : Reply) → LooksSame p (Read x) r s → is_quiet_within p (Read x) r ≡ true
     → is_quiet_within p (Read x) s ≡ true → r ≡ s
 reads_same p x (Value a) (Value b) look first second =
@@ -403,6 +421,7 @@ reads_same p x (Raise c) Gone look first second = cc
 reads_same p x (Raise c) Retry look first second = cc
 reads_same p x (Raise c) (Start f b) look first second = cc
 
+-- a write inside an attempt has one reply without an entry
 writes_same : (p : Progress) (x : ℕ) (v : ℤ) (r s : Reply) → is_quiet_within p (Write x v) r ≡ true → is_quiet_within p (Write x v) s
     ≡ true → r ≡ s
 writes_same p x v Gone Gone first second = refl
@@ -421,6 +440,7 @@ writes_same p x v (Raise c) (Value a) first second = cc
 writes_same p x v (Raise c) Retry first second = cc
 writes_same p x v (Raise c) (Start f a) first second = cc
 
+-- each ask inside an attempt has one reply without an entry, where equal looks are forced
 inside_same : (p : Progress) (ask : Ask) (r s : Reply) → LooksSame p ask r s → is_quiet_within p ask r ≡ true → is_quiet_within p ask s
     ≡ true → r ≡ s
 inside_same p (Read x) r s look first second = reads_same p x r s look first second
@@ -441,6 +461,7 @@ inside_same p (Print a) r s look first second = cc
 inside_same p Input r s look first second = cc
 inside_same p (TxEnd keep) r s look first second = cc
 
+-- each ask has one reply without an entry, where equal looks are forced inside attempts
 quiet_same : (p : Progress) (o : Option Attempt) (ask : Ask) (r s : Reply) → ((a : Attempt) → o ≡ Some a → LooksSame p ask r s)
     → is_quiet o p ask r ≡ true → is_quiet o p ask s ≡ true → r ≡ s
 quiet_same p None ask r s look first second = outside_only p ask r first ∙ sym (outside_only p ask s second)
@@ -467,6 +488,7 @@ module _ (P : Bytecode) where
       let now : m.looks ≡ with_word x a p.looks = t.looks ∙ by_ask ∙ looked in
       ahead P xs m q x a more over (still_runs P (Quiet (Value a)) p m t no_end lives) (ap (λ ws. word_of ws x) now ∙ word_put x a p.looks)
 
+  -- two ways from one progress with the same entries begin with the same exchange, where they end outside attempts
   same_first :
       (x y : Exchange) (xs ys : List Exchange) (p m n q r : Progress) → told_one P x p ≡ Some m → told_one P y p ≡ Some n →
       told P m xs ≡ Some q → told P n ys ≡ Some r → entries_of (x ∷ xs) ≡ entries_of (y ∷ ys) → q.config.attempt ≡ None →
@@ -500,25 +522,30 @@ module _ (P : Bytecode) where
             let ahead_same : word_ahead (entries_of xs) x ≡ word_ahead (entries_of ys) x = ap (λ l. word_ahead l x) same in
             cc
 
+-- an option that is there is one progress
 some_same : (o : Option Progress) (m n : Progress) → o ≡ Some m → o ≡ Some n → m ≡ n
 some_same o m n first second = cc
 
+-- exchanges that begin with the same one and have the same entries have the same entries after it
 tail_entries : (x y : Exchange) (xs ys : List Exchange) → x ≡ y → entries_of (x ∷ xs) ≡ entries_of (y ∷ ys) → entries_of xs ≡ entries_of ys
 tail_entries (Made e) (Made f) xs ys same es = cc
 tail_entries (Quiet r) (Quiet s) xs ys same es = es
 tail_entries (Made e) (Quiet s) xs ys same es = cc
 tail_entries (Quiet r) (Made f) xs ys same es = cc
 
+-- exchanges that end with an entry do so without their first one, or none are left
 tail_made : (x : Exchange) (xs : List Exchange) → EndsMade (x ∷ xs) → EndsMade xs
 tail_made x [] made = tt
 tail_made (Made e) (y ∷ ys) made = made
 tail_made (Quiet r) (y ∷ ys) made = made
 
+-- exchanges that are some and end with an entry have an entry
 has_entry : (x : Exchange) (xs : List Exchange) → EndsMade (x ∷ xs) → entries_of (x ∷ xs) ≡ [] → ⊥
 has_entry (Made e) xs made none = cc
 has_entry (Quiet r) [] made none = absurd made
 has_entry (Quiet r) (y ∷ ys) made none = has_entry y ys made none
 
+-- two ways of exchanges from one progress with the same entries are the same, where they end outside attempts and with entries
 pub forced :
     (P : Bytecode) (p q r : Progress) (xs ys : List Exchange) → told P p xs ≡ Some q → told P p ys ≡ Some r →
     entries_of xs ≡ entries_of ys → q.config.attempt ≡ None → r.config.attempt ≡ None → EndsMade xs → EndsMade ys → xs ≡ ys

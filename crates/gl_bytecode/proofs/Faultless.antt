@@ -271,6 +271,7 @@ main_there n (Some F) is = (F, refl, grind (arith, nat_tests))
 
 -- ## The limits
 
+-- each of the limits on a program, but that on a class's fields
 abbrev Limits : Bytecode → Type 0
 Limits P =
     (nat_lt CODE (sum_by (λ F. length F.code) P.functions) ≡ false) × (nat_lt FUNCTIONS (length P.functions) ≡ false)

@@ -16,6 +16,7 @@ record Front (P : Bytecode) (p : Progress) (ys : List Entry) : Type 0 where
   last : Progress
   reached : told P p exchanges ≡ Some last
 
+-- exchanges that make a list make each of its beginnings, up to some progress
 front : (P : Bytecode) (p q : Progress) (xs : List Exchange) (ys zs : List Entry) → told P p xs ≡ Some q → entries_of xs ≡ ys ++ zs
     → Front P p ys
 unfolding told
@@ -53,9 +54,11 @@ front P p q (Quiet r ∷ xs) (y ∷ ys) zs is es =
             reached = ap (option_and_then (λ n. told P n f.exchanges)) first ∙ f.reached;
           }
 
+-- no entries at all
 abbrev no_entries : List Entry
 no_entries = []
 
+-- a beginning of nothing is nothing
 nothing : (k : ℕ) → take k no_entries ≡ no_entries
 nothing zero = refl
 nothing (suc k) = refl
@@ -67,6 +70,7 @@ split [] (suc m) n le = ([], nothing n)
 split (e ∷ es) (suc m) zero le = absurd (omega arith)
 split (e ∷ es) (suc m) (suc n) le = (let more = split es m n (omega arith) in (more.0, ap (λ l. e ∷ l) more.1))
 
+-- what is made up to a length is made up to each smaller one
 pub beginnings : (P : Bytecode) (steps t : ℕ) (es : List Entry) (m n : ℕ) → m ≤ n → IsMadeUpTo P steps t es n → IsMadeUpTo P steps t es m
 beginnings P steps t es m n le (p, along) =
     let parts = split es m n le in
@@ -74,6 +78,7 @@ beginnings P steps t es m n le (p, along) =
     let f = front P (outset P t steps) p along.exchanges (without_trims (take m es)) (without_trims parts.0) along.reached entries in
     (f.last, record { exchanges = f.exchanges; made = f.entries; reached = f.reached })
 
+-- a list has one length at which its program fails
 pub one_length : (P : Bytecode) (steps t : ℕ) (es : List Entry) (m n : ℕ) → ProgramFails P steps t es m → ProgramFails P steps t es n → m
     ≡ n
 one_length P steps t es m n one other = by_order (cases_order m n) where
@@ -82,5 +87,6 @@ one_length P steps t es m n one other = by_order (cases_order m n) where
   by_order (inr (inl less)) = absurd (one.longest n less other.within other.made)
   by_order (inr (inr less)) = absurd (other.longest m less one.within one.made)
 
+-- a list that its machine runs has no length at which its program fails
 pub runs_or_fails : (P : Bytecode) (steps t : ℕ) (es : List Entry) (n : ℕ) → Runs P steps t es → ProgramFails P steps t es n → ⊥
 runs_or_fails P steps t es n runs fails = fails.not_whole runs

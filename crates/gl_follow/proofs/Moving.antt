@@ -22,6 +22,7 @@ use Rattle.gl_follow.proofs.Peeling.{ByEntry, Cut, Leads, Quietly, all_fit, cut,
 
 -- ## Lists
 
+-- an entry that is no trim stays where the trims are left out
 pub no_trim : (e : Entry) (es : List Entry) → (IsTrim e → ⊥) → without_trims (e ∷ es) ≡ e ∷ without_trims es
 no_trim (Trim low) es not = absurd (not tt)
 no_trim (Sync at act value) es not = refl
@@ -30,14 +31,17 @@ no_trim (Plain x nth cached write value raised) es not = refl
 no_trim (Abort tx why) es not = refl
 no_trim (Ended ending) es not = refl
 
+-- entries, one more and others are the same however they are put together
 pub behind_one : (front : List Entry) (e : Entry) (more : List Entry) → (front ++ e ∷ []) ++ more ≡ front ++ (e ∷ more)
 behind_one [] e more = refl
 behind_one (f ∷ front) e more = ap (λ l. f ∷ l) (behind_one front e more)
 
+-- where each entry of a list that begins a thread is right, each in the front of the list is
 right_front : (P : Bytecode) (es back : List Entry) → EachBeginsRight P (es ++ back) → EachBeginsRight P es
 right_front P [] back right = tt
 right_front P (e ∷ es) back right = (right.0, right_front P es back right.1)
 
+-- where each entry of a list that begins a thread is right, each is in the list without its trims
 right_trims : (P : Bytecode) (es : List Entry) → EachBeginsRight P es → EachBeginsRight P (without_trims es)
 right_trims P [] right = tt
 right_trims P (Trim low ∷ es) right = right_trims P es right.1
@@ -47,6 +51,7 @@ right_trims P (Plain x nth cached write value raised ∷ es) right = (right.0, r
 right_trims P (Abort tx why ∷ es) right = (right.0, right_trims P es right.1)
 right_trims P (Ended ending ∷ es) right = (right.0, right_trims P es right.1)
 
+-- an option that is there is one thing
 same_some : {A : Type 0} (o : Option A) (m n : A) → o ≡ Some m → o ≡ Some n → m ≡ n
 same_some o m n first second = cc
 
@@ -60,6 +65,7 @@ quiet_over p list ending over = ap (λ s. quiet_for p list (ask_of s)) over ∙ 
   at None = refl
   at (Some a) = refl
 
+-- a machine that is over runs no attempt
 over_outside : (P : Bytecode) (q : Progress) (ending : Ending) → Fits P q.config → q.config.stage ≡ IsOver ending → q.config.attempt ≡ None
 over_outside P q ending fits over = at q.config.attempt refl where
   at : (o : Option Attempt) → q.config.attempt ≡ o → q.config.attempt ≡ None
@@ -74,6 +80,7 @@ pub record Begun (P : Bytecode) (p : Progress) (list es : List Entry) (q : Progr
   pub first : Quietly P p list es q ⊎ ByEntry P p list es q
 
 module _ (P : Bytecode) (steps t : ℕ) where
+  -- a new machine that fits follows a list whose beginnings are right, with nothing of it passed yet
   pub begin_follow : (es : List Entry) → Fits P (fresh P t steps) → EachBeginsRight P es → Follows P steps t [] es (outset P t steps)
   begin_follow es fits right = record {
     along = along_new P steps t;
@@ -84,6 +91,7 @@ module _ (P : Bytecode) (steps t : ℕ) where
     over = λ more back r ending same along over. record { exchanges = along.exchanges; entries = along.made; reached = along.reached };
   }
 
+  -- what is left of a list is led by the entries at its front without their trims
   leads : (more back rest : List Entry) → rest ≡ more ++ back → Leads rest (without_trims more)
   leads more back rest same = record { back = without_trims back; same = ap without_trims same ∙ without_trims-append more back }
 
@@ -197,9 +205,11 @@ module _ (P : Bytecode) (steps t : ℕ) where
         let mids : w.mid ≡ q = same_some (told_one P (Made e) p) w.mid q first' first in
         subst (λ l. Reaches P q l r) later (subst (λ m. Reaches P m w.later r) mids w.rest)
 
+  -- a list that starts with no trim is not empty without its trims
   has_entry : (e : Entry) (more : List Entry) → (IsTrim e → ⊥) → without_trims (e ∷ more) ≡ [] → ⊥
   has_entry e more not none = (let some = no_trim e more not in cc)
 
+  -- a machine that is moved by the next entry, and by no silent reply before, follows the list past this entry
   pub move_entry :
       (front rest : List Entry) (e : Entry) (p q : Progress) → Follows P steps t front (e ∷ rest) p → touched p ≤ TX_VARIABLES
       → (IsTrim e → ⊥) →
@@ -233,6 +243,7 @@ module _ (P : Bytecode) (steps t : ℕ) where
     to_end more r (inl (same, empty)) = absurd (has_entry e more not empty)
     to_end more r (inr b) = rest_entry e rest more p q r not none first b
 
+  -- a machine follows the list past a trim as it is
   pub move_trim :
       (front rest : List Entry) (low : ℕ) (p : Progress) → Follows P steps t front (Trim low ∷ rest) p
       → Follows P steps t (front ++ Trim low ∷ []) rest p

@@ -26,12 +26,14 @@ use Rattle.gl_follow.proofs.Quiet.{quiet_is, quiet_told}
 
 -- ## What replies start
 
+-- inside an attempt a thread's start is no reply without an entry
 within_starts : (p : Progress) (ask : Ask) (f : ℕ) (a : ℤ) → is_quiet_within p ask (Start f a) ≡ true → ⊥
 within_starts p Go f a is = cc
 within_starts p (Read x) f a is = cc
 within_starts p (Write x v) f a is = cc
 within_starts p ask f a is = cc
 
+-- a reply that leaves no entry starts no thread wrongly, as it starts none
 pub quiet_starts : (P : Bytecode) (o : Option Attempt) (p : Progress) (ask : Ask) (r : Reply) → is_quiet o p ask r ≡ true → StartsRight P r
 quiet_starts P o p ask Gone is = tt
 quiet_starts P o p ask (Value a) is = tt
@@ -40,10 +42,12 @@ quiet_starts P o p ask Retry is = tt
 quiet_starts P None p ask (Start f a) is = absurd (let e = outside_only p ask (Start f a) is in cc)
 quiet_starts P (Some a) p ask (Start f b) is = absurd (within_starts p ask f b is)
 
+-- the reply starts no thread
 abbrev NoStart : Reply → Type 0
 NoStart (Start f a) = ⊥
 NoStart _ = Unit {0}
 
+-- a reply that starts no thread starts none wrongly
 no_start : (P : Bytecode) (r : Reply) → NoStart r → StartsRight P r
 no_start P Gone is = tt
 no_start P (Value a) is = tt
@@ -51,19 +55,23 @@ no_start P (Raise code) is = tt
 no_start P Retry is = tt
 no_start P (Start f a) is = absurd is
 
+-- a reply under a condition starts no thread, where the reply does not
 when_none : (b : Bool) (r s : Reply) → NoStart r → when b r ≡ Some s → NoStart s
 when_none b r s is gives = subst NoStart (when_true b r s gives).1 is
 
+-- one of two replies starts no thread, where neither does
 either_none : (b : Bool) (r s : Reply) → NoStart r → NoStart s → NoStart (if b then r else s)
 either_none true r s one other = one
 either_none false r s one other = other
 
+-- the reply of a plain access starts no thread
 plain_none : (ask : Ask) (x : ℕ) (write : Bool) (value : ℤ) (raised : Bool) (r : Reply) → reply_of_plain ask x write value raised ≡ Some r
     → NoStart r
 plain_none (Read y) x write value raised r is = when_none _ _ r (either_none raised _ _ tt tt) is
 plain_none (Write y a) x write value raised r is = when_none _ _ r (either_none raised _ _ tt tt) is
 plain_none ask x write value raised r is = cc
 
+-- the reply of an act starts its thread rightly, where the act that begins one does
 act_starts : (P : Bytecode) (ask : Ask) (act : Act) (value : ℤ) (r : Reply) → ((f : ℕ) → act ≡ Began f → StartsRight P (Start f value))
     → reply_of_act ask act value ≡ Some r → StartsRight P r
 act_starts P Begin (Began f) value r right is = (let e : Start f value ≡ r = cc in subst (StartsRight P) e (right f refl))
@@ -84,6 +92,7 @@ act_starts P Input Taken value r right is = (let e : Value value ≡ r = cc in s
 act_starts P Input (Fail code) value r right is = no_start P r (when_none _ _ r tt is)
 act_starts P ask act value r right is = cc
 
+-- the reply of a plain access, or none, starts no thread wrongly
 plain_starts : (P : Bytecode) (b : Bool) (o : Option Reply) (r : Reply) → ((s : Reply) → o ≡ Some s → NoStart s) → (if b then o else None)
     ≡ Some r → StartsRight P r
 plain_starts P true o r each is = no_start P r (each r is)
@@ -103,17 +112,20 @@ entry_starts P p ask e r right is = cc
 
 -- ## One exchange
 
+-- an exchange starts no thread wrongly
 abbrev pub ExchangeIsRight : Bytecode → Exchange → Type 0
 ExchangeIsRight P (Made e) = BeginsRight P e
 ExchangeIsRight P (Quiet r) = Unit {0}
 
 module _ (P : Bytecode) where
+  -- the reply of an exchange that starts no thread wrongly starts none wrongly
   told_starts : (x : Exchange) (p q : Progress) (t : Told P x p q) → ExchangeIsRight P x → StartsRight P t.reply
   told_starts (Made e) p q t right = entry_starts P p (ask_of p.config.stage) e t.reply right t.gives
   told_starts (Quiet r) p q t right =
       let both = when_true _ r t.reply t.gives in
       subst (StartsRight P) both.1 (quiet_starts P p.config.attempt p (ask_of p.config.stage) r both.0)
 
+  -- a machine that fits still fits after an exchange that starts no thread wrongly
   pub told_fits : (x : Exchange) (p q : Progress) → Fits P p.config → ExchangeIsRight P x → told_one P x p ≡ Some q → Fits P q.config
   told_fits x p q fits right is =
       let t = told_of P x p q is in
@@ -130,10 +142,12 @@ module _ (P : Bytecode) where
   ends_by p (Some a) (Write x v) e r is attends gives = (let none = no_entry p (Some a) (Write x v) e is tt in cc)
   ends_by p (Some a) ask e r is attends gives = absurd attends
 
+  -- an option that is not there is none
   some_not : (o : Option Attempt) → is_some o ≡ false → o ≡ None
   some_not None is = refl
   some_not (Some a) is = cc
 
+  -- no attempt runs after an exchange with an entry
   made_over : (e : Entry) (p q : Progress) → Fits P p.config → told_one P (Made e) p ≡ Some q → q.config.attempt ≡ None
   made_over e p q fits is =
       let t = told_of P (Made e) p q is in
@@ -144,11 +158,13 @@ module _ (P : Bytecode) where
 
   -- ## Ways
 
+  -- an exchange and then others lead where the others lead after it
   pub told_more : (x : Exchange) (xs : List Exchange) (p m : Progress) (o : Option Progress) → told_one P x p ≡ Some m → told P m xs ≡ o
       → told P p (x ∷ xs) ≡ o
   unfolding told
   told_more x xs p m o first rest = ap (option_and_then (λ n. told P n xs)) first ∙ rest
 
+  -- a machine that fits still fits after exchanges whose entries begin threads rightly
   pub all_fit : (xs : List Exchange) (p q : Progress) → Fits P p.config → EachBeginsRight P (entries_of xs) → told P p xs ≡ Some q
       → Fits P q.config
   all_fit [] p q fits right is = (let same = told_none P p q is in subst (λ (m : Progress). Fits P m.config) same fits)
@@ -165,6 +181,7 @@ module _ (P : Bytecode) where
     pub way : Reaches P p es last
     pub outside : last.config.attempt ≡ None
 
+  -- where a way by entries leads to where no attempt runs, so does one with an exchange more before it
   one_more : (x : Exchange) (es fs : List Entry) (p m : Progress) → told_one P x p ≡ Some m
       → ((xs : List Exchange) → entries_of xs ≡ es → entries_of (x ∷ xs) ≡ fs) → Cut m es → Cut p fs
   one_more x es fs p m first same c = record {
@@ -177,6 +194,7 @@ module _ (P : Bytecode) where
     outside = c.outside;
   }
 
+  -- exchanges of a machine that fits make no entries, or up to their last entry they lead to where no attempt runs
   pub cut : (xs : List Exchange) (p q : Progress) → Fits P p.config → EachBeginsRight P (entries_of xs) → told P p xs ≡ Some q
       → (entries_of xs ≡ []) ⊎ Cut p (entries_of xs)
   unfolding told
@@ -210,6 +228,7 @@ module _ (P : Bytecode) where
 
 -- ## The first exchange
 
+-- a word that is ahead in a list is ahead in a longer one
 ahead_append : (es back : List Entry) (x : ℕ) (w : ℤ) → word_ahead es x ≡ Some w → word_ahead (es ++ back) x ≡ Some w
 ahead_append [] back x w is = cc
 ahead_append (Sync at act value ∷ es) back x w is = ahead_append es back x w is
@@ -219,6 +238,7 @@ ahead_append (Abort tx why ∷ es) back x w is = is
 ahead_append (Trim low ∷ es) back x w is = ahead_append es back x w is
 ahead_append (Ended ending ∷ es) back x w is = ahead_append es back x w is
 
+-- the word that is ahead in a list is the same without its trims
 ahead_trims : (es : List Entry) (x : ℕ) → word_ahead (without_trims es) x ≡ word_ahead es x
 ahead_trims [] x = refl
 ahead_trims (Sync at act value ∷ es) x = ahead_trims es x
@@ -251,6 +271,7 @@ pub record Leads (list es : List Entry) : Type 0 where
   pub back : List Entry
   pub same : without_trims list ≡ es ++ back
 
+-- a way by the entries of a list begins with the reply that leaves no entry, or with the list's first entry
 pub peel :
     (P : Bytecode) (p r : Progress) (x : Exchange) (xs : List Exchange) (list es : List Entry) → touched p ≤ TX_VARIABLES →
     Leads list es → entries_of (x ∷ xs) ≡ es → told P p (x ∷ xs) ≡ Some r → r.config.attempt ≡ None → Quietly P p list es r

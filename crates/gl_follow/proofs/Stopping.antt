@@ -16,14 +16,17 @@ use Rattle.gl_follow.proofs.Peeling.{ByEntry, Quietly}
 
 -- ## Lists
 
+-- entries and none after them are those entries
 append_none : (es : List Entry) → es ++ [] ≡ es
 append_none [] = refl
 append_none (e ∷ es) = ap (λ l. e ∷ l) (append_none es)
 
+-- as many entries as a beginning has are that beginning
 take_front : (front rest : List Entry) → take (length front) (front ++ rest) ≡ front
 take_front [] rest = refl
 take_front (e ∷ front) rest = ap (λ l. e ∷ l) (take_front front rest)
 
+-- a beginning is no longer than the whole
 front_within : (front rest : List Entry) → length front ≤ length (front ++ rest)
 front_within [] rest = omega arith
 front_within (e ∷ front) rest = (let more = front_within front rest in omega arith)
@@ -35,6 +38,7 @@ take_longer [] rest (suc m) less = (m, refl)
 take_longer (e ∷ front) rest zero less = absurd (omega arith)
 take_longer (e ∷ front) rest (suc m) less = (let more = take_longer front rest m (omega arith) in (more.0, ap (λ l. e ∷ l) more.1))
 
+-- entries are their beginning up to a place and what is left from there
 pub take_back : (k : ℕ) (es : List Entry) → es ≡ take k es ++ drop k es
 take_back zero es = refl
 take_back (suc k) [] = refl
@@ -80,6 +84,7 @@ behind_front (x ∷ front) rest (b ∷ base) e f is = by_rest (behind_front fron
 
 -- ## No machine makes an Over
 
+-- no exchanges make an entry that says how a thread ended
 no_over : (P : Bytecode) (xs : List Exchange) (p q : Progress) (ys zs : List Entry) (ending : Ending) → told P p xs ≡ Some q
     → entries_of xs ≡ ys ++ Ended ending ∷ zs → ⊥
 no_over P [] p q [] zs ending is es = cc
@@ -102,6 +107,7 @@ no_over P (Made e ∷ xs) p q [] zs ending is es =
 -- ## The list
 
 module _ (P : Bytecode) (steps t : ℕ) where
+  -- where a machine that is over has followed a list up to the entry that says so, its machine runs the list
   pub holds : (front rest : List Entry) (p : Progress) (ending : Ending) → Follows P steps t front rest p → rest ≡ Ended ending ∷ []
       → p.config.stage ≡ IsOver ending → Runs P steps t (front ++ rest)
   holds front rest p ending f last over =

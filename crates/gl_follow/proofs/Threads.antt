@@ -23,6 +23,7 @@ use Rattle.gl_follow.proofs.Beginnings.{one_length}
 
 -- ## What the lists are
 
+-- each entry of a list that begins a thread is right, where the one at each place is
 each_right : (P : Bytecode) (es : List Entry)
     → ((i at f : ℕ) (value : ℤ) → At es i (Sync at (Begin f) value) → StartsRight P (Start f value)) → EachBeginsRight P es
 each_right P [] right = tt
@@ -32,6 +33,7 @@ each_right P (e ∷ es) right = (
       (λ i at f value there. right (suc i) at f value there),
 )
 
+-- in a record whose beginnings are right, they are right in the list of each thread
 pub begins_right : (P : Bytecode) (R : Lists) (t : ℕ) → BeginsAreRight P R → EachBeginsRight P (R t)
 begins_right P R t right = each_right P (R t) (λ i at f value there. right t i at f value there)
 
@@ -40,6 +42,7 @@ record Last (es : List Entry) (e : Entry) : Type 0 where
   base : List Entry
   whole : es ≡ base ++ e ∷ []
 
+-- the entry at the place before a list's length is its last one
 last_of : (es : List Entry) (i : ℕ) (e : Entry) → slice_get es i ≡ Some e → length es ≡ i + 1 → Last es e
 last_of [] i e there long = cc
 last_of (a ∷ []) zero e there long = (let same : a ≡ e = cc in record { base = []; whole = ap (λ h. h ∷ []) same })
@@ -47,6 +50,7 @@ last_of (a ∷ (b ∷ es)) zero e there long = absurd (omega arith)
 last_of (a ∷ es) (suc i) e there long = (let more = last_of es i e there (omega arith)
     in record { base = a ∷ more.base; whole = ap (λ l. a ∷ l) more.whole })
 
+-- an entry that says that a thread is over says how it ended
 over_of : (e : Entry) → IsOver e → (ending : Ending) × (e ≡ Ended ending)
 over_of (Ended ending) over = (ending, refl)
 over_of (Sync at act value) over = absurd over
@@ -55,6 +59,7 @@ over_of (Plain x nth cached write value raised) over = absurd over
 over_of (Abort tx why) over = absurd over
 over_of (Trim low) over = absurd over
 
+-- a list that is not empty, in a record of the right form, ends with how its thread ended
 pub ends_with_over : (R : Lists) (t : ℕ) → Form R → R t ≢ [] → EndsWithOver (R t)
 ends_with_over R t form some =
     let e = form.ends t some in
@@ -71,12 +76,15 @@ ends_with_over R t form some =
 
 -- ## The lists of a record
 
+-- a list that was made for a thread is its list
 pub list_is : (made : List (ℕ × List Entry)) (t : ℕ) (es : List Entry) → list_of made t ≡ Some es → lists_of made t ≡ es
 list_is made t es is = ap (λ o. unwrap_or o []) is
 
+-- a thread for which no list was made has an empty one
 pub list_none : (made : List (ℕ × List Entry)) (t : ℕ) → list_of made t ≡ None → lists_of made t ≡ []
 list_none made t is = ap (λ o. unwrap_or o []) is
 
+-- a list that is kept is that of one of the threads, and has an entry
 pub list_kept : (made : List (ℕ × List Entry)) (t : ℕ) (es : List Entry) → AllByRecursion IsListKept made → list_of made t ≡ Some es
     → (t < THREADS) × (0 < length es)
 list_kept [] t es kept is = absurd (cc)
@@ -91,10 +99,12 @@ list_kept (l ∷ made) t es kept is = by_test (l.0 == t) refl is (λ found. list
       (subst (λ n. n < THREADS) same kept.0.0, subst (λ (k : List Entry). 0 < length k) list kept.0.1)
   by_test false here found more = more found
 
+-- a list of some length is not empty
 pub some_list : (es : List Entry) → 0 < length es → es ≢ []
 some_list [] less same = absurd (omega arith)
 some_list (e ∷ es) less same = absurd (cc)
 
+-- no thread past the last one has an entry
 pub none_past : (made : List (ℕ × List Entry)) (t : ℕ) → AllByRecursion IsListKept made → THREADS ≤ t → lists_of made t ≡ []
 none_past made t kept past = by_list (list_of made t) refl where
   by_list : (o : Option (List Entry)) → list_of made t ≡ o → lists_of made t ≡ []
@@ -103,6 +113,7 @@ none_past made t kept past = by_list (list_of made t) refl where
 
 -- ## The first place
 
+-- a place where a thread's program fails is the first one, where all lists of threads before it are run by their machines
 pub first_of :
     (P : Bytecode) (steps : ℕ) (R : Lists) (c : Place) → R c.thread ≢ [] → ProgramFails P steps c.thread (R c.thread) c.index →
     ((u : ℕ) → u < c.thread → R u ≢ [] → Runs P steps u (R u)) → IsFirstBy Before (ProgramFailsAt P steps R) c

@@ -24,41 +24,48 @@ use Rattle.gl_follow.proofs.Stopping.{fails, holds, take_back}
 
 -- ## Lists
 
+-- what is left of a mapped list is what is left of the list, mapped
 pub drop_map : {A : Type 0} {B : Type 0} (f : A → B) (n : ℕ) (xs : List A) → map f (drop n xs) ≡ drop n (map f xs)
 drop_map f zero xs = refl
 drop_map f (suc n) [] = refl
 drop_map f (suc n) (x ∷ xs) = drop_map f n xs
 
+-- a beginning with one entry more is the beginning and the entry that is next
 take_next : (es : List Entry) (n : ℕ) (e : Entry) (fs : List Entry) → drop n es ≡ e ∷ fs → take (suc n) es ≡ take n es ++ e ∷ []
 take_next [] zero e fs is = cc
 take_next [] (suc n) e fs is = cc
 take_next (a ∷ es) zero e fs is = (let same : a ≡ e = cc in ap (λ h. h ∷ []) same)
 take_next (a ∷ es) (suc n) e fs is = ap (λ l. a ∷ l) (take_next es n e fs is)
 
+-- what is left after the next entry is left when one more is passed
 drop_next : (es : List Entry) (n : ℕ) (e : Entry) (fs : List Entry) → drop n es ≡ e ∷ fs → drop (suc n) es ≡ fs
 drop_next [] zero e fs is = cc
 drop_next [] (suc n) e fs is = cc
 drop_next (a ∷ es) zero e fs is = cc
 drop_next (a ∷ es) (suc n) e fs is = drop_next es n e fs is
 
+-- where an entry is left, fewer are passed than there are
 pub less_by : (es : List Entry) (n : ℕ) (e : Entry) (fs : List Entry) → drop n es ≡ e ∷ fs → n < length es
 less_by [] zero e fs is = absurd (cc)
 less_by [] (suc n) e fs is = absurd (cc)
 less_by (a ∷ es) zero e fs is = omega arith
 less_by (a ∷ es) (suc n) e fs is = (let more = less_by es n e fs is in omega arith)
 
+-- the first entry that is left is the one at the number of those passed
 pub at_by : (es : List Entry) (n : ℕ) (e : Entry) (fs : List Entry) → drop n es ≡ e ∷ fs → slice_get es n ≡ Some e
 at_by [] zero e fs is = absurd (cc)
 at_by [] (suc n) e fs is = absurd (cc)
 at_by (a ∷ es) zero e fs is = (let same : a ≡ e = cc in ap Some same)
 at_by (a ∷ es) (suc n) e fs is = at_by es n e fs is
 
+-- where as many entries are passed as there are, none is left
 none_left : (es : List Entry) (n : ℕ) → length es ≤ n → drop n es ≡ []
 none_left [] zero le = refl
 none_left [] (suc n) le = refl
 none_left (a ∷ es) zero le = absurd (omega arith)
 none_left (a ∷ es) (suc n) le = none_left es n (omega arith)
 
+-- a beginning of so many entries has that length, where there are so many
 take_length : (es : List Entry) (n : ℕ) → n ≤ length es → length (take n es) ≡ n
 take_length es zero le = refl
 take_length [] (suc n) le = absurd (omega arith)
@@ -70,6 +77,7 @@ take_length (a ∷ es) (suc n) le = ap suc (take_length es n (omega arith))
 abbrev pub answers_left : Config → ℕ
 answers_left c = 4 * (c.limit - c.counted) + due c
 
+-- each exchange of an orderly machine leaves it fewer answers to come
 one_falls : (P : Bytecode) (x : Exchange) (p q : Progress) → IsOrderly P p.config → told_one P x p ≡ Some q
     → answers_left q.config < answers_left p.config
 one_falls P x p q orderly is =
@@ -82,6 +90,7 @@ one_falls P x p q orderly is =
     subst (λ (c : Config). answers_left c < answers_left p.config) (sym t.config) (omega arith)
 
 module _ (P : Bytecode) (steps t : ℕ) (es : List Entry) where
+  -- a new machine that fits is at the start of a list whose beginnings are right
   pub begins : Fits P (fresh P t steps) → EachBeginsRight P es → IsAt P steps t es (outset P t steps) 0
   begins fits right = record {
     within = omega arith;
@@ -89,6 +98,7 @@ module _ (P : Bytecode) (steps t : ℕ) (es : List Entry) where
     can = record { fits = fits; orderly = orderly_fresh P t steps; in_range = tt };
   }
 
+  -- a machine that can go on and follows the list past the next entry is at the place after it
   one_on : (p q : Progress) (n : ℕ) (e : Entry) (later : List Entry) → drop n es ≡ e ∷ later → CanGo P q
       → Follows P steps t (take n es ++ e ∷ []) later q → IsAt P steps t es q (n + 1)
   one_on p q n e later same can f =
@@ -102,6 +112,7 @@ module _ (P : Bytecode) (steps t : ℕ) (es : List Entry) where
         can = can;
       })
 
+  -- a machine that is at a trim, and stays as it is, follows the list past it
   passed : (p q : Progress) (n : ℕ) (e : Entry) (later : List Entry) → IsAt P steps t es p n → drop n es ≡ e ∷ later → IsTrim e → q ≡ p
       → CanGo P q → Follows P steps t (take n es ++ e ∷ []) later q
   passed p q n (Trim low) later a same trim still can =
@@ -152,6 +163,7 @@ module _ (P : Bytecode) (steps t : ℕ) (es : List Entry) where
 
   -- ## The end
 
+  -- an orderly stage that asks to be over is over
   over_stage : (s : Stage) (c : Config) (ending : Ending) → StageIsOrderly P c s → ask_of s ≡ AskOver ending → s ≡ IsOver ending
   over_stage New c ending orderly is = cc
   over_stage Begins c ending orderly is = cc
@@ -162,6 +174,7 @@ module _ (P : Bytecode) (steps t : ℕ) (es : List Entry) where
   over_stage (Ends e) c ending orderly is = cc
   over_stage (IsOver e) c ending orderly is = (let same : e ≡ ending = cc in ap IsOver same)
 
+  -- a list that a machine has followed to its end whole is run by it
   pub whole_runs : (p : Progress) (n : ℕ) → EndsAt P steps t es p n → EndsWithOver es → IsWhole p (drop n es) → Runs P steps t es
   whole_runs p n e over w =
       let long : length es ≡ n + 1 = over.alone n (Ended w.ending) (at_by es n (Ended w.ending) w.later w.same) tt in
@@ -170,6 +183,7 @@ module _ (P : Bytecode) (steps t : ℕ) (es : List Entry) where
       let stage = over_stage p.config.stage p.config w.ending e.at.can.orderly.stage w.over in
       subst (Runs P steps t) (sym (take_back n es)) (holds P steps t (take n es) (drop n es) p w.ending e.at.follows last stage)
 
+  -- a list that a machine has followed as far as it can, and not whole, fails its program there
   pub unwhole_fails : (p : Progress) (n : ℕ) → EndsAt P steps t es p n → EndsWithOver es → (IsWhole p (drop n es) → ⊥)
       → ProgramFails P steps t es n
   unwhole_fails p n e over not =

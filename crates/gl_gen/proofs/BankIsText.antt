@@ -16,10 +16,12 @@ use Rattle.gl_gen.specs.BankText.{Line, bank_lines, bank_text, main_lines, trans
 use Rattle.gl_gen.proofs.BankIsRight.{bank_is_faultless}
 use Rattle.gl_gen.proofs.BankReads.{SaysPush, lines_say}
 
+-- where two hold, each does
 both : (a b : Bool) → (a && b) ≡ true → (a ≡ true) × (b ≡ true)
 both true b is = (refl, is)
 both false b is = cc
 
+-- what passes the test for at most is at most as great
 at_most : (a b : ℕ) → nat_le a b ≡ true → a ≤ b
 at_most a b is = grind (arith, nat_tests)
 
@@ -29,21 +31,26 @@ at_most a b is = grind (arith, nat_tests)
 abbrev IsFine : Line → Type 0
 IsFine line = IsPlain line × (length line ≤ 20)
 
+-- a test for lines that are read back and have 20 bytes at most
 abbrev is_fine : Line → Bool
 is_fine line = list_all (λ b. nat_le 32 b && nat_le b 126) line && nat_le (length line) 20
 
+-- bytes that all pass the test for printable ones make a plain line
 plain_bytes : (bytes : List ℕ) → list_all (λ b. nat_le 32 b && nat_le b 126) bytes ≡ true → IsPlain bytes
 plain_bytes [] is = tt
 plain_bytes (b ∷ bytes) is =
     (let here = both _ _ (both _ _ is).0 in ((at_most 32 b here.0, at_most b 126 here.1), plain_bytes bytes (both _ _ is).1))
 
+-- a line that passes the test is fine
 fine : (line : Line) → is_fine line ≡ true → IsFine line
 fine line is = (plain_bytes line (both _ _ is).0, at_most (length line) 20 (both _ _ is).1)
 
+-- lines that all pass the test are fine
 all_fine : (ls : List Line) → list_all is_fine ls ≡ true → AllByRecursion IsFine ls
 all_fine [] is = tt
 all_fine (line ∷ ls) is = (fine line (both _ _ is).0, all_fine ls (both _ _ is).1)
 
+-- fine lines take 21 bytes each at most, with their line feeds
 length_of_fine : (ls : List Line) → AllByRecursion IsFine ls → length (flat_map ended ls) ≤ 21 * length ls
 length_of_fine [] all = omega arith
 length_of_fine (line ∷ ls) all =
@@ -55,9 +62,11 @@ length_of_fine (line ∷ ls) all =
 
 -- ## The line with the number of transfers
 
+-- a printable byte after the sign that starts a comment may stand in a word
 word_byte : (b : ℕ) → 35 < b → b ≤ 126 → IsWordByte b
 word_byte b low high = (omega arith, omega arith, λ e. omega arith)
 
+-- `push` and a number of transfers are words
 push_words : (n : ℕ) → n ≤ 65535 → AreWords (codes "push" ∷ decimal n ∷ [])
 push_words n small = (
   (
@@ -70,9 +79,11 @@ push_words n small = (
   (word_decimal n (omega arith), tt),
 )
 
+-- a number of transfers is a value
 number_fits : (n : ℕ) → n ≤ 65535 → IsValue (pos n)
 number_fits n small = (omega (arith, ints), omega (arith, ints))
 
+-- the line that pushes the number of transfers says so
 push_says : (n : ℕ) → n ≤ 65535 → SaysPush n (codes "  push " ++ decimal n)
 push_says n small =
     let ws : List (List ℕ) = codes "push" ∷ decimal n ∷ [] in
@@ -83,6 +94,7 @@ push_says n small =
       value = value_decimal (pos n) (number_fits n small);
     }
 
+-- the line that pushes the number of transfers is fine
 push_fine : (n : ℕ) → n ≤ 65535 → IsFine (codes "  push " ++ decimal n)
 push_fine n small =
     let digits_of = length-decimal-le 5 n (omega arith) (omega arith) (omega arith) in
@@ -91,9 +103,11 @@ push_fine n small =
 
 -- ## All lines
 
+-- the lines of the class and of main
 abbrev head : List Line
 head = codes "class Bank 8 0" ∷ main_lines
 
+-- the lines of the class and of main are fine
 head_fine : AllByRecursion IsFine head
 unfolding digits
 head_fine = all_fine head refl
@@ -102,19 +116,24 @@ head_fine = all_fine head refl
 abbrev header_line : ℕ → Line
 header_line k = codes "func w" ++ (decimal k ++ codes " 1 2")
 
+-- the lines of an account's function after the one with the number
 abbrev code_lines : ℕ → List Line
 code_lines k = drop 2 (transfer_lines 0 k)
 
+-- the lines of an account's function pass the test, but the one with the number
 abbrev AreFine : ℕ → Type 0
 AreFine k = (is_fine (header_line k) ≡ true) × (list_all is_fine (code_lines k) ≡ true)
 
+-- the lines of all eight accounts' functions pass the test, but those with the number
 transfers_fine : AreFine 0 × AreFine 1 × AreFine 2 × AreFine 3 × AreFine 4 × AreFine 5 × AreFine 6 × AreFine 7
 unfolding digits
 transfers_fine = ((refl, refl), (refl, refl), (refl, refl), (refl, refl), (refl, refl), (refl, refl), (refl, refl), (refl, refl))
 
+-- the lines of an account's function are fine, where they pass the test but for the one with the number
 transfer_fine : (n k : ℕ) → n ≤ 65535 → AreFine k → AllByRecursion IsFine (transfer_lines n k)
 transfer_fine n k small are = (fine (header_line k) are.0, (push_fine n small, all_fine (code_lines k) are.1))
 
+-- all lines of the bank are fine
 lines_fine : (n : ℕ) → n ≤ 65535 → AllByRecursion IsFine (bank_lines n)
 lines_fine n small =
     let t : ℕ → List Line = transfer_lines n in
@@ -131,13 +150,16 @@ lines_fine n small =
 
 -- ## The text
 
+-- what is at most as great does not pass the test for greater
 not_over : (a b : ℕ) → b ≤ a → nat_lt a b ≡ false
 not_over a b most = grind (arith, nat_tests)
 
+-- a text that is not too long is read by its lines
 read_short : (text : List ℕ) → length text ≤ LONGEST → text_read text ≡ lines_read (lines text)
 unfolding text_read
 read_short text short = rw (not_over LONGEST (length text) short) refl
 
+-- the bank's text is a text of the bank, with no inputs, up to the greatest number of transfers
 pub bank_is_text : (n : ℕ) → n ≤ 65535 → IsText (bank_text n) (bank_program n) []
 bank_is_text n small =
     let are = lines_fine n small in

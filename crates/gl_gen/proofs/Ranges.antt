@@ -37,6 +37,7 @@ with_more_from_one f front j least =
     (ap (λ k. flat_map f (range_with_len 1 (j - 1)) ++ f k) (sym e) ∙ sym (flat_more f 1 (j - 1))
     ∙ ap (λ n. flat_map f (range_with_len 1 n)) s)
 
+-- the things of one number more are the things before and that of the number
 map_more : {A : Type 0} (f : ℕ → A) (a n : ℕ) → map f (range_with_len a (suc n)) ≡ map f (range_with_len a n) ++ f (a + n) ∷ []
 map_more f a zero = (let e : a ≡ a + 0 = omega arith in ap (λ k. f k ∷ []) e)
 map_more f a (suc n) =

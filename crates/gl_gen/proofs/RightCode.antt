@@ -12,26 +12,31 @@ use Rattle.gl_bytecode.specs.Instructions.{gives, needs, successors}
 use Rattle.gl_bytecode.specs.Programs.{Bytecode}
 use Rattle.gl_gen.specs.Bank.{plain_function}
 
+-- where two hold, each does
 both : (a b : Bool) → (a && b) ≡ true → (a ≡ true) × (b ≡ true)
 both true b is = (refl, is)
 both false b is = cc
 
 -- ## What is named
 
+-- a test for no fault
 abbrev pub is_none : Option ℕ → Bool
 is_none None = true
 is_none (Some kind) = false
 
+-- where the test for no fault passes, there is none
 of_none : (o : Option ℕ) → is_none o ≡ true → o ≡ None
 of_none None is = refl
 of_none (Some kind) is = cc
 
+-- where each element passes the test for no fault, there is none at any place
 each_none : {X : Type 0} (f : X → Option ℕ) (xs : List X) (k : ℕ) → list_all (λ x. is_none (f x)) xs ≡ true
     → option_and_then f (slice_get xs k) ≡ None
 each_none f [] k is = refl
 each_none f (x ∷ xs) zero is = of_none (f x) (both _ _ is).0
 each_none f (x ∷ xs) (suc k) is = each_none f xs k (both _ _ is).1
 
+-- where each instruction passes the test, nothing that a function without catches names is wrong
 named_right : (P : Bytecode) (args locals : ℕ) (code : List Instr)
     → list_all (λ i. is_none (instr_fault P (plain_function args locals code) i)) code ≡ true
     → (at : ℕ) → fault_at P (plain_function args locals code) at ≡ None
@@ -46,6 +51,7 @@ named_right P args locals code is at = by_test (nat_lt at (length code)) where
 
 -- ## Depths
 
+-- a test for this depth
 abbrev pub is_depth : ℕ → Option ℕ → Bool
 is_depth n None = false
 is_depth n (Some m) = m == n
@@ -56,6 +62,7 @@ leads_on P depths at i n =
     nat_le n OPERANDS && nat_le (needs P i) n && list_all (λ to. is_depth ((n - needs P i) + gives i) (slice_get depths to))
     (successors i at)
 
+-- a test that an instruction leads on from the depth at its place, if it has one
 abbrev pub leads_from : Bytecode → List ℕ → ℕ → Instr → Option ℕ → Bool
 leads_from P depths at i None = true
 leads_from P depths at i (Some n) = leads_on P depths at i n
@@ -65,18 +72,22 @@ abbrev pub lead_on : Bytecode → List ℕ → ℕ → List Instr → Bool
 lead_on P depths at [] = true
 lead_on P depths at (i ∷ more) = leads_from P depths at i (slice_get depths at) && lead_on P depths (at + 1) more
 
+-- what passes the test for a depth is that depth
 of_depth : (n : ℕ) (o : Option ℕ) → is_depth n o ≡ true → o ≡ Some n
 of_depth n None is = cc
 of_depth n (Some m) is = (let same : m ≡ n = grind (arith, nat_tests) in ap Some same)
 
+-- where the depths at places all pass the test, they are all that depth
 onward : (depths : List ℕ) (n : ℕ) (tos : List ℕ) → list_all (λ to. is_depth n (slice_get depths to)) tos ≡ true
     → AllByRecursion (λ to. slice_get depths to ≡ Some n) tos
 onward depths n [] is = tt
 onward depths n (to ∷ tos) is = (of_depth n (slice_get depths to) (both _ _ is).0, onward depths n tos (both _ _ is).1)
 
+-- what passes the test for at most is at most as great
 at_most : (a b : ℕ) → nat_le a b ≡ true → a ≤ b
 at_most a b is = grind (arith, nat_tests)
 
+-- an instruction that passes the test leads on with the depths of the list
 leads : (P : Bytecode) (depths : List ℕ) (at : ℕ) (i : Instr) (n : ℕ) → leads_on P depths at i n ≡ true
     → LeadsOn P (slice_get depths) i at n
 leads P depths at i n is =
@@ -88,11 +99,13 @@ leads P depths at i n is =
       onward = onward depths ((n - needs P i) + gives i) (successors i at) all.1;
     }
 
+-- an instruction that passes the test at its place passes it for the depth there
 at_depth : (P : Bytecode) (depths : List ℕ) (at : ℕ) (i : Instr) (o : Option ℕ) (n : ℕ) → leads_from P depths at i o ≡ true → o ≡ Some n
     → leads_on P depths at i n ≡ true
 at_depth P depths at i None n is there = cc
 at_depth P depths at i (Some m) n is there = (let same : m ≡ n = cc in subst (λ k. leads_on P depths at i k ≡ true) same is)
 
+-- where the code passes the test from a place on, each instruction with a depth leads on
 lead_from :
     (P : Bytecode) (depths : List ℕ) (at : ℕ) (code : List Instr) → lead_on P depths at code ≡ true → (k n : ℕ) (i : Instr)
     → slice_get code k ≡ Some i →
@@ -110,6 +123,7 @@ lead_from P depths at (j ∷ more) is (suc k) n i there =
     let Q : ℕ → Type 0 = λ p. slice_get depths p ≡ Some n → LeadsOn P (slice_get depths) i p n in
     subst Q further (lead_from P depths (at + 1) more (both _ _ is).1 k n i there)
 
+-- where a function's code passes the test and starts with an empty stack, the listed depths are its depths
 are_depths : (P : Bytecode) (args locals : ℕ) (code : List Instr) (depths : List ℕ) → slice_get depths 0 ≡ Some 0 → lead_on P depths 0 code
     ≡ true
     → AreDepths P (plain_function args locals code) (slice_get depths)
@@ -123,6 +137,7 @@ are_depths P args locals code depths starts is = record {
 
 -- ## The whole function
 
+-- where a function's code passes all tests, nothing is wrong with the function
 pub right_by :
     (P : Bytecode) (args locals : ℕ) (code : List Instr) (depths : List ℕ)
     → list_all (λ i. is_none (instr_fault P (plain_function args locals code) i)) code ≡ true →

@@ -35,6 +35,7 @@ definitions_on c line (text ∷ ls) rest =
 
 -- ## What they add
 
+-- a test that what is added is no inputs
 abbrev pub adds_no_inputs : Addition → Bool
 adds_no_inputs Nothing = true
 adds_no_inputs (AddsClass plain volatile) = true
@@ -43,6 +44,7 @@ adds_no_inputs (AddsInstruction i) = true
 adds_no_inputs (AddsCatch c) = true
 adds_no_inputs (AddsInputs values) = false
 
+-- what passes the test adds no inputs
 no_inputs : (a : Addition) → adds_no_inputs a ≡ true → inputs_in a ≡ []
 no_inputs Nothing is = refl
 no_inputs (AddsClass plain volatile) is = refl
@@ -51,6 +53,7 @@ no_inputs (AddsInstruction i) is = refl
 no_inputs (AddsCatch c) is = refl
 no_inputs (AddsInputs values) is = cc
 
+-- where two hold, each does
 both : (a b : Bool) → (a && b) ≡ true → (a ≡ true) × (b ≡ true)
 both true b is = (refl, is)
 both false b is = cc
@@ -63,6 +66,7 @@ record Splits (r : Result Addition ℕ) (more : Addition → Result (List Additi
   go_on : more first ≡ Ok others
   whole : bs ≡ first ∷ others
 
+-- where a first addition and others are read, they split into that and the others
 splits_others : (a : Addition) (more : Addition → Result (List Addition) LineFault) (s : Result (List Addition) LineFault)
     (bs : List Addition) → more a ≡ s
     → (s >>= (λ others. Ok (a ∷ others))) ≡ Ok bs → Splits (Ok a) more bs
@@ -70,6 +74,7 @@ splits_others a more (Err fault) bs s_is is = cc
 splits_others a more (Ok others) bs s_is is =
     (let whole : bs ≡ a ∷ others = cc in record { first = a; others = others; says = refl; go_on = s_is; whole = whole })
 
+-- where a line and then others are read, what they add splits into what the line adds and the others
 splits : (r : Result Addition ℕ) (line : ℕ) (more : Addition → Result (List Addition) LineFault) (bs : List Addition)
     → (at_line line r >>= (λ a. more a >>= (λ others. Ok (a ∷ others)))) ≡ Ok bs → Splits r more bs
 splits (Err kind) line more bs is = cc

@@ -9,6 +9,7 @@ use Rattle.gl_text.specs.Text.{is_bad, is_bad_byte}
 use Rattle.gl_names.specs.Names.{is_name}
 use Rattle.gl_names.specs.Tables.{slot}
 
+-- where not one of two holds, neither does
 or_none : (a b : Bool) → a || b ≡ false → (a ≡ false) × (b ≡ false)
 or_none true b e = absurd (true≢false e)
 or_none false b e = (refl, e)
@@ -17,6 +18,7 @@ or_none false b e = (refl, e)
 ascii_byte : (b : ℕ) → is_bad_byte b ≡ false → b < 128
 ascii_byte b e = grind (arith, nat_tests)
 
+-- a byte below 128 before bytes that are all below it leaves them all so
 ascii_more : (b : ℕ) (bs : List ℕ) → b < 128 → IsAscii bs → IsAscii (b ∷ bs)
 ascii_more b bs here rest zero = here
 ascii_more b bs here rest (suc i) = rest i
@@ -28,6 +30,7 @@ ascii (b ∷ bs) e =
     let apart = or_none (is_bad_byte b) (is_bad bs) e in
     ascii_more b bs (ascii_byte b apart.0) (ascii bs apart.1)
 
+-- a name that is short and not bad is not bad
 good : (short bad : Bool) → short && not bad ≡ true → bad ≡ false
 good true true e = absurd (true≢false (sym e))
 good true false e = refl

@@ -10,12 +10,15 @@ use Rattle.gl_follow.specs.Beginnings.{BeginsAreRight}
 use Rattle.gl_raised.specs.RaceFaults.{AreSteps}
 
 module _ (P : Bytecode) (inputs : List ℤ) (steps : ℕ) (R : Lists) (lawful : Lawful P inputs steps R) where
+  -- in a lawful record of a valid program each thread begins rightly
   pub begins_right_in : IsValid P → BeginsAreRight P R
   begins_right_in valid =
       begins_are_right P inputs R valid (lawful.allowed.events, lawful.allowed.listed, lawful.allowed.machine)
 
+  -- the events of a lawful record are listed
   pub listed_in : Listed R
   listed_in = (lawful.allowed.events, lawful.allowed.listed)
 
+  -- the events of a lawful record are a run of the machine
   pub steps_in : AreSteps R
   steps_in = (setting_of P inputs, (lawful.allowed.events, lawful.allowed.listed, lawful.allowed.machine))

@@ -9,14 +9,17 @@ use Rattle.gl_audited.proofs.CutLines.{one_cut}
 use Rattle.gl_bytecode.specs.Programs.{Bytecode}
 use Rattle.gl_model.specs.Entries.{Entry}
 
+-- a list and nothing after it are that list
 append_none : {A : Type 0} (xs : List A) → xs ++ [] ≡ xs
 append_none [] = refl
 append_none (x ∷ xs) = ap (λ l. x ∷ l) (append_none xs)
 
+-- three lists are the same however they are put together
 append_three : {A : Type 0} (xs ys zs : List A) → (xs ++ ys) ++ zs ≡ xs ++ (ys ++ zs)
 append_three [] ys zs = refl
 append_three (x ∷ xs) ys zs = ap (λ l. x ∷ l) (append_three xs ys zs)
 
+-- the texts of the elements before a place, and that of the one at it, are the texts before the next place
 flat_more : {A : Type 0} (f : A → List ℕ) (xs : List A) (n : ℕ) (x : A) → slice_get xs n ≡ Some x
     → flat_map f (take n xs) ++ f x ≡ flat_map f (take (n + 1) xs)
 flat_more f [] n x there = absurd (cc)

@@ -18,13 +18,16 @@ use Rattle.gl_pages.specs.LawfulRun.{IsMade, LawfulRun, lists_in}
 use Rattle.gl_pages.proofs.LawfulRuns.{begins_right_in}
 
 module _ (run : LawfulRun) (makers : List (List Maker)) (made : IsMade run makers) (c : Place) where
+  -- each thread begins rightly in the list of this place's thread
   right : EachBeginsRight run.program (lists_in run c.thread)
   right = begins_right run.program (lists_in run) c.thread
       (begins_right_in run.program made.is.inputs run.steps (lists_in run) made.is.lawful made.valid)
 
+  -- the maker that is told for a place made the entry there
   maker_right : (m : Maker) → maker_at makers c ≡ Some m → IsMaker run.program run.steps c.thread (lists_in run c.thread) c.index m
   maker_right m is = (made.made c.thread).each c.index m is
 
+  -- where an instruction made the entry, its line in the program's text, if there is one, is the source of the place
   pub by_instruction : (site : Site) (line : Option SourceLine) → maker_at makers c ≡ Some (Instruction site)
       → MatchOption line ((n : ℕ) → IsLineOf run.text site.function site.place n → ⊥)
       (λ l. IsSourceOf run.text site.function site.place l.number l.text.now l.function.now)
@@ -40,14 +43,17 @@ module _ (run : LawfulRun) (makers : List (List Maker)) (made : IsMade run maker
     source = source;
   }
 
+  -- an entry that no instruction made has no source
   pub by_none : maker_at makers c ≡ Some NoInstruction → IsSource run c None
   by_none is f i n from =
       not_both run.program run.steps c.thread (lists_in run c.thread) c.index made.valid right f i from.made (maker_right NoInstruction is)
 
+  -- an entry that is a note has no source
   pub by_note : maker_at makers c ≡ Some Note → IsSource run c None
   by_note is f i n from =
       note_unmade run.program run.steps c.thread (lists_in run c.thread) c.index from.made.asking (maker_right Note is) from.made.is
 
+  -- a place without a maker has no source
   pub not_there : maker_at makers c ≡ None → IsSource run c None
   not_there is f i n from =
       let there = from.made.is.there in

@@ -33,6 +33,7 @@ none_below t n (l ∷ ls) le above =
 abbrev pub GathersNext : ℕ → List (ℕ × List Entry) → Type 0
 GathersNext t ls = by_thread (below (t + 1) ls) ≡ by_thread (below t ls) ++ with_thread (t, lists_of ls t)
 
+-- where the next thread's list is the first, gathering it adds that list to those of the threads below
 next_is_first : (t : ℕ) (l : ℕ × List Entry) (ls : List (ℕ × List Entry)) → l.0 ≡ t → AllByRecursion (λ s. l.0 < s) (map (λ l. l.0) ls)
     → GathersNext t (l ∷ ls)
 next_is_first t l ls same above =
@@ -42,6 +43,7 @@ next_is_first t l ls same above =
     rw (within, out, here, none_below l.0 (t + 1) ls (omega arith) above, none_below l.0 t ls (omega arith) above)
     (append-nil (with_thread l) ∙ ap (λ s. with_thread (s, l.1)) same)
 
+-- where the first list is not the next thread's, gathering that one is the same with it as without it
 next_is_later : (t : ℕ) (l : ℕ × List Entry) (ls : List (ℕ × List Entry)) → (l.0 < t) ⊎ (t < l.0) → GathersNext t ls
     → GathersNext t (l ∷ ls)
 next_is_later t l ls (inl lt) more =

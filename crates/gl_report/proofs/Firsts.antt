@@ -14,6 +14,7 @@ use Rattle.gl_model.specs.Report.{entry_prints, is_event_at, out_line, printed_b
 use Rattle.gl_report.specs.Firsts.{AreFirsts}
 use Rattle.gl_report.specs.Lines.{out_lines_at}
 
+-- an option, or else none, is that option
 or_none : {A : Type 0} (o : Option A) → option_or o None ≡ o
 or_none None = refl
 or_none (Some x) = refl
@@ -27,6 +28,7 @@ met : (p : ℕ) (e : Entry) (es : List Entry) → is_event_at p e ≡ true → f
     ≡ option_or (find (is_event_at p) es) (Some e)
 met p e es here = find-append (is_event_at p) es (e ∷ []) ∙ rw here refl
 
+-- what stands first at a position stays, and else the new entry stands there, each as it is seen
 or_entry : {A B : Type 0} (v : A → B) (o : Option A) (a : A) → option_or (option_map v o) (Some (v a)) ≡ Some (v (unwrap_or o a))
 or_entry v None a = refl
 or_entry v (Some x) a = refl
@@ -76,5 +78,6 @@ module _ {A : Type 0} (v : A → Entry) (es : List Entry) (slots : List (Option 
       ∙ ap (λ back. flat_map out_line (printed_below es n) ++ back) last
       ∙ sym (flat_map-append out_line (printed_below es n) (entry_prints (find (is_event_at n) es)))
 
+  -- the lines of output for the first entries at all positions are those of what is printed
   pub prints_are : flat_map (out_lines_at v) slots ≡ flat_map out_line (printed_below es (length slots))
   prints_are = ap (flat_map (out_lines_at v)) (sym (take-length slots)) ∙ prints_below (length slots) (omega arith)

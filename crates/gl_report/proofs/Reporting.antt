@@ -14,20 +14,24 @@ use Rattle.gl_model.specs.Report.{all_entries, end_lines, end_of, event_count, i
 use Rattle.gl_report.specs.ByThread.{by_thread, with_thread}
 use Rattle.gl_report.specs.Lines.{ended_lines, is_raised, raced_lines}
 
+-- a list that is mapped twice is mapped once by both
 map_map : {A B C : Type 0} (f : B → C) (g : A → B) (xs : List A) → map f (map g xs) ≡ map (λ x. f (g x)) xs
 map_map f g [] = refl
 map_map f g (x ∷ xs) = ap (λ rest. f (g x) ∷ rest) (map_map f g xs)
 
+-- lists of lists that are made and joined twice are made and joined once by both
 flat_flat : {A B C : Type 0} (f : B → List C) (g : A → List B) (xs : List A) → flat_map f (flat_map g xs)
     ≡ flat_map (λ x. flat_map f (g x)) xs
 flat_flat f g [] = refl
 flat_flat f g (x ∷ xs) = flat_map-append f (g x) (flat_map g xs) ∙ ap (λ rest. flat_map f (g x) ++ rest) (flat_flat f g xs)
 
+-- what counts each element the same counts all the same
 sum_same : {A : Type 0} (f g : A → ℕ) (xs : List A) → ((x : A) → f x ≡ g x) → sum_by f xs ≡ sum_by g xs
 sum_same f g [] same = refl
 sum_same f g (x ∷ xs) same = (let one = same x in let more = sum_same f g xs same in let left = sum_by-cons f x xs
     in let right = sum_by-cons g x xs in omega arith)
 
+-- the sum over a mapped list is the sum over the list, of what each element is mapped to
 sum_mapped : {A B : Type 0} (v : A → B) (f : B → ℕ) (xs : List A) → sum_by f (map v xs) ≡ sum_by (λ x. f (v x)) xs
 sum_mapped v f [] = refl
 sum_mapped v f (x ∷ xs) = (let more = sum_mapped v f xs in let left = sum_by-cons f (v x) (map v xs)
@@ -68,6 +72,7 @@ module _ {A : Type 0} (v : A → ℕ × Entry) (xs : List A) (made : List (ℕ �
   pub all_are : map (λ x. (v x).1) xs ≡ all_entries made
   all_are = sym (map_map (λ p. p.1) v xs) ∙ ap (map (λ p. p.1)) are ∙ entries_are made
 
+  -- the events that are counted among the entries are those of the record
   pub events_are : count_by (λ x. is_event (v x).1) xs ≡ event_count made
   events_are = sym (sum_mapped (λ x. (v x).1) (λ e. cond (is_event e) 1 0) xs) ∙ ap (count_by is_event) all_are
 
@@ -75,12 +80,15 @@ module _ {A : Type 0} (v : A → ℕ × Entry) (xs : List A) (made : List (ℕ �
   gives : {B : Type 0} (h : ℕ → Entry → List B) → flat_map (λ x. h (v x).0 (v x).1) xs ≡ flat_map (λ l. flat_map (h l.0) l.1) made
   gives h = sym (flat_map-map (λ p. h p.0 p.1) v xs) ∙ ap (flat_map (λ p. h p.0 p.1)) are ∙ gives_are h made
 
+  -- the lines for races among the entries are the record's lines of races
   pub races_are : flat_map (λ x. raced_lines (v x).0 (v x).1) xs ≡ flat_map (λ bytes. bytes) (race_lines made)
   races_are = sym (flat_flat (λ bytes. bytes) (λ x. race_of (v x).0 (v x).1) xs) ∙ ap (flat_map (λ bytes. bytes)) (gives race_of)
 
+  -- the lines for ends of threads among the entries are the record's lines of ends
   pub ends_are : flat_map (λ x. ended_lines (v x).0 (v x).1) xs ≡ flat_map (λ bytes. bytes) (end_lines made)
   ends_are = sym (flat_flat (λ bytes. bytes) (λ x. end_of (v x).0 (v x).1) xs) ∙ ap (flat_map (λ bytes. bytes)) (gives end_of)
 
+  -- the races that are counted among the entries are as many as the record's lines of races
   pub many_races : count_by (λ x. is_raised (v x).1) xs ≡ length (race_lines made)
   many_races =
       sym

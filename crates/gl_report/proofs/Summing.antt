@@ -45,5 +45,6 @@ module _ {A : Type 0} (v : A → Entry) (es : List Entry) (slots : List (Option 
       ∙ ap (λ front. front ++ flat_map (prints_at v) (slot ∷ [])) (values_below n (omega arith))
       ∙ ap (λ back. printed_below es n ++ back) last
 
+  -- the values printed by the first entries at all positions are those that the record prints
   pub values_are : flat_map (prints_at v) slots ≡ printed_below es (length slots)
   values_are = ap (flat_map (prints_at v)) (sym (take-length slots)) ∙ values_below (length slots) (omega arith)

@@ -22,6 +22,7 @@ fits_fresh P t steps valid = record { depths = valid.0; sound = valid.1; keeps =
 
 -- ## An exchange more
 
+-- exchanges that lead on and one more that does lead on together
 pub told_on : (P : Bytecode) (xs : List Exchange) (x : Exchange) (p m q : Progress) → told P p xs ≡ Some m → told_one P x m ≡ Some q
     → told P p (xs ++ x ∷ []) ≡ Some q
 unfolding told
@@ -31,11 +32,13 @@ told_on P (y ∷ xs) x p m q is last =
     let parts = told_cons P y xs p m is in
     told_more P y (xs ++ x ∷ []) p parts.mid (Some q) parts.first (told_on P xs x parts.mid m q parts.rest last)
 
+-- one more exchange with an entry puts that entry at the end of the entries
 pub entries_on : (xs : List Exchange) (e : Entry) → entries_of (xs ++ Made e ∷ []) ≡ entries_of xs ++ e ∷ []
 entries_on [] e = refl
 entries_on (Made d ∷ xs) e = ap (λ es. d ∷ es) (entries_on xs e)
 entries_on (Quiet r ∷ xs) e = entries_on xs e
 
+-- exchanges with one more that has an entry end with an entry
 pub ends_made : (xs : List Exchange) (e : Entry) → EndsMade (xs ++ Made e ∷ [])
 ends_made [] e = tt
 ends_made (Made d ∷ []) e = tt
@@ -43,6 +46,7 @@ ends_made (Quiet r ∷ []) e = tt
 ends_made (Made d ∷ (y ∷ ys)) e = ends_made (y ∷ ys) e
 ends_made (Quiet r ∷ (y ∷ ys)) e = ends_made (y ∷ ys) e
 
+-- a list with one more at its end is not empty
 none_on : {A : Type 0} (xs : List A) (x : A) → [] ≡ xs ++ x ∷ [] → ⊥
 none_on [] x is = cc
 none_on (y ∷ xs) x is = cc
@@ -70,10 +74,12 @@ ends_by p (Some a) (Read x) e r is attends gives = (let none = no_entry p (Some 
 ends_by p (Some a) (Write x v) e r is attends gives = (let none = no_entry p (Some a) (Write x v) e is tt in cc)
 ends_by p (Some a) ask e r is attends gives = absurd attends
 
+-- an option that is not there is none
 some_not : (o : Option Attempt) → is_some o ≡ false → o ≡ None
 some_not None is = refl
 some_not (Some a) is = cc
 
+-- no attempt runs after an exchange with an entry
 pub made_over : (P : Bytecode) (e : Entry) (p q : Progress) → Fits P p.config → told_one P (Made e) p ≡ Some q → q.config.attempt ≡ None
 made_over P e p q fits is =
     let t = told_of P (Made e) p q is in

@@ -39,12 +39,14 @@ more_at (a ∷ xs) x y (suc n) there = elim (more_at xs x y n there) [
   | inr last ↦ inr (ap suc last.0, last.1)
 ]
 
+-- a list with one more at its end is one longer
 pub one_longer : {A : Type 0} (xs : List A) (x : A) → length (xs ++ x ∷ []) ≡ length xs + 1
 one_longer [] x = refl
 one_longer (a ∷ xs) x = (let more = one_longer xs x in omega arith)
 
 -- ## The maker of one entry
 
+-- at each stage an instruction is at work, and its place is the frame's, or none is
 by_stage : (s : Stage) (f : Frame) → ((site : Site) × (site_at s f ≡ Some site) × IsOfInstruction s × (f.function ≡ site.function)
     × (f.place ≡ site.place))
     ⊎ ((site_at s f ≡ None) × (IsOfInstruction s → ⊥))
@@ -66,6 +68,7 @@ first_is : (rest : List StoredEntry) (e : StoredEntry) → slice_get rest 0 ≡ 
 first_is [] e there = absurd (cc)
 first_is (a ∷ rest) e there = (let same : a ≡ e = cc in (map seen rest, ap (λ b. seen b ∷ map seen rest) same))
 
+-- a machine that no silent reply moves passes the next entry, and what its stage and the entry say made it
 pub passes_by : (P : Bytecode) (p r q : Progress) (rest : List StoredEntry) (e : StoredEntry) (site : Option Site) (m : Maker)
     → slice_get rest 0 ≡ Some e → StaysSilent p (map seen rest) r → site ≡ site_of r.config → Passes P r (seen e) q
     → m ≡ maker_of site (seen e) → PassesBy P p (map seen rest) q m
@@ -83,6 +86,7 @@ passes_by P p r q rest e site m there silent stands passes by =
     }
 
 module _ (P : Bytecode) (steps t : ℕ) (es : List Entry) where
+  -- an entry that answers a machine is made by what the machine's stage says
   answered_by : (p : Progress) (n : ℕ) → IsAnswered P steps t es n p → IsMaker P steps t es n (maker_by (site_of p.config))
   answered_by p n is = elim (by_stage p.config.stage p.config.frame) [
     | inl (site, standing, by, function, place) ↦
@@ -129,6 +133,7 @@ module _ (P : Bytecode) (steps t : ℕ) (es : List Entry) where
     answered = answer.1;
   })
 
+  -- the first makers of a list and that of the next entry are its first makers, one more
   one_more : (makers : List Maker) (m : Maker) → AreFirstMakers P steps t es makers → IsMaker P steps t es (length makers) m
       → AreFirstMakers P steps t es (makers ++ m ∷ [])
   one_more makers m before here n k there = elim (more_at makers m k n there) [
@@ -138,9 +143,11 @@ module _ (P : Bytecode) (steps t : ℕ) (es : List Entry) where
 
   -- ## Along the list
 
+  -- before the first entry no maker is told
   pub none_made : Fits P (fresh P t steps) → EachBeginsRight P es → AreMadeTo P steps t es (outset P t steps) []
   none_made fits right = record { at = begins P steps t es fits right; made = λ n m there. absurd (cc) }
 
+  -- a reply that leaves no entry keeps the makers that are told
   pub goes_quietly : (p q : Progress) (makers : List Maker) → AreMadeTo P steps t es p makers → touched p ≤ TX_VARIABLES
       → GoesQuietly P p (drop (length makers) es) q → CanGo P q → AreMadeTo P steps t es q makers
   goes_quietly p q makers so_far few goes can = record {
@@ -148,6 +155,7 @@ module _ (P : Bytecode) (steps t : ℕ) (es : List Entry) where
     made = so_far.made;
   }
 
+  -- an entry that is passed adds its maker to those that are told
   pub goes_by : (p q : Progress) (makers : List Maker) (m : Maker) → AreMadeTo P steps t es p makers → touched p ≤ TX_VARIABLES
       → PassesBy P p (drop (length makers) es) q m → CanGo P q → AreMadeTo P steps t es q (makers ++ m ∷ [])
   goes_by p q makers m so_far few passes can =
@@ -180,6 +188,8 @@ module _ (P : Bytecode) (steps t : ℕ) (es : List Entry) where
   left_over p n ends over runs (Abort tx why ∷ l) is =
       absurd ((unwhole_fails P steps t es p n ends over (λ w. (let same = w.same in cc))).not_whole runs)
 
+  -- where a machine stops at the end of a list that it runs, the makers told and a note for the last entry are the makers of the
+  -- list
   pub all_made : (p : Progress) (makers : List Maker) → AreMadeTo P steps t es p makers → touched p ≤ TX_VARIABLES
       → Stops P p (drop (length makers) es) → EndsWithOver es → Runs P steps t es → AreMakers P steps t es (makers ++ Note ∷ [])
   all_made p makers so_far few stops over runs =

@@ -33,25 +33,30 @@ pub record Makes (text : List ℕ) (D : Draft) : Type 0 where
   pub draft : draft_by text adding ≡ D
   pub short : length text ≤ LONGEST
 
+-- a reading that is all right gives one draft and one list of inputs
 one_pair : (r : Result (Draft × List ℤ) LineFault) (x y : Draft × List ℤ) → r ≡ Ok x → r ≡ Ok y → x ≡ y
 one_pair r x y one other = cc
 
+-- a draft that was built was built of additions that were read without a fault
 of_built : (E : Draft) (r : Result (List Addition) LineFault) (D : Draft) (zs : List ℤ) → built E [] r ≡ Ok (D, zs)
     → (adding : List Addition) × (r ≡ Ok adding) × (fold added E adding ≡ D)
 of_built E (Ok adding) D zs is =
     (adding, refl, ap (λ p. p.0) (one_pair (built E [] (Ok adding)) (fold added E adding, [] ++ flat_map inputs_in adding) (D, zs) refl is))
 of_built E (Err fault) D zs is = cc
 
+-- a reading under a condition that is all right is the reading, and the condition for a fault does not hold
 of_short : (b : Bool) (r : Result (Draft × List ℤ) LineFault) (fault : LineFault) (x : Draft × List ℤ)
     → (if b then Err fault else r) ≡ Ok x → (b ≡ false) × (r ≡ Ok x)
 of_short true r fault x is = cc
 of_short false r fault x is = (refl, is)
 
+-- a text that is read without a fault is not too long, and its lines are read
 read_of : (text : List ℕ) (x : Draft × List ℤ) → text_read text ≡ Ok x
     → (nat_lt LONGEST (length text) ≡ false) × (lines_read (lines text) ≡ Ok x)
 unfolding text_read
 read_of text x is = of_short (nat_lt LONGEST (length text)) (lines_read (lines text)) (0, kinds.TOO_LONG) x is
 
+-- the lines of a text of a program make its draft
 pub makes : (text : List ℕ) (P : Bytecode) (inputs : List ℤ) → IsText text P inputs → Makes text (draft_of P)
 makes text P inputs is =
     let read = read_of text (draft_of P, inputs) is.read in
@@ -78,6 +83,7 @@ of_instr : (o : Option Function) (i : ℕ) (x : Instr) → option_and_then (λ (
 of_instr (Some F) i x is = is
 of_instr None i x is = cc
 
+-- an instruction in a function's list of code is that of the function at this place
 to_instr : (o : Option Function) (i : ℕ) (x : Instr) → slice_get (code_of o) i ≡ Some x
     → option_and_then (λ (F : Function). slice_get F.code i) o ≡ Some x
 to_instr (Some F) i x is = is
@@ -129,6 +135,7 @@ not_before text adding k m f i x y one other less =
     let count = other.instructions in
     omega (arith, within, count)
 
+-- two numbers of which neither is less are equal
 same_number : (k m : ℕ) → (k < m → ⊥) → (m < k → ⊥) → k ≡ m
 same_number zero zero one other = refl
 same_number zero (suc m) one other = absurd (one (omega arith))

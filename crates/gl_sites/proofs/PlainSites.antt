@@ -30,6 +30,7 @@ orderly_along P (x ∷ xs) p q orderly is =
     let t = told_of P x p parts.mid parts.first in
     orderly_along P xs parts.mid q (subst (IsOrderly P) (sym t.config) (orderly_next P p t.reply orderly t.fits)) parts.rest
 
+-- a choice between none and none gives no reply
 neither : (b : Bool) (r : Reply) → (if b then None else None) ≡ Some r → ⊥
 neither true r is = cc
 neither false r is = cc
@@ -46,6 +47,7 @@ asked_by (stages.Leaves ending o) b x write value raised r is = absurd (neither 
 asked_by (stages.Ends ending) b x write value raised r is = absurd (neither b r is)
 asked_by (stages.Over ending) b x write value raised r is = absurd (neither b r is)
 
+-- a plain access is neither a trim nor the end of a thread
 no_note : (x nth : ℕ) (cached write : Bool) (value : ℤ) (raised : Bool) (e : Entry) → e ≡ Plain x nth cached write value raised
     → IsTrim e ⊎ IsOver e → ⊥
 no_note x nth cached write value raised e is note =
@@ -53,6 +55,7 @@ no_note x nth cached write value raised e is note =
 
 module _ (P : Bytecode) (steps t : ℕ) (list : List Entry) (n : ℕ) (text : List ℕ) (inputs : List ℤ) (says : IsText text P inputs)
     (x nth : ℕ) (cached write : Bool) (value : ℤ) (raised : Bool) (there : At list n (Plain x nth cached write value raised)) where
+  -- where a plain access answers a machine, it has a line of the program's text
   from_answer : (p : Progress) → IsAnswered P steps t list n p → HasLine text P steps t list n
   from_answer p is =
       let same : is.entry ≡ Plain x nth cached write value raised = (let a = is.there in let b = there in cc) in
@@ -70,6 +73,7 @@ module _ (P : Bytecode) (steps t : ℕ) (list : List Entry) (n : ℕ) (text : Li
         is_line = line.1;
       }
 
+  -- a plain access in a list that its machine runs has a line of the program's text
   has_line : Runs P steps t list → HasLine text P steps t list n
   has_line runs =
       elim (some_maker P steps t list n runs (slice_get_within list n (Plain x nth cached write value raised) there)) [
@@ -81,6 +85,7 @@ module _ (P : Bytecode) (steps t : ℕ) (list : List Entry) (n : ℕ) (text : Li
         ]
       ]
 
+-- a plain access in a list that its machine makes has a line of the program's text
 pub plain_has_line : PlainHasLine
 plain_has_line text P inputs steps t list n x nth cached write value raised says runs there =
     has_line P steps t list n text inputs says x nth cached write value raised there runs

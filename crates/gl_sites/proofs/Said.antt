@@ -42,6 +42,7 @@ in_any Q (Err kind) holds = tt
 abbrev pub IsOfForm : Form → Addition → Type 0
 IsOfForm form a = kind_of a ≡ adds_of form
 
+-- what the words of a class's line say, where it is no fault, adds what that form says
 class_adds : (table : List Definition) (c : Counts) (line : ℕ) (ws : List Word) → IfOk (class_of table c line ws) (IsOfForm Class)
 unfolding class_of
 class_adds table c line ws =
@@ -53,6 +54,7 @@ class_adds table c line ws =
     (λ u. bound (IsOfForm Class) (count_of 0 VARIABLES w.1) (λ p. count_of 0 VOLATILES w.2 >>= (λ v. Ok (AddsClass p v)))
     (λ p. bound (IsOfForm Class) (count_of 0 VOLATILES w.2) (λ v. Ok (AddsClass p v)) (λ v. refl))))
 
+-- what the words of a function's line say, where it is no fault, adds what that form says
 function_adds : (table : List Definition) (c : Counts) (line : ℕ) (ws : List Word)
     → IfOk (function_of table c line ws) (IsOfForm Function)
 unfolding function_of
@@ -65,6 +67,7 @@ function_adds table c line ws =
     (λ u. bound (IsOfForm Function) (count_of 0 LOCALS w.1) (λ p. count_of 0 LOCALS w.2 >>= (λ v. Ok (AddsFunction p v)))
     (λ p. bound (IsOfForm Function) (count_of 0 LOCALS w.2) (λ v. Ok (AddsFunction p v)) (λ v. refl))))
 
+-- what the word of a label's line says, where it is no fault, adds what that form says
 label_adds : (table : List Definition) (c : Counts) (line : ℕ) (name : Option Word)
     → IfOk (label_of_line table c line name) (IsOfForm Label)
 unfolding label_of_line
@@ -72,6 +75,7 @@ label_adds table c line None = refl
 label_adds table c line (Some name) =
     bound (IsOfForm Label) (new_name table (Labels c.functions) line true name) (λ u. Ok Nothing) (λ u. refl)
 
+-- what the words of a catch's line say, where it is no fault, adds what that form says
 catch_adds : (table : List Definition) (c : Counts) (ws : List Word) → IfOk (catch_of table c ws) (IsOfForm Catch)
 unfolding catch_of
 catch_adds table c ws =
@@ -90,6 +94,7 @@ catch_adds table c ws =
     (λ b. bound (IsOfForm Catch) (meaning_of table (Labels c.functions) w.2)
     (λ d. Ok (AddsCatch (record { from = a; to = b; target = d }))) (λ d. refl)))))
 
+-- what the words of a line of inputs say, where it is no fault, adds what that form says
 inputs_add : (have : ℕ) (ws : List Word) → IfOk (inputs_of have ws) (IsOfForm Inputs)
 unfolding inputs_of
 inputs_add have ws =
@@ -97,6 +102,7 @@ inputs_add have ws =
     (λ u. values_of (rest_of ws) >>= (λ zs. Ok (AddsInputs zs)))
     (λ u. bound (IsOfForm Inputs) (values_of (rest_of ws)) (λ zs. Ok (AddsInputs zs)) (λ zs. refl))
 
+-- what the words of an instruction's line say, where it is no fault, adds what that form says
 instruction_adds : (table : List Definition) (c : Counts) (i : Instr) (ws : List Word)
     → IfOk (instruction_of table c i ws) (IsOfForm (Instruction i))
 unfolding instruction_of
@@ -156,14 +162,17 @@ both : (ws : List Word) (form : Form) (r : Result Addition ℕ) → IfOk r (IsOf
 both ws form (Ok a) one other = record { told = form; has = refl; adds = one; named = other }
 both ws form (Err kind) one other = tt
 
+-- what holds of a reading's success holds of it where a test that fails is a fault
 either : (b : Bool) (r : Result Addition ℕ) (kind : ℕ) (Q : Addition → Type 0) → IfOk r Q → IfOk (if b then r else Err kind) Q
 either true r kind Q holds = holds
 either false r kind Q holds = tt
 
+-- what holds of a reading's success holds of it where a test that passes is a fault
 or_else : (b : Bool) (r : Result Addition ℕ) (kind : ℕ) (Q : Addition → Type 0) → IfOk r Q → IfOk (if b then Err kind else r) Q
 or_else true r kind Q holds = tt
 or_else false r kind Q holds = holds
 
+-- what words say, where it is no fault, is told by their form
 words_add : (table : List Definition) (c : Counts) (line have : ℕ) (form : Option Form) (ws : List Word)
     → IfOk (words_say table c line have form ws) (IsSaid ws form)
 words_add table c line have None ws =
@@ -172,6 +181,7 @@ words_add table c line have (Some form) ws =
     either (is_placed c (Some form)) (form_says table c line have (Some form) ws) MISPLACED (IsSaid ws (Some form))
     (both ws form (form_says table c line have (Some form) ws) (form_adds table c line have form ws) (names table c line have form ws))
 
+-- what a line says, where it is no fault, is told by the form of its words
 line_adds : (table : List Definition) (c : Counts) (line have : ℕ) (text : List ℕ)
     → IfOk (said table c line have text) (IsSaid (words text) (form_of (words text)))
 unfolding said
@@ -198,6 +208,7 @@ others_ok : {E : Type 0} (a : Addition) (s : Result (List Addition) E) (adding :
 others_ok a (Ok others) adding is = (others, refl, cc)
 others_ok a (Err fault) adding is = cc
 
+-- where a line and then others are read without a fault, each of them is
 first_ok : (line : ℕ) (r : Result Addition ℕ) (f : Addition → Result (List Addition) LineFault) (adding : List Addition)
     → (at_line line r >>= (λ a. f a >>= (λ others. Ok (a ∷ others)))) ≡ Ok adding
     → (a : Addition) × (r ≡ Ok a) × (others : List Addition) × (f a ≡ Ok others) × (adding ≡ a ∷ others)
@@ -206,6 +217,7 @@ first_ok line (Ok a) f adding is =
     (a, refl, parts.0, parts.1, parts.2)
 first_ok line (Err kind) f adding is = cc
 
+-- the additions of some lines that are read without a fault are that of the first and those of the others
 pub reads_one : (table : List Definition) (c : Counts) (line have : ℕ) (text : List ℕ) (rest : List (List ℕ)) (adding : List Addition)
     → read_from table c line have (text ∷ rest) ≡ Ok adding → ReadsOne table c line have text rest adding
 reads_one table c line have text rest adding is =

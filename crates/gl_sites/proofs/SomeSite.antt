@@ -23,10 +23,12 @@ pub record CutBefore (P : Bytecode) (p : Progress) (front : List Entry) (e : Ent
   pub reached : told P p exchanges ≡ Some asking
   pub answered : told_one P (Made e) asking ≡ Some after
 
+-- a list with an element is not empty
 none_in : {A : Type 0} (xs ys : List A) (x : A) → [] ≡ xs ++ x ∷ ys → ⊥
 none_in [] ys x is = cc
 none_in (y ∷ xs) ys x is = cc
 
+-- exchanges that make a list can be cut before each of its entries
 cut_before : (P : Bytecode) (xs : List Exchange) (p q : Progress) (front back : List Entry) (e : Entry) → told P p xs ≡ Some q
     → entries_of xs ≡ front ++ e ∷ back → CutBefore P p front e
 unfolding told
@@ -110,6 +112,7 @@ in_front (x ∷ xs) (a ∷ front) back z e is =
 
 -- ## Made by an instruction or by none
 
+-- at each stage an instruction is at work, or none is
 by_instruction : (s : Stage) → IsOfInstruction s ⊎ (IsOfInstruction s → ⊥)
 by_instruction stages.New = inr (λ never. never)
 by_instruction stages.Begins = inr (λ never. never)
@@ -125,6 +128,7 @@ abbrev pub HasMaker : Bytecode → ℕ → ℕ → List Entry → ℕ → Type 0
 HasMaker P steps t list n =
     ((f : ℕ) × (i : ℕ) × IsMadeAt P steps t list n f i) ⊎ (IsMadeByNone P steps t list n ⊎ IsNote list n)
 
+-- an entry that answers a machine was made by its instruction, or by none
 answered_by : (P : Bytecode) (steps t : ℕ) (list : List Entry) (n : ℕ) (p : Progress) → IsAnswered P steps t list n p
     → HasMaker P steps t list n
 answered_by P steps t list n p is =
@@ -133,6 +137,7 @@ answered_by P steps t list n p is =
       | inr none ↦ inr (inl (record { asking = p; is = is; by_none = none }))
     ]
 
+-- an entry is a trim or not
 trim_or : (e : Entry) → IsTrim e ⊎ (IsTrim e → ⊥)
 trim_or (Trim low) = inl tt
 trim_or (Sync at act value) = inr (λ never. never)
@@ -141,6 +146,7 @@ trim_or (Plain x nth cached write value raised) = inr (λ never. never)
 trim_or (Abort tx why) = inr (λ never. never)
 trim_or (Over ending) = inr (λ never. never)
 
+-- each entry but a trim, in a list that its machine makes, has one who made it
 entry_made : (P : Bytecode) (steps t : ℕ) (list : List Entry) (n : ℕ) (e : Entry) → Runs P steps t list → slice_get list n ≡ Some e
     → (IsTrim e → ⊥) → HasMaker P steps t list n
 entry_made P steps t list n e runs there never =

@@ -48,6 +48,7 @@ pub record CutAt {A : Type 0} (xs : List A) (k : ℕ) (y : A) (ys : List A) : Ty
   pub front : take (k + 1) xs ≡ take k xs ++ y ∷ []
   pub behind : drop (k + 1) xs ≡ ys
 
+-- what is left of a list from a place on is the element at the place and what comes after it
 pub cut_at : {A : Type 0} (xs : List A) (k : ℕ) (y : A) (ys : List A) → drop k xs ≡ y ∷ ys → CutAt xs k y ys
 cut_at [] zero y ys is = cc
 cut_at [] (suc k) y ys is = cc
@@ -71,6 +72,7 @@ before_cut (x ∷ xs) (suc k) (suc j) y none there =
 
 -- ## What a line adds
 
+-- what the tests of a first word say of a line's addition is what its form says
 by_word : (c f k n : Bool) (t : Option Instr) (form : Form)
     → (if c then Some forms.Class else if f then Some forms.Function else if k then Some forms.Catch else if n then Some forms.Inputs
     else option_map forms.Instruction t) ≡ Some form
@@ -83,11 +85,13 @@ by_word false false false true t form is = (let same : forms.Inputs ≡ form = c
 by_word false false false false (Some x) form is = (let same : forms.Instruction x ≡ form = cc in ap adds_of same)
 by_word false false false false None form is = cc
 
+-- what a line's first word says of its addition is what the word's form says
 word_is : (w : List ℕ) (alone : Bool) (form : Form) → word_form w alone ≡ Some form → word_adds w alone ≡ adds_of form
 word_is w alone form is =
     by_word (bytes_eq w (codes "class")) (bytes_eq w (codes "func")) (bytes_eq w (codes "catch"))
     (bytes_eq w (codes "input") && not alone) (template_of w) form is
 
+-- what the test for a label says of a line's addition is what its form says
 by_label : (b : Bool) (other : Option Form) (kind : Adds) (form : Form) → (other ≡ Some form → kind ≡ adds_of form)
     → (if b then Some forms.Label else other) ≡ Some form → (if b then adds.Neither else kind) ≡ adds_of form
 by_label true other kind form known is = (let same : forms.Label ≡ form = cc in ap adds_of same)
@@ -106,6 +110,7 @@ pub record Has (D : Draft) (functions instructions : ℕ) : Type 0 where
   pub counted : length D.functions ≡ functions
   pub placed : 0 < functions → length (code_at D.functions (functions - 1)) ≡ instructions
 
+-- with an addition there are as many functions and instructions as its kind counts
 pub has_more : (D : Draft) (a : Addition) (functions instructions : ℕ) → Has D functions instructions
     → Has (added D a) (functions_after (kind_of a) functions) (instructions_after (kind_of a) instructions)
 has_more D Nothing f i has = has
@@ -183,6 +188,7 @@ header_alone forms.Catch is = cc
 header_alone forms.Inputs is = cc
 header_alone (forms.Instruction i) is = cc
 
+-- the next line adds what its form says
 pub meets : (text : List ℕ) (adding : List Addition) (rest : LinesLeft) (functions instructions : ℕ) (name line : List ℕ)
     (after : LinesLeft) (kind : Adds) → AreAdded text adding → Passed text adding rest functions instructions name
     → rest.left ≡ line ∷ after.left → after.given ≡ rest.given + 1
@@ -289,6 +295,7 @@ both_of : (a b : Bool) → (a && b) ≡ true → (a ≡ true) × (b ≡ true)
 both_of true b is = (refl, is)
 both_of false b is = cc
 
+-- what is found by the test is an instruction of that function, in that place
 pub found : (kind : Adds) (functions instructions f i : ℕ) → finds kind functions instructions f i ≡ true
     → Found kind functions instructions f i
 found adds.Function n k f i is = cc
@@ -304,6 +311,7 @@ finds_it n k f i one other =
 
 -- ## Lines of instructions among the additions
 
+-- a reading that is all right gives the same additions
 same_ok : (r : Result (List Addition) LineFault) (xs ys : List Addition) → r ≡ Ok xs → r ≡ Ok ys → xs ≡ ys
 same_ok r xs ys one other = cc
 
@@ -354,6 +362,7 @@ pub record Next (rest : LinesLeft) (line : List ℕ) (after : LinesLeft) (kind :
   pub given : after.given ≡ rest.given + 1
   pub is : kind ≡ words_add (words line)
 
+-- the next line, which was asked for its kind, adds what that kind says
 meets_next : (text : List ℕ) (adding : List Addition) (rest : LinesLeft) (functions instructions : ℕ) (name line : List ℕ)
     (after : LinesLeft) (kind : Adds) → AreAdded text adding → Passed text adding rest functions instructions name
     → Next rest line after kind → Meets text adding rest line after kind
@@ -394,6 +403,7 @@ functions_grow adds.Function n m less = omega (arith, less)
 functions_grow adds.Instruction n m less = omega (arith, less)
 functions_grow adds.Neither n m less = omega (arith, less)
 
+-- an addition makes the instructions one more at most
 instructions_grow : (kind : Adds) (n m : ℕ) → n ≤ m → instructions_after kind n ≤ m + 1
 instructions_grow adds.Function n m less = omega arith
 instructions_grow adds.Instruction n m less = omega (arith, less)

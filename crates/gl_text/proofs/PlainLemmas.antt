@@ -31,6 +31,7 @@ all_front p (x ∷ xs) e =
           rw more (ap (λ l. x ∷ l) (all_front p xs (sym left ∙ e)))
     ]
 
+-- where not one of two holds, neither does
 or_none : (a b : Bool) → a || b ≡ false → (a ≡ false) × (b ≡ false)
 or_none true b e = absurd (true≢false e)
 or_none false b e = (refl, e)
@@ -42,12 +43,14 @@ no_feed b e = elim (cases_Bool (is_line_feed b)) [
   | inr none ↦ none
 ]
 
+-- a byte that is not special is no carriage return
 no_return_byte : (b : ℕ) → is_special b ≡ false → (b == 13) ≡ false
 no_return_byte b e = elim (cases_Bool (b == 13)) [
   | inl return ↦ let thirteen : b ≡ 13 = eqb-true b 13 return in absurd (true≢false (rw thirteen at e))
   | inr none ↦ none
 ]
 
+-- a plain line has no carriage return at any place
 no_return : (bs : List ℕ) (k : ℕ) → IsPlain bs → (slice_index bs k == 13) ≡ false
 no_return [] k e = refl
 no_return (x ∷ xs) zero e = no_return_byte x (or_none (is_special x) (list_any is_special xs) e).0
@@ -57,10 +60,12 @@ no_return (x ∷ xs) (suc k) e = no_return xs k (or_none (is_special x) (list_an
 pub plain_good : (bs : List ℕ) → IsPlain bs → is_bad bs ≡ false
 plain_good bs e = printable_good bs (fewer_pass is_special is_unprintable (λ x f. (or_none (is_hash x) (is_unprintable x) f).1) bs e)
 
+-- in a plain line all parts are words, as it has no comment
 pub plain_words : (bs : List ℕ) → IsPlain bs → words bs ≡ parts bs
 plain_words bs e = ap parts (all_front is_hash bs
     (fewer_pass is_special is_hash (λ x f. (or_none (is_hash x) (is_unprintable x) f).0) bs e))
 
+-- a byte that is 10 is a line feed
 fed : (b : ℕ) → b ≡ 10 → is_line_feed b ≡ true
 fed b e = rw e refl
 
@@ -74,12 +79,14 @@ feed_place bs n found feed =
 kept_end : (bs : List ℕ) → IsPlain bs → strip_carriage_return bs ≡ bs
 kept_end bs e = cond-false (slice_index bs (length bs - 1) == 13) (take (length bs - 1) bs) bs (no_return bs (length bs - 1) e)
 
+-- what is before the first special byte is a plain line
 pub plain_front : (bs line : List ℕ) (n : ℕ) → position is_special bs ≡ Some n → line ≡ take n bs → IsPlain line
 plain_front bs line n found front =
     let (at, within) = place_some is_special bs n found in
     let same : before_first is_special bs ≡ line = ap (λ k. take k bs) at ∙ sym front in
     rw same at (front_fails is_special bs)
 
+-- where the first special byte of a text is a line feed, what is before it is the first line, and what is after it the others
 pub plain_first : (bs line rest : List ℕ) (n : ℕ) → position is_special bs ≡ Some n → get_or bs n 0 ≡ 10 → line ≡ take n bs → rest
     ≡ drop (n + 1) bs
     → lines bs ≡ line ∷ lines rest

@@ -49,6 +49,7 @@ spans_rest at (x ∷ xs) h =
           rw more (spans_rest at xs (omega arith)) ∙ ap (λ l. spans_from (at + 1) (slice_split is_blank l)) (sym next)
     ]
 
+-- a part that is a word has the first span, and those of the parts after it follow
 front_span : (at : ℕ) (w : List ℕ) (ws : List (List ℕ)) → 0 < length w → spans_from at (w ∷ ws) ≡ (at, at + length w)
     ∷ spans_from (at + length w + 1) ws
 front_span at [] ws h = absurd (omega arith)
@@ -82,6 +83,7 @@ abbrev pub Stands : List ℕ → ℕ → List (List ℕ) → Type 0
 Stands line at [] = Unit {0}
 Stands line at (p ∷ ps) = ((more : List ℕ) × (drop at line ≡ p ++ more)) × Stands line (at + length p + 1) ps
 
+-- parts that stand in a line stand there with the byte before them put to the first
 stands_onto : (line : List ℕ) (at x : ℕ) (rest : List ℕ) (ps : List (List ℕ)) → drop at line ≡ x ∷ rest → drop (at + 1) line ≡ rest
     → Stands line (at + 1) ps → Stands line at (onto_first x ps)
 stands_onto line at x rest [] e d h = ((rest, e), tt)
@@ -119,11 +121,13 @@ stands_line whole start line part =
     ∙ append_assoc (before_first is_hash line) (drop size line) (drop (length line) rest) in
     stands_split whole start (before_first is_hash line) (drop size line ++ drop (length line) rest) stands
 
+-- what stands in a line at a place is the slice from that place over its length
 slice_of : (line : List ℕ) (at : ℕ) (p more : List ℕ) → drop at line ≡ p ++ more → slice_range line at (at + length p) ≡ p
 slice_of line at p more e =
     let count : at + length p - at ≡ length p = omega arith in
     ap (λ n. take n (drop at line)) count ∙ ap (take (length p)) e ∙ take_at p more (length p) refl
 
+-- the words among the parts that stand in a line are the slices at their spans
 slices : (line : List ℕ) (at : ℕ) (ps : List (List ℕ)) → Stands line at ps → filter is_some_word ps
     ≡ map (λ s. slice_range line s.0 s.1) (spans_from at ps)
 slices line at [] h = refl
@@ -134,6 +138,7 @@ slices line at ((b ∷ bs) ∷ ps) h =
     ∙ ap (λ w. w ∷ map (λ s. slice_range line s.0 s.1) (spans_from (at + length (b ∷ bs) + 1) ps))
     (sym (slice_of line at (b ∷ bs) h.0.0 h.0.1))
 
+-- the words of a line that is part of a text are the slices of the text at their spans
 pub are_slices : (whole : List ℕ) (start : ℕ) (line : List ℕ) → IsPart whole start line → AreSlices whole start line
 are_slices whole start line part = slices whole start (slice_split is_blank (before_first is_hash line)) (stands_line whole start line part)
 
@@ -145,6 +150,7 @@ begins at ((b ∷ bs) ∷ ps) zero s e = let same : (at, at + length (b ∷ bs))
     in omega arith
 begins at ((b ∷ bs) ∷ ps) (suc i) s e = let next = begins (at + length (b ∷ bs) + 1) ps i s e in omega arith
 
+-- each span of parts that stand in a line has a byte, and is within the line
 within : (line : List ℕ) (at : ℕ) (ps : List (List ℕ)) → Stands line at ps → (i : ℕ) (s : ℕ × ℕ) → slice_get (spans_from at ps) i ≡ Some s
     → (s.0 < s.1) × (s.1 ≤ length line)
 within line at [] h i s e = absurd (true≢false (sym (ap is_some e)))
@@ -158,6 +164,7 @@ within line at ((b ∷ bs) ∷ ps) h zero s e =
     (omega arith, omega (arith, length-drop at line))
 within line at ((b ∷ bs) ∷ ps) h (suc i) s e = within line (at + length (b ∷ bs) + 1) ps h.1 i s e
 
+-- between a span and each later one there is a byte
 apart : (at : ℕ) (ps : List (List ℕ)) (i j : ℕ) (s r : ℕ × ℕ) → slice_get (spans_from at ps) i ≡ Some s → slice_get (spans_from at ps) j
     ≡ Some r
     → i < j → s.1 < r.0
@@ -171,6 +178,7 @@ apart at ((b ∷ bs) ∷ ps) zero (suc j) s r e f h =
     omega arith
 apart at ((b ∷ bs) ∷ ps) (suc i) (suc j) s r e f h = apart (at + length (b ∷ bs) + 1) ps i j s r e f (omega arith)
 
+-- the spans of a line's words rise within the text of which it is a part
 pub rise : (whole : List ℕ) (start : ℕ) (line : List ℕ) → IsPart whole start line → Rise whole start line
 rise whole start line part = record {
   within = λ i s e. within whole start (slice_split is_blank (before_first is_hash line)) (stands_line whole start line part) i s e;
@@ -184,6 +192,7 @@ no_span at bs none =
     ∙ ap (λ l. spans_from (at + position_or_len (λ b. not (is_blank b)) bs) (slice_split is_blank l))
     (drop_all (position_or_len (λ b. not (is_blank b)) bs) bs (place_none (λ b. not (is_blank b)) bs none))
 
+-- where a word of some length starts after blanks, its span is the first, and those of what follows it come next
 pub one_span : (at : ℕ) (bs word : List ℕ) (start size : ℕ) → position (λ b. not (is_blank b)) bs ≡ Some start → word ≡ drop start bs
     → size ≡ position_or_len is_blank word → 0 < position_or_len is_blank word → 0 < length word
     → spans_from at (slice_split is_blank bs) ≡ (at + start, at + start + size)
@@ -204,10 +213,12 @@ pub matched : {A B : Type 0} (v : A → B) (r : Option A) (o : Option B) → opt
 matched v None o e = sym e
 matched v (Some x) o e = sym e
 
+-- an option that is handed on is the same
 pub same_option : {A : Type 0} (r o : Option A) → option_map (λ x. x) r ≡ o → r ≡ o
 same_option None o e = e
 same_option (Some x) o e = e
 
+-- a word that starts after blanks ends within the text
 pub span_within : (bs word : List ℕ) (start size : ℕ) → position (λ b. not (is_blank b)) bs ≡ Some start → word ≡ drop start bs
     → size ≡ position_or_len is_blank word → start + size ≤ length bs
 span_within bs word start size found w n =
@@ -216,6 +227,7 @@ span_within bs word start size found w n =
     let left : length word ≡ length bs - start = ap length w ∙ length-drop start bs in
     omega arith
 
+-- where bytes that are not all blank start with blanks, the first span is that of the first word, and then come the others
 pub some_span : (at : ℕ) (bs word : List ℕ) (start size : ℕ) → position (λ b. not (is_blank b)) bs ≡ Some start → word ≡ drop start bs
     → size ≡ position_or_len is_blank word
     → spans_from at (slice_split is_blank bs) ≡ (at + start, at + start + size)

@@ -18,12 +18,14 @@ place_or_len p bs =
       | inr h ↦ rw (le-ltb (position_or_len p bs) (length bs) h) (omega arith)
     ]
 
+-- the place of the first byte that passes is within the text
 pub place_some : (p : ℕ → Bool) (bs : List ℕ) (n : ℕ) → position p bs ≡ Some n → (position_or_len p bs ≡ n) × (n < length bs)
 place_some p bs n e =
     let (test, same) = cond_some (nat_lt (position_or_len p bs) (length bs)) (position_or_len p bs) n e in
     let below : position_or_len p bs < length bs = ltb-true (position_or_len p bs) (length bs) test in
     (same, omega arith)
 
+-- where no byte passes, the place that is told is not below the length
 pub place_none : (p : ℕ → Bool) (bs : List ℕ) → position p bs ≡ None → length bs ≤ position_or_len p bs
 place_none p bs e =
     elim (cases_lt (position_or_len p bs) (length bs)) [
@@ -33,10 +35,12 @@ place_none p bs e =
       | inr h ↦ h
     ]
 
+-- where something follows the first part of a text, that part is a line, and the others make the other lines
 front_part : (x : List ℕ) (ps : List (List ℕ)) → 0 < length ps → lines_of_parts (x ∷ ps) ≡ strip_carriage_return x ∷ lines_of_parts ps
 front_part x [] h = absurd (omega arith)
 front_part x (y ∷ ys) h = refl
 
+-- the lines of a text with a line feed are what is before it and the lines of what is after it
 pub lines_first : (bs : List ℕ) → position_or_len is_line_feed bs < length bs
     → lines bs ≡ strip_carriage_return (before_first is_line_feed bs) ∷ lines (after_first is_line_feed bs)
 lines_first bs h =
@@ -55,12 +59,15 @@ split_none p (x ∷ xs) h =
           slice_split-cons_no p x xs e ∙ ap (onto_first x) (split_none p xs (omega arith))
     ]
 
+-- a last part that is not empty is a line
 last_part : (x : List ℕ) → 0 < length x → lines_of_parts (x ∷ []) ≡ x ∷ []
 last_part x h = cond-false (eqb (length x) 0) [] (x ∷ []) (ne_eqb (length x) 0 (λ e. omega arith))
 
+-- a text without a line feed that is not empty is its own one line
 pub lines_last : (bs : List ℕ) → 0 < length bs → length bs ≤ position_or_len is_line_feed bs → lines bs ≡ bs ∷ []
 lines_last bs some h = ap lines_of_parts (split_none is_line_feed bs h) ∙ last_part bs some
 
+-- a blank before bytes changes nothing of their words
 parts_blank : (b : ℕ) (bs : List ℕ) → is_blank b ≡ true → parts (b ∷ bs) ≡ parts bs
 parts_blank b bs e = ap (filter is_some_word) (slice_split-cons_yes is_blank b bs e)
 
@@ -110,6 +117,7 @@ starts_word (x ∷ xs) h =
           rw none (rw e (omega arith))
     ]
 
+-- a part that is not empty stays when the empty ones are dropped
 front_word : (w : List ℕ) (ws : List (List ℕ)) → 0 < length w → filter is_some_word (w ∷ ws) ≡ w ∷ filter is_some_word ws
 front_word [] ws h = absurd (omega arith)
 front_word (x ∷ xs) ws h = refl
@@ -155,10 +163,12 @@ pub no_word : (bs : List ℕ) → position (λ b. not (is_blank b)) bs ≡ None 
 no_word bs none =
     sym (parts_skip bs) ∙ ap parts (drop_all (position_or_len (λ b. not (is_blank b)) bs) bs (place_none (λ b. not (is_blank b)) bs none))
 
+-- where the second of two tests passes, it is not so that neither does
 either_good : (a b : Bool) → not b ≡ false → not (a || b) ≡ false
 either_good true b e = refl
 either_good false b e = e
 
+-- where what fails a first test fails a second one, a list in which nothing passes the first has nothing that passes the second
 pub fewer_pass : (p q : ℕ → Bool) → ((x : ℕ) → p x ≡ false → q x ≡ false) → (xs : List ℕ) → list_any p xs ≡ false → list_any q xs ≡ false
 fewer_pass p q h [] e = refl
 fewer_pass p q h (x ∷ xs) e =

@@ -36,6 +36,7 @@ abbrev OutcomeAsks : Bytecode → Outcome → Type 0
 OutcomeAsks P (Asks ask) = NamesMonitor ask → AsksInRange P ask
 OutcomeAsks P _ = Unit {0}
 
+-- what holds of both branches holds of a choice between them, and the first may use that the test passed
 either_way : (Q : Outcome → Type 0) (b : Bool) (x y : Outcome) → (b ≡ true → Q x) → Q y → Q (if b then x else y)
 either_way Q true x y one other = one refl
 either_way Q false x y one other = other
@@ -45,6 +46,7 @@ record AllThere (x : Object) : Type 0 where
   data' : x.variables + x.fields.plain ≤ VARIABLES
   volatile' : x.volatiles + x.fields.volatile ≤ VOLATILES
 
+-- all fields of an object that was found by its numbers are there
 all_there_of : (o d v : ℕ) (f : Option Fields) (x : Object) → object_of o d v f ≡ Some x → AllThere x
 all_there_of o d v None x is = cc
 all_there_of o d v (Some fields) x is = by_test (nat_le (d + fields.plain) VARIABLES) (nat_le (v + fields.volatile) VOLATILES) refl refl is
@@ -61,17 +63,20 @@ all_there_of o d v (Some fields) x is = by_test (nat_le (d + fields.plain) VARIA
     by_test true false p q e = cc
     by_test false b p q e = cc
 
+-- all fields of the object that a value refers to are there
 all_there : (P : Bytecode) (value : ℤ) (x : Object) → object_at P value ≡ Some x → AllThere x
 all_there P (pos zero) x is = cc
 all_there P (pos (suc n)) x is = all_there_of (object_number n) (first_variable n) (first_volatile n)
     (slice_get P.classes (class_number n)) x is
 all_there P (negsuc n) x is = cc
 
+-- an instruction on an object asks in range, where it does on each object
 on_some : (P : Bytecode) (o : Option Object) (f : Object → Outcome) → ((x : Object) → o ≡ Some x → OutcomeAsks P (f x))
     → OutcomeAsks P (on_object o f)
 on_some P None f there = tt
 on_some P (Some x) f there = there x refl
 
+-- an access to a plain field asks in range, where an ask of each variable does
 data_asks : (P : Bytecode) (value : ℤ) (k : ℕ) (ask : ℕ → Ask) → ((x : ℕ) → x < VARIABLES → AsksInRange P (ask x))
     → OutcomeAsks P (on_object (object_at P value) (on_data k (λ x. Asks (ask x))))
 data_asks P value k ask right = on_some P (object_at P value) _
@@ -79,6 +84,7 @@ data_asks P value k ask right = on_some P (object_at P value) _
     (λ lt m. right (x.variables + k) (let all = (all_there P value x is).data' in let less : k < x.fields.plain = search (rules, lt)
     in omega arith)) tt)
 
+-- an access to a volatile field asks in range, where an ask of each volatile does
 volatile_asks : (P : Bytecode) (value : ℤ) (k : ℕ) (ask : ℕ → Ask) → ((x : ℕ) → x < VOLATILES → AsksInRange P (ask x))
     → OutcomeAsks P (on_object (object_at P value) (on_volatile k (λ x. Asks (ask x))))
 volatile_asks P value k ask right = on_some P (object_at P value) _
@@ -86,10 +92,12 @@ volatile_asks P value k ask right = on_some P (object_at P value) _
     (λ lt m. right (x.volatiles + k) (let all = (all_there P value x is).volatile' in let less : k < x.fields.volatile = search (rules, lt)
     in omega arith)) tt)
 
+-- an instruction on an object's monitor asks in range, where the monitor that it names is there
 monitor_asks : (P : Bytecode) (value : ℤ) (ask : ℕ → Ask) → ((o : ℕ) → NamesMonitor (ask o) → AsksInRange P (ask o))
     → OutcomeAsks P (on_object (object_at P value) (λ x. Asks (ask x.monitor)))
 monitor_asks P value ask right = on_some P (object_at P value) _ (λ x is. right x.monitor)
 
+-- joining a thread asks in range
 joining_asks : (P : Bytecode) (t : ℕ) (a : ℤ) → OutcomeAsks P (joining t a)
 joining_asks P t (pos u) = either_way (OutcomeAsks P) (nat_lt u THREADS && not (u == t)) _ _
     (λ both m. below (nat_lt u THREADS) (not (u == t)) refl both) tt where
@@ -98,6 +106,7 @@ joining_asks P t (pos u) = either_way (OutcomeAsks P) (nat_lt u THREADS && not (
       below false b p both = cc
 joining_asks P t (negsuc u) = tt
 
+-- what each instruction's row asks is in range, where the instruction names what is there
 row_asks : (P : Bytecode) (F : Function) (t : ℕ) (locals stack : List ℤ) (i : Instr) → NamesWhatIs P F i
     → OutcomeAsks P (row P t locals stack i)
 row_asks P F t locals stack (Push n) names = tt
@@ -145,39 +154,47 @@ row_asks P F t locals stack Input names = λ m. tt
 
 -- ## A whole step
 
+-- what a machine at this stage asks is in range, where the monitor that it names is there
 abbrev StageAsks : Bytecode → Stage → Type 0
 StageAsks P stage = NamesMonitor (ask_of stage) → AsksInRange P (ask_of stage)
 
+-- a machine that ends asks in range
 ending_asks : (P : Bytecode) (ending : Ending) (c : Config) → StageAsks P (ending_with ending c).stage
 ending_asks P ending c = by_monitor (held_monitor c.levels) where
   by_monitor : (o : Option ℕ) → StageAsks P (leaving ending o)
   by_monitor None = λ m. tt
   by_monitor (Some o) = λ m. m
 
+-- a machine whose frame handles an exception asks in range, where it does otherwise
 handled_asks : (P : Bytecode) (h : Option Catch) (code : ℕ) (c otherwise : Config) → StageAsks P otherwise.stage
     → StageAsks P (handled_or h code c otherwise).stage
 handled_asks P None code c otherwise other = other
 handled_asks P (Some h) code c otherwise other = λ m. tt
 
+-- a machine asks in range while an exception goes up its frames
 thrown_asks : (P : Bytecode) (code : ℕ) (c : Config) (callers : List Frame) → StageAsks P (thrown P code c callers).stage
 thrown_asks P code c [] = handled_asks P (handler P c.frame) code c _ (ending_asks P (Uncaught code) c)
 thrown_asks P code c (caller ∷ callers) =
     handled_asks P (handler P c.frame) code c _ (thrown_asks P code (record c { frame = caller; callers = callers }) callers)
 
+-- a machine whose failure goes on up its frames, or ends it, asks in range
 failing_asks : (P : Bytecode) (failure : Failure) (c : Config) → StageAsks P (failing P failure c).stage
 failing_asks P (RaisesOn code) c = thrown_asks P code c c.callers
 failing_asks P Spends c = ending_asks P Spent c
 
+-- a machine whose instruction fails asks in range
 failed_asks : (P : Bytecode) (failure : Failure) (c : Config) → StageAsks P (failed P failure c).stage
 failed_asks P failure c = by_attempt c.attempt where
   by_attempt : (o : Option Attempt) → StageAsks P (failed_in o P failure c).stage
   by_attempt None = failing_asks P failure c
   by_attempt (Some a) = λ m. tt
 
+-- a machine whose call returns asks in range
 returned_asks : (P : Bytecode) (a : ℤ) (c : Config) (callers : List Frame) → StageAsks P (returned P a c callers).stage
 returned_asks P a c [] = ending_asks P Halted c
 returned_asks P a c (caller ∷ callers) = λ m. tt
 
+-- a machine that calls a function asks in range
 called_asks : (P : Bytecode) (f : ℕ) (c : Config) → StageAsks P (called P f c).stage
 called_asks P f c = by_room (length c.callers == CALLERS) where
   by_room :
@@ -189,6 +206,7 @@ called_asks P f c = by_room (length c.callers == CALLERS) where
   by_room true = failed_asks P (RaisesOn DEPTH) c
   by_room false = λ m. tt
 
+-- a machine that has done an instruction asks in range, where the instruction's outcome does
 done_asks : (P : Bytecode) (i : Instr) (c : Config) (o : Outcome) → OutcomeAsks P o → StageAsks P (done P i c o).stage
 done_asks P i c OutGoes asks = λ m. tt
 done_asks P i c (Gives a) asks = λ m. tt
@@ -201,6 +219,7 @@ done_asks P i c Halts asks = ending_asks P Halted c
 done_asks P i c (Raises code) asks = failed_asks P (RaisesOn code) c
 done_asks P i c (Asks ask) asks = asks
 
+-- a machine that runs an instruction asks in range, where the instruction names what is there
 ran_asks : (P : Bytecode) (F : Function) (c : Config) (i : Instr) → NamesWhatIs P F i → StageAsks P (ran P c (Some i)).stage
 ran_asks P F c i names = by_refusal (is_refused c.attempt c i) where
   by_refusal :
@@ -209,6 +228,7 @@ ran_asks P F c i names = by_refusal (is_refused c.attempt c i) where
   by_refusal true = failed_asks P (RaisesOn TX_STATE) c
   by_refusal false = done_asks P i c _ (row_asks P F c.thread c.frame.locals c.frame.stack i names)
 
+-- a running machine that starts its next instruction asks in range
 started_asks : (P : Bytecode) (c : Config) → Fits P c → c.stage ≡ Runs → StageAsks P (started P c).stage
 started_asks P c fits is = by_steps (c.counted == c.limit) where
   at : Stage → Type 0
@@ -230,14 +250,17 @@ started_asks P c fits is = by_steps (c.counted == c.limit) where
   by_steps true = failed_asks P Spends c
   by_steps false = runs
 
+-- a machine that may go back to its attempt's beginning asks in range
 again_asks : (P : Bytecode) (o : Option Attempt) (c : Config) → StageAsks P c.stage → StageAsks P (again o c).stage
 again_asks P None c kept = kept
 again_asks P (Some a) c kept = λ m. tt
 
+-- a machine whose instruction gets its answer asks in range
 answered_asks : (P : Bytecode) (values : List ℤ) (c : Config) (f : Frame) (ask : Ask) → WaitsFor P f ask
     → StageAsks P (answered P values c (instr_at P f.function f.place)).stage
 answered_asks P values c f ask waits = rw waits.there (λ m. tt)
 
+-- what may be answered by a retry is the end of an attempt, which is in range
 tx_end_only : (n : ℕ) (P : Bytecode) (ask : Ask) → answers n ask Retry ≡ true → StageAsks P (Waits ask)
 tx_end_only n P (TxEnd keep) is = λ m. tt
 tx_end_only n P Go is = λ m. tt
@@ -257,6 +280,7 @@ tx_end_only n P (Alloc c) is = cc
 tx_end_only n P (AskPrint a) is = λ m. tt
 tx_end_only n P AskInput is = λ m. tt
 
+-- a machine whose ask is answered asks in range
 settled_asks :
     (P : Bytecode) (c : Config) (ask : Ask) (reply : Reply) (n : ℕ) → WaitsFor P c.frame ask → c.stage ≡ Waits ask →
     answers n ask reply ≡ true → StageAsks P (settled P c ask reply).stage
@@ -266,6 +290,7 @@ settled_asks P c ask (Raise code) n waits is fits = failed_asks P (RaisesOn code
 settled_asks P c ask Retry n waits is fits = again_asks P c.attempt c (rw is (tx_end_only n P ask fits))
 settled_asks P c ask (Start f a) n waits is fits = absurd (no_start n ask f a fits)
 
+-- a machine whose attempt was dropped asks in range
 dropped_asks : (P : Bytecode) (failure : Failure) (c : Config) (reply : Reply) → StageAsks P c.stage
     → StageAsks P (dropped P failure c reply).stage
 dropped_asks P (RaisesOn code) c (Raise other) kept = thrown_asks P other _ c.callers
@@ -275,6 +300,7 @@ dropped_asks P (RaisesOn code) c (Value a) kept = thrown_asks P code _ c.callers
 dropped_asks P (RaisesOn code) c (Start f a) kept = thrown_asks P code _ c.callers
 dropped_asks P Spends c reply kept = ending_asks P Spent (record c { attempt = None })
 
+-- a machine that begins asks in range
 begun_asks : (P : Bytecode) (reply : Reply) (c : Config) → StageAsks P c.stage → StageAsks P (begun P reply c).stage
 begun_asks P (Start f a) c kept = λ m. tt
 begun_asks P Gone c kept = kept
@@ -282,6 +308,7 @@ begun_asks P (Value a) c kept = kept
 begun_asks P (Raise code) c kept = kept
 begun_asks P Retry c kept = kept
 
+-- a machine asks in range after each reply that it takes at its stage
 next_asks :
     (P : Bytecode) (c : Config) (reply : Reply) (stage : Stage) → c.stage ≡ stage → Fits P c →
     takes_at stage c.attempt reply ≡ true → StageAsks P (next_at stage P c reply).stage

@@ -36,22 +36,27 @@ use Rattle.gl_bytecode.proofs.Attending.{no_start}
 
 -- ## What a row asks is asked by its instruction
 
+-- what an instruction comes to, if it is an ask, is one that this instruction may ask
 abbrev OutcomeEnds : Instr → Outcome → Type 0
 OutcomeEnds i (Asks ask) = IsAskedBy i ask
 OutcomeEnds i _ = Unit {0}
 
+-- what holds of both branches holds of a choice between them
 either_way : (Q : Outcome → Type 0) (b : Bool) (x y : Outcome) → Q x → Q y → Q (if b then x else y)
 either_way Q true x y one other = one
 either_way Q false x y one other = other
 
+-- an instruction on an object asks what it may, where it does on each object
 on_some : (i : Instr) (o : Option Object) (f : Object → Outcome) → ((x : Object) → OutcomeEnds i (f x)) → OutcomeEnds i (on_object o f)
 on_some i None f there = tt
 on_some i (Some x) f there = there x
 
+-- joining a thread asks what it may
 joining_ends : (t : ℕ) (a : ℤ) → OutcomeEnds Join (joining t a)
 joining_ends t (pos u) = either_way (OutcomeEnds Join) (nat_lt u THREADS && not (u == t)) _ _ refl tt
 joining_ends t (negsuc u) = tt
 
+-- what each instruction's row asks is what this instruction may ask
 row_ends : (P : Bytecode) (t : ℕ) (locals stack : List ℤ) (i : Instr) → OutcomeEnds i (row P t locals stack i)
 row_ends P t locals stack (Push n) = tt
 row_ends P t locals stack Pop = tt
@@ -105,6 +110,7 @@ commit_ends : (o : Option Attempt) (c : Config) (i : Instr) → i ≡ Commit →
 commit_ends (Some a) c i is allowed = refl
 commit_ends None c i is allowed = (let e : is_refused None c Commit ≡ false = (rw is at allowed) in cc)
 
+-- an instruction that is not refused asks for the end of an attempt only where one runs
 ends_what_runs : (c : Config) (i : Instr) (ask : Ask) → OutcomeEnds i (Asks ask) → is_refused c.attempt c i ≡ false
     → EndsWhatRuns ask c.attempt
 ends_what_runs c i (TxEnd keep) ends allowed = commit_ends c.attempt c i ends allowed
@@ -127,6 +133,7 @@ ends_what_runs c i AskInput ends allowed = tt
 
 -- ## Sums of levels
 
+-- a number that is set in a list changes the sum by what it differs from the one before
 sum-set : (xs : List ℕ) (i y : ℕ) → i < length xs → sum (set xs i y) + get_or xs i 0 ≡ sum xs + y
 sum-set xs i y less = sum_by-set (λ x. x) xs i y 0 less
 
@@ -136,18 +143,21 @@ set_past [] i y past = refl
 set_past (x ∷ xs) zero y past = absurd (omega arith)
 set_past (x ∷ xs) (suc i) y past = ap (λ rest. x ∷ rest) (set_past xs i y (omega arith))
 
+-- one level more makes the sum one more at most
 sum-more : (xs : List ℕ) (i : ℕ) → sum (set xs i (get_or xs i 0 + 1)) ≤ sum xs + 1
 sum-more xs i = elim (cases_lt i (length xs)) [
   | inl less ↦ (let e = sum-set xs i (get_or xs i 0 + 1) less in omega arith)
   | inr past ↦ rw (set_past xs i (get_or xs i 0 + 1) past) (omega arith)
 ]
 
+-- one level less makes the sum no greater
 sum-less : (xs : List ℕ) (i : ℕ) → sum (set xs i (get_or xs i 0 - 1)) ≤ sum xs
 sum-less xs i = elim (cases_lt i (length xs)) [
   | inl less ↦ (let e = sum-set xs i (get_or xs i 0 - 1) less in omega arith)
   | inr past ↦ rw (set_past xs i (get_or xs i 0 - 1) past) (omega arith)
 ]
 
+-- an ask makes the sum of the levels one greater at most
 sum-after : (ask : Ask) (xs : List ℕ) → sum (levels_after ask xs) ≤ sum xs + 1
 sum-after (AskEnter o) xs = sum-more xs o
 sum-after (AskExit o) xs = (let e = sum-less xs o in omega arith)
@@ -188,6 +198,7 @@ record Leads (P : Bytecode) (c : Config) (n : ℕ) (d : Config) : Type 0 where
   alone : c.attempt ≡ None → d.attempt ≡ None
   runs : (main : ℕ) → state_at main d.stage ≡ Running
 
+-- where no more than a number is due, no more than a greater number is
 more_room : (P : Bytecode) (c : Config) (m n : ℕ) (d : Config) → m ≤ n → Leads P c m d → Leads P c n d
 more_room P c m n d le l = record {
   limit = l.limit;
@@ -199,6 +210,7 @@ more_room P c m n d le l = record {
   runs = l.runs;
 }
 
+-- a machine that ends has one answer due above its levels, at most
 ending_leads : (P : Bytecode) (ending : Ending) (c : Config) → Leads P c 1 (ending_with ending c)
 ending_leads P ending c = by_monitor (held_monitor c.levels) refl where
   by_monitor : (o : Option ℕ) → held_monitor c.levels ≡ o → Leads P c 1 (record c { stage = leaving ending o })
@@ -223,6 +235,7 @@ ending_leads P ending c = by_monitor (held_monitor c.levels) refl where
         runs = λ main. refl;
       }
 
+-- a machine that goes to its handler has three answers due above its levels, at most, where it has otherwise
 handled_leads :
     (P : Bytecode) (h : Option Catch) (code : ℕ) (c otherwise : Config) → Leads P c 3 otherwise
     → Leads P c 3 (handled_or h code c otherwise)
@@ -230,6 +243,7 @@ handled_leads P None code c otherwise other = other
 handled_leads P (Some h) code c otherwise other =
     record { limit = refl; counted = refl; little = omega arith; orderly = tt; levels = refl; alone = λ none. none; runs = λ main. refl }
 
+-- a machine whose exception went up its frames has three answers due above its levels, at most
 thrown_leads : (P : Bytecode) (code : ℕ) (c : Config) (callers : List Frame) → Leads P c 3 (thrown P code c callers)
 thrown_leads P code c [] = handled_leads P (handler P c.frame) code c _
     (more_room P c 1 3 _ (omega arith) (ending_leads P (Uncaught code) c))
@@ -246,9 +260,11 @@ thrown_leads P code c (caller ∷ callers) =
       runs = up.runs;
     })
 
+-- a machine whose exception goes on up its frames has three answers due above its levels, at most
 failing_leads : (P : Bytecode) (code : ℕ) (c : Config) → Leads P c 3 (failing P (RaisesOn code) c)
 failing_leads P code c = thrown_leads P code c c.callers
 
+-- a machine that raises an exception has four answers due above its levels, at most
 failed_leads : (P : Bytecode) (code : ℕ) (c : Config) → Leads P c 4 (failed P (RaisesOn code) c)
 failed_leads P code c = by_attempt c.attempt refl where
   by_attempt : (o : Option Attempt) → c.attempt ≡ o → Leads P c 4 (failed_in o P (RaisesOn code) c)
@@ -263,6 +279,7 @@ failed_leads P code c = by_attempt c.attempt refl where
     runs = λ main. refl;
   }
 
+-- a machine whose steps are spent has two answers due above its levels, at most
 spent_leads : (P : Bytecode) (c : Config) → Leads P c 2 (failed P Spends c)
 spent_leads P c = by_attempt c.attempt refl where
   by_attempt : (o : Option Attempt) → c.attempt ≡ o → Leads P c 2 (failed_in o P Spends c)
@@ -277,11 +294,13 @@ spent_leads P c = by_attempt c.attempt refl where
     runs = λ main. refl;
   }
 
+-- a machine whose call returned has three answers due above its levels, at most
 returned_leads : (P : Bytecode) (a : ℤ) (c : Config) (callers : List Frame) → Leads P c 3 (returned P a c callers)
 returned_leads P a c [] = more_room P c 1 3 _ (omega arith) (ending_leads P Halted c)
 returned_leads P a c (caller ∷ callers) =
     record { limit = refl; counted = refl; little = omega arith; orderly = tt; levels = refl; alone = λ none. none; runs = λ main. refl }
 
+-- a machine that called a function has four answers due above its levels, at most
 called_leads : (P : Bytecode) (f : ℕ) (c : Config) → Leads P c 4 (called P f c)
 called_leads P f c = by_room (length c.callers == CALLERS) where
   by_room :
@@ -301,6 +320,7 @@ called_leads P f c = by_room (length c.callers == CALLERS) where
     runs = λ main. refl;
   }
 
+-- a machine that has done an instruction which is not refused has five answers due above its levels, at most
 done_leads :
     (P : Bytecode) (i : Instr) (c : Config) (o : Outcome) → OutcomeEnds i o → instr_at P c.frame.function c.frame.place ≡ Some i →
     is_refused c.attempt c i ≡ false → Leads P c 5 (done P i c o)
@@ -329,6 +349,7 @@ done_leads P i c (Asks ask) ends is allowed =
       runs = λ main. refl;
     }
 
+-- a machine that ran the instruction at its place has five answers due above its levels, at most
 ran_leads : (P : Bytecode) (c : Config) (o : Option Instr) → instr_at P c.frame.function c.frame.place ≡ o → c.stage ≡ Runs
     → Leads P c 5 (ran P c o)
 ran_leads P c None is runs = record {
@@ -359,6 +380,7 @@ pub record Falls (P : Bytecode) (c : Config) (ask : Ask) (reply : Reply) (d : Co
   pub alone : BeginsNone ask → c.attempt ≡ None → d.attempt ≡ None
   pub state : (main : ℕ) → state_at main d.stage ≡ state_told ask (state_at main c.stage)
 
+-- what is due falls by an answer, where the machine before it had more due and nothing but the answer changed it
 falls :
     (P : Bytecode) (c : Config) (ask : Ask) (reply : Reply) (b : Config) (n : ℕ) (d : Config) → b.limit ≡ c.limit → b.counted ≡ c.counted →
     c.counted ≤ c.limit → sum b.levels + n < due c → b.levels ≡ levels_told ask reply c.levels →
@@ -377,6 +399,7 @@ falls P c ask reply b n d limit counted within less levels alone state l =
       state = λ main. l.runs main ∙ sym (state main);
     }
 
+-- what is due falls by the start of an instruction, but for what a counted instruction adds
 started_falls : (P : Bytecode) (c : Config) (reply : Reply) → c.counted ≤ c.limit → c.stage ≡ Runs → Falls P c Go reply (started P c)
 started_falls P c reply within runs = by_steps (c.counted == c.limit) refl where
   told : levels_told Go reply c.levels ≡ c.levels
@@ -404,6 +427,7 @@ started_falls P c reply within runs = by_steps (c.counted == c.limit) refl where
         state = λ main. l.runs main ∙ rw runs refl;
       }
 
+-- a machine that goes back to its attempt's beginning has three answers due above its levels, at most
 again_leads : (P : Bytecode) (o : Option Attempt) (c : Config) → is_some o ≡ true → Leads P c 3 (again o c)
 again_leads P None c some = cc
 again_leads P (Some a) c some = record {
@@ -416,6 +440,7 @@ again_leads P (Some a) c some = record {
   runs = λ main. refl;
 }
 
+-- a machine whose instruction got its answer has three answers due above its levels, at most
 answered_leads : (P : Bytecode) (values : List ℤ) (c : Config) (f : Frame) (i : Instr) → instr_at P f.function f.place ≡ Some i
     → Leads P c 3 (answered P values c (instr_at P f.function f.place))
 answered_leads P values c f i is = rw is (record {
@@ -428,6 +453,7 @@ answered_leads P values c f i is = rw is (record {
   runs = λ main. refl;
 })
 
+-- where a retry may be the answer and the end is asked of a running attempt, an attempt runs
 runs_attempt : (n : ℕ) (ask : Ask) (o : Option Attempt) → answers n ask Retry ≡ true → EndsWhatRuns ask o → is_some o ≡ true
 runs_attempt n (TxEnd keep) o is ends = ends
 runs_attempt n Go o is ends = cc
@@ -447,6 +473,7 @@ runs_attempt n (Alloc k) o is ends = cc
 runs_attempt n (AskPrint a) o is ends = cc
 runs_attempt n AskInput o is ends = cc
 
+-- an ask that begins no attempt leaves none where none was
 no_attempt : (ask : Ask) (c : Config) → BeginsNone ask → c.attempt ≡ None → attempt_after ask c ≡ None
 no_attempt Go c begins none = none
 no_attempt Begin c begins none = none
@@ -466,6 +493,7 @@ no_attempt (Alloc k) c begins none = none
 no_attempt (AskPrint a) c begins none = none
 no_attempt AskInput c begins none = none
 
+-- a thread runs on after what an instruction asks
 still_runs : (i : Instr) (ask : Ask) → IsAskedBy i ask → state_told ask Running ≡ Running
 still_runs i Go asks = absurd asks
 still_runs i Begin asks = absurd asks
@@ -485,6 +513,7 @@ still_runs i (Alloc k) asks = refl
 still_runs i (AskPrint a) asks = refl
 still_runs i AskInput asks = refl
 
+-- what is due falls by the answer to what an instruction asked
 settled_falls :
     (P : Bytecode) (c : Config) (ask : Ask) (reply : Reply) (n : ℕ) → c.counted ≤ c.limit → c.stage ≡ Waits ask →
     WaitsRightly P c ask → answers n ask reply ≡ true → Falls P c ask reply (settled P c ask reply)
@@ -513,6 +542,7 @@ settled_falls P c ask Retry n within is orderly fits =
     (again_leads P c.attempt c (runs_attempt n ask c.attempt fits orderly.attempt))
 settled_falls P c ask (Start f a) n within is orderly fits = absurd (no_start n ask f a fits)
 
+-- what is due falls by the answer to a dropped attempt
 dropped_falls :
     (P : Bytecode) (failure : Failure) (c : Config) (reply : Reply) → c.counted ≤ c.limit → c.stage ≡ Drops failure →
     is_some c.attempt ≡ true → Falls P c (TxEnd false) reply (dropped P failure c reply)
@@ -547,6 +577,7 @@ dropped_falls P Spends c reply within is some =
     (λ begins none. refl) (λ main. rw is refl)
     (ending_leads P Spent after)
 
+-- what is due falls by the answer that begins the thread
 begun_falls : (P : Bytecode) (c : Config) (reply : Reply) → c.counted ≤ c.limit → c.stage ≡ Begins → takes_at Begins c.attempt reply ≡ true
     → Falls P c Begin reply (begun P reply c)
 begun_falls P c (Start f a) within is taken =
@@ -564,6 +595,7 @@ begun_falls P c (Value a) within is taken = cc
 begun_falls P c (Raise code) within is taken = cc
 begun_falls P c Retry within is taken = cc
 
+-- what is due falls by each reply that the machine takes at its stage
 next_falls :
     (P : Bytecode) (c : Config) (reply : Reply) (stage : Stage) → c.stage ≡ stage → c.counted ≤ c.limit → StageIsOrderly P c stage →
     takes_at stage c.attempt reply ≡ true → Falls P c (ask_of stage) reply (next_at stage P c reply)
@@ -613,22 +645,27 @@ pub step_falls : (P : Bytecode) (c : Config) (reply : Reply) → IsOrderly P c �
     → Falls P c (ask_of c.stage) reply (next P c reply)
 step_falls P c reply orderly taken = next_falls P c reply c.stage refl orderly.within orderly.stage taken
 
+-- the sum of nothing but zeros is zero
 sum-zeros : (n : ℕ) → sum (replicate n 0) ≡ 0
 sum-zeros zero = refl
 sum-zeros (suc n) = sum-zeros n
 
+-- a new machine is orderly
 pub orderly_fresh : (P : Bytecode) (t steps : ℕ) → IsOrderly P (fresh P t steps)
 orderly_fresh P t steps = record { within = omega arith; stage = tt }
 
+-- a new machine has five answers due
 pub due_fresh : (P : Bytecode) (t steps : ℕ) → due (fresh P t steps) ≡ 5
 due_fresh P t steps = (let none = sum-zeros MONITORS in omega arith)
 
 -- ## Whole lists
 
+-- after so many exchanges, if they lead on, the machine is orderly and that much less is due, but for what was counted
 abbrev Fell : Bytecode → Config → ℕ → Option Progress → Type 0
 Fell P c n None = Unit {0}
 Fell P c n (Some q) = IsOrderly P q.config × (due q.config + n + 4 * c.counted ≤ due c + 4 * q.config.counted)
 
+-- a reply makes what is due fall by one, but for what was counted
 replied_falls : (P : Bytecode) (p : Progress) (o : Option Reply) → IsOrderly P p.config → Fell P p.config 1 (replied P p o)
 replied_falls P p None orderly = tt
 replied_falls P p (Some reply) orderly = by_take (takes p.config reply) refl where
@@ -641,6 +678,7 @@ replied_falls P p (Some reply) orderly = by_take (takes p.config reply) refl whe
   by_take true taken = (let f = step_falls P p.config reply orderly taken in let less = f.less in (f.orderly, omega arith))
   by_take false refused = tt
 
+-- exchanges make what is due fall by as many as they are, but for what was counted
 told_falls : (P : Bytecode) (p : Progress) (xs : List Exchange) → IsOrderly P p.config → Fell P p.config (length xs) (told P p xs)
 unfolding told
 told_falls P p [] orderly = (orderly, omega arith)
@@ -658,6 +696,7 @@ told_falls P p (x ∷ xs) orderly = behind (told_one P x p) (replied_falls P p (
       behind None fell rest = tt
       behind (Some q) fell rest = more q (told P q xs) fell.1 (rest q fell.0)
 
+-- exchanges have no more entries than they are
 entries_few : (xs : List Exchange) → length (entries_of xs) ≤ length xs
 entries_few [] = omega arith
 entries_few (Made e ∷ xs) = (let more = entries_few xs in omega arith)

@@ -17,22 +17,26 @@ use Rattle.gl_words.proofs.Turns.{at, dashes, ends_from, fault_is, found, goes_o
 
 -- ## A word with a name
 
+-- the faults of a turn on a word that names this rule or none, with this value or none
 abbrev named_fault : Waiting → Text → Held → Option Text → Option Rule → Kinds
 named_fault w word h v a = or_else (long_fault options false a v h) (step_fault shape 1
     (after_flag options w word (long_met options a v h).0 (long_met options a v h).1).0
     (after_flag options w word (long_met options a v h).0 (long_met options a v h).1).1)
 
+-- the walk after a turn on a word that names this rule or none, with this value or none
 abbrev named_walk : Waiting → Text → Held → Option Text → Option Rule → Walk
 named_walk w word h v a = after_step options word (at w h)
     (after_flag options w word (long_met options a v h).0 (long_met options a v h).1).0
     (after_flag options w word (long_met options a v h).0 (long_met options a v h).1).1
 
+-- the faults of a turn on a word of a long form are those of the rule that its name means
 fault_by_name : (w : Waiting) (word name : Text) (v : Option Text) (h : Held) (k : Option Kind) → bytes_eq word dashes ≡ false
     → long_of word ≡ Some (name, v) → kind_named name ≡ k
     → turn_fault shape [] (at w h) word ≡ named_fault w word h v (option_map rule_for k)
 fault_by_name w word name v h k other is kind =
     fault_is w word h (Some (name, v)) other is ∙ ap (named_fault w word h v) (found name ∙ ap (option_map rule_for) kind)
 
+-- the walk after a turn on a word of a long form is that of the rule that its name means
 walk_by_name : (w : Waiting) (word name : Text) (v : Option Text) (h : Held) (k : Option Kind) → bytes_eq word dashes ≡ false
     → long_of word ≡ Some (name, v) → kind_named name ≡ k
     → walked options [] (at w h) word ≡ named_walk w word h v (option_map rule_for k)
@@ -41,13 +45,16 @@ walk_by_name w word name v h k other is kind =
 
 -- ## A word without one
 
+-- the faults of a turn on a word of no long form
 abbrev other_fault : Waiting → Text → Held → Option Text → Kinds
 other_fault w word h s = or_else (option_map_or (λ flags. bundle_fault options false flags h) s [])
     (step_fault shape 1 (short_or_plain options w word s h).0 (short_or_plain options w word s h).1)
 
+-- the walk after a turn on a word of no long form
 abbrev other_walk : Waiting → Text → Held → Option Text → Walk
 other_walk w word h s = after_step options word (at w h) (short_or_plain options w word s h).0 (short_or_plain options w word s h).1
 
+-- an empty text has no characters
 no_chars : chars [] ≡ []
 unfolding chars
 no_chars = refl
@@ -56,16 +63,19 @@ no_chars = refl
 abbrev bundled : Held → Text → ℕ → Option ℕ → Held × Outcome
 bundled h flags k c = bundle_step options c flags 0 plain h (bundle_met options k)
 
+-- the faults of a turn on a word of flags of one letter
 abbrev bundled_fault : Waiting → Text → Held → Text → ℕ → Option ℕ → Kinds
 bundled_fault w word h flags k c = or_else (bundle_step_fault options false c flags 0 h (flags_fault options false k))
     (step_fault shape 1 (after_flag options w word (bundled h flags k c).0 (bundled h flags k c).1).0
     (after_flag options w word (bundled h flags k c).0 (bundled h flags k c).1).1)
 
+-- the walk after a turn on a word of flags of one letter
 abbrev bundled_walk : Waiting → Text → Held → Text → ℕ → Option ℕ → Walk
 bundled_walk w word h flags k c = after_step options word (at w h)
     (after_flag options w word (bundled h flags k c).0 (bundled h flags k c).1).0
     (after_flag options w word (bundled h flags k c).0 (bundled h flags k c).1).1
 
+-- a word that has flags of one letter is refused as an unknown argument
 flagged : (w : Waiting) (word : Text) (rows : List Row) (p : Option (Text × List Text)) (s : Option Text) → has_flags s ≡ true
     → (ks : Kinds) × (other_fault w word (held rows p) s ≡ UnknownArgument ∷ ks)
 unfolding flags_fault bundle_met
@@ -78,6 +88,7 @@ flagged w word rows p (Some (x ∷ xs)) has = go (slice_get (chars (x ∷ xs)) 0
     go None has = absurd (true≢false (sym has))
     go (Some c) has = ([], refl)
 
+-- a word that has no flags has the faults of a plain word
 plain_fault : (w : Waiting) (word : Text) (rows : List Row) (p : Option (Text × List Text)) (s : Option Text) → has_flags s ≡ false
     → other_fault w word (held rows p) s
     ≡ step_fault shape 1 (plain_word options w word (held rows p)).0 (plain_word options w word (held rows p)).1
@@ -91,6 +102,7 @@ plain_fault w word rows p (Some (x ∷ xs)) none = go (slice_get (chars (x ∷ x
     go None none = refl
     go (Some c) none = absurd (true≢false none)
 
+-- a word that has no flags leads the walk on as a plain word does
 plain_walk : (w : Waiting) (word : Text) (rows : List Row) (p : Option (Text × List Text)) (s : Option Text) → has_flags s ≡ false
     → other_walk w word (held rows p) s
     ≡ after_step options word (at w (held rows p)) (plain_word options w word (held rows p)).0 (plain_word options w word (held rows p)).1
@@ -112,29 +124,35 @@ abbrev unless : Kinds → Option (List Row) → Option (List Row)
 unless [] r = r
 unless (k ∷ ks) r = None
 
+-- the walk over a word and others ends as that over the others, unless what waits or the word's own use is refused
 settles_on : (w v : Walk) (word : Text) (rest : List Text) (s u : Kinds) → turn_fault shape [] w word ≡ or_else (or_else s u) []
     → walked options [] w word ≡ v → ends_from w (word ∷ rest) ≡ unless s (unless u (ends_from v rest))
 settles_on w v word rest [] [] fault on = goes_on w v word rest fault on
 settles_on w v word rest [] (k ∷ ks) fault on = stops w word rest k ks fault
 settles_on w v word rest (k ∷ ks) u fault on = stops w word rest k ks fault
 
+-- what comes of rows after what waits is settled, where that is not refused
 abbrev after : Held → (List Row → Option (List Row)) → Option (List Row)
 after h more = then_rows (settle_fault options false h) (settled options h).rows more
 
+-- where nothing comes of the rows, nothing comes of them after faults either
 nothing_comes : (ks : Kinds) (rows : List Row) → then_rows ks rows (λ _. None) ≡ None
 nothing_comes [] rows = refl
 nothing_comes (k ∷ ks) rows = refl
 
+-- where the same comes of rows by two ways, the same comes of them after faults
 then_same : (ks : Kinds) (rows : List Row) (f g : List Row → Option (List Row)) → f rows ≡ g rows
     → then_rows ks rows f ≡ then_rows ks rows g
 then_same [] rows f g same = same
 then_same (k ∷ ks) rows f g same = refl
 
+-- what comes unless there are faults is what comes of the rows after those faults
 unless_then : (ks : Kinds) (rows : List Row) (r : Option (List Row)) (f : List Row → Option (List Row)) → r ≡ f rows
     → unless ks r ≡ then_rows ks rows f
 unless_then [] rows r f same = same
 unless_then (k ∷ ks) rows r f same = refl
 
+-- a use of an option with a number adds its row, unless there is one already
 once_number : (o : NumberOption) (t : Text) (rows : List Row) (f : List Row → Option (List Row))
     → unless (use_fault false (rule_for (number o)) (t ∷ []) rows) (f (used (rule_for (number o)) (t ∷ []) rows))
     ≡ then_rows (repeated (name_of o) rows) (rows ++ row_of (number o) t ∷ []) f
@@ -148,6 +166,7 @@ once_number o t rows f =
     go true e = refl
     go false e = ap f (used_number o t rows e)
 
+-- a use of the option without a number adds its row, unless there is one already
 once_flag : (rows : List Row) (f : List Row → Option (List Row))
     → unless (use_fault false (rule_for flag) [] rows) (f (used (rule_for flag) [] rows))
     ≡ then_rows (repeated (codes "journal") rows) (rows ++ row_of flag (codes "true") ∷ []) f
@@ -159,6 +178,7 @@ once_flag rows f =
     go true e = refl
     go false e = ap f (used_flag rows e)
 
+-- the rows of a use and others are its own row and then those of the others, unless it is a second one
 uses_head : (k : Kind) (t : Text) (rows : List Row) (us : Option (List Use))
     → then_rows (repeated (id_of k) rows) (rows ++ row_of k t ∷ []) (λ more. rows_of_uses more us)
     ≡ rows_of_uses rows (option_map (λ x. (k, t) ∷ x) us)
@@ -174,10 +194,12 @@ pub record Ended (words : List Text) : Type 0 where
   pub waiting : (o : NumberOption) (rows : List Row) → ends_from (at (option (name_of o)) (held rows (Some (name_of o, [])))) words
       ≡ rows_of_uses rows (uses_from (Some o) words)
 
+-- faults or none, or none again, are the same faults
 still : (ks : Kinds) → or_else ks [] ≡ or_else (or_else ks []) []
 still [] = refl
 still (k ∷ ks) = refl
 
+-- a walk that waits for nothing ends, from a word of a long form on, with the rows of the uses that the words say
 idle_named : (rows : List Row) (p : Option (Text × List Text)) (word : Text) (rest : List Text) (name : Word) (v : Option Text)
     (k : Option Kind)
     → bytes_eq word dashes ≡ false → long_of word ≡ Some (name, v) → kind_named name ≡ k → Ended rest
@@ -234,6 +256,7 @@ idle_other rows p word rest other is = go (has_flags (short_of word)) refl
     go false e = stops (at idle (held rows p)) word rest UnknownArgument []
         (fault_is idle word (held rows p) None other is ∙ plain_fault idle word rows p (short_of word) e)
 
+-- a walk that waits for nothing ends, from any word but `--` on, with the rows of the uses that the words say
 idle_word : (rows : List Row) (p : Option (Text × List Text)) (word : Text) (rest : List Text) → bytes_eq word dashes ≡ false → Ended rest
     → ends_from (at idle (held rows p)) (word ∷ rest) ≡ after (held rows p) (λ rs. rows_of_uses rs (uses_from None (word ∷ rest)))
 idle_word rows p word rest other more = go (long_of word) refl
@@ -250,6 +273,7 @@ idle_word rows p word rest other more = go (long_of word) refl
 
 -- ## An option that waits for its value
 
+-- an option that still waits for its number is refused when it is settled
 unsettled : (o : NumberOption) (rows : List Row) → settle_fault options false (held rows (Some (name_of o, []))) ≡ InvalidValue ∷ []
 unsettled Workers rows = refl
 unsettled Steps rows = refl
@@ -267,6 +291,7 @@ valued Segments rows word = refl
 valued Cells rows word = refl
 valued Size rows word = refl
 
+-- an option that has its number is settled by a use of it
 settled_value : (o : NumberOption) (rows : List Row) (word : Text) (f : List Row → Option (List Row))
     → after (held rows (Some (name_of o, word ∷ []))) f
     ≡ then_rows (use_fault false (rule_for (number o)) (word ∷ []) rows) (used (rule_for (number o)) (word ∷ []) rows) f
@@ -296,6 +321,7 @@ waiting_named o rows word name rest v k other is kind = go k v
         (fault ∙ ap (λ (s : Kinds). or_else (or_else s (use_fault false (rule_for flag) []
         (settled options (held rows (Some (name_of o, [])))).rows)) []) (unsettled o rows))
 
+-- a walk where an option waits for its number ends, from any word but `--` on, with the rows of the uses that the words say
 waiting_word : (o : NumberOption) (rows : List Row) (word : Text) (rest : List Text) → bytes_eq word dashes ≡ false → Ended rest
     → ends_from (at (option (name_of o)) (held rows (Some (name_of o, [])))) (word ∷ rest)
     ≡ rows_of_uses rows (uses_from (Some o) (word ∷ rest))
@@ -333,6 +359,7 @@ waiting_word o rows word rest other more = go (long_of word) (has_flags (short_o
         ∙ ap₂ (λ (form : Option (Text × Option Text)) (c : Bool). rows_of_uses rows (cond (not (is_some form) && not c)
         (option_map (λ us. (number o, word) ∷ us) (uses_from None rest)) None)) (sym is) (sym e)
 
+-- a walk that ends where an option waits for its number gives no rows
 no_value : (o : NumberOption) (rows : List Row) → ends_from (at (option (name_of o)) (held rows (Some (name_of o, [])))) [] ≡ None
 unfolding walk_fault
 no_value Workers rows = refl
@@ -341,14 +368,17 @@ no_value Segments rows = refl
 no_value Cells rows = refl
 no_value Size rows = refl
 
+-- where not one of two holds, the first does not
 or_false : (a b : Bool) → (a || b) ≡ false → a ≡ false
 or_false true b e = absurd (true≢false e)
 or_false false b e = refl
 
+-- where not one of two holds, the second does not
 or_false_right : (a b : Bool) → (a || b) ≡ false → b ≡ false
 or_false_right true b e = absurd (true≢false e)
 or_false_right false b e = e
 
+-- without a word `--`, the walk over the words ends with the rows of the uses that they say
 pub ended : (words : List Text) → has_dashes words ≡ false → Ended words
 unfolding walk_fault
 ended [] none = record { idly = λ rows p. refl; waiting = λ o rows. no_value o rows }

@@ -26,6 +26,7 @@ use Rattle.gl_words.proofs.Uses.{Use, flag, number, options, rows_of_uses, rule_
 
 -- ## What building the command leaves to fail after the walk: nothing but the last use
 
+-- an option with a number is not refused for what it is when it is not given
 default_of_number : (o : NumberOption) (rows : List Row) → default_fault rows (rule_for (number o)) ≡ []
 default_of_number o rows = go (has_row (name_of o) rows)
   where
@@ -33,6 +34,7 @@ default_of_number o rows = go (has_row (name_of o) rows)
     go true = refl
     go false = refl
 
+-- an option with a number adds no row when it is not given
 kept_by_number : (o : NumberOption) (rows : List Row) → with_default rows (rule_for (number o)) ≡ rows
 kept_by_number o rows = go (has_row (name_of o) rows)
   where
@@ -40,6 +42,7 @@ kept_by_number o rows = go (has_row (name_of o) rows)
     go true = refl
     go false = refl
 
+-- the option without a number is not refused for what it is when it is not given
 default_of_flag : (rows : List Row) → default_fault rows (rule_for flag) ≡ []
 default_of_flag rows = go (has_row (codes "journal") rows)
   where
@@ -47,36 +50,45 @@ default_of_flag rows = go (has_row (codes "journal") rows)
     go true = refl
     go false = refl
 
+-- an option with a number adds no fault to those of the options that are not given
 pass_number : (o : NumberOption) (rows : List Row) (rest : List Rule)
     → defaults_fault rows (rule_for (number o) ∷ rest) ≡ defaults_fault rows rest
 unfolding defaults_fault
 pass_number o rows rest =
     ap₂ (λ (ks : Kinds) (more : List Row). or_else ks (defaults_fault more rest)) (default_of_number o rows) (kept_by_number o rows)
 
+-- the option without a number, as the last one, adds no fault to those of the options that are not given
 pass_flag : (rows : List Row) → defaults_fault rows (rule_for flag ∷ []) ≡ []
 unfolding defaults_fault
 pass_flag rows = ap (λ (ks : Kinds). or_else ks []) (default_of_flag rows)
 
+-- no option is refused for what it is when it is not given
 no_default_fault : (rows : List Row) → defaults_fault rows options ≡ []
 no_default_fault rows = pass_number Workers rows _ ∙ pass_number Steps rows _ ∙ pass_number Segments rows _ ∙ pass_number Cells rows _
     ∙ pass_number Size rows _ ∙ pass_flag rows
 
+-- an option with a number adds nothing to the rows at the end
 finish_number : (o : NumberOption) (rows : List Row) (rest : List Rule)
     → fold with_default rows (rule_for (number o) ∷ rest) ≡ fold with_default rows rest
 finish_number o rows rest = ap (λ (more : List Row). fold with_default more rest) (kept_by_number o rows)
 
+-- the last of the options
 abbrev last_one : List Rule
 last_one = rule_for flag ∷ []
 
+-- the last two options
 abbrev last_two : List Rule
 last_two = rule_for (number Size) ∷ last_one
 
+-- the last three options
 abbrev last_three : List Rule
 last_three = rule_for (number Cells) ∷ last_two
 
+-- the last four options
 abbrev last_four : List Rule
 last_four = rule_for (number Segments) ∷ last_three
 
+-- the last five options
 abbrev last_five : List Rule
 last_five = rule_for (number Steps) ∷ last_four
 
@@ -85,21 +97,26 @@ finish : (rows : List Row) → fold with_default rows options ≡ with_default r
 finish rows = finish_number Workers rows last_five ∙ finish_number Steps rows last_four ∙ finish_number Segments rows last_three
     ∙ finish_number Cells rows last_two ∙ finish_number Size rows last_one
 
+-- the walk after all words
 abbrev walk_end : List Text → Walk
 walk_end words = fold (walked options []) (at idle nothing_held) words
 
+-- no subcommand is refused, as there are none
 no_subcommand : (stop : Option (Text × List Text)) → entered_fault (built options_app) stop ≡ []
 no_subcommand None = refl
 no_subcommand (Some p) = refl
 
+-- no subcommand is entered, as there are none
 not_entered : (stop : Option (Text × List Text)) → is_some (entered (built options_app) stop) ≡ false
 not_entered None = refl
 not_entered (Some p) = refl
 
+-- faults, or else none, are those faults
 or_nothing : (ks : Kinds) → or_else ks [] ≡ ks
 or_nothing [] = refl
 or_nothing (k ∷ ks) = refl
 
+-- the faults of words are those of the walk over them, and else those of settling what waits at its end
 faults : (words : List Text) → fault_of options_app words
     ≡ or_else (walk_fault shape [] (at idle nothing_held) words) (settle_fault options false (walk_end words).held)
 faults words =
@@ -116,21 +133,26 @@ faults words =
 
 -- ## The rows at the end
 
+-- the row of the option without a number where it is not given
 abbrev default_row : Row
 default_row = record { id = codes "journal"; values = codes "false" ∷ []; count = None; source = Some DefaultValue; reading = AsWritten }
 
+-- the rows with one of the option without a number, where they had none
 abbrev with_journal : List Row → List Row
 with_journal rows = with_default rows (rule_for flag)
 
+-- rows without one of the option without a number get its row for what is not given
 added : (rows : List Row) → has_row (codes "journal") rows ≡ false → with_journal rows ≡ rows ++ default_row ∷ []
 added rows none = ap
     (λ (b : Bool). cond b rows (at_row (codes "journal") (more_values DefaultValue (codes "false" ∷ [])) (default_row ∷ []) rows)) none
     ∙ row_absent (codes "journal") (more_values DefaultValue (codes "false" ∷ [])) (default_row ∷ []) rows none
 
+-- rows with one of the option without a number stay as they are
 stays : (rows : List Row) → has_row (codes "journal") rows ≡ true → with_journal rows ≡ rows
 stays rows has = ap (λ (b : Bool). cond b rows
     (at_row (codes "journal") (more_values DefaultValue (codes "false" ∷ [])) (default_row ∷ []) rows)) has
 
+-- the row that is added for the option without a number changes no other option's text
 text_stays : (id : Text) (rows : List Row) → bytes_eq (codes "journal") id ≡ false → first_of id (with_journal rows) ≡ first_of id rows
 text_stays id rows other = go (has_row (codes "journal") rows) refl
   where
@@ -139,6 +161,7 @@ text_stays id rows other = go (has_row (codes "journal") rows) refl
     go false e = ap (first_of id) (added rows e)
         ∙ ap (option_and_then (λ r. slice_get r.values 0)) (find_other (λ r. bytes_eq r.id id) rows default_row other)
 
+-- the one text of the option without a number says whether it was used
 journal_said : (us : List Use)
     → one_of (codes "journal") (with_journal (rows_for us)) ≡ Some (bool_text (has_row (codes "journal") (rows_for us)))
 journal_said us = go (has_row (codes "journal") (rows_for us)) refl
@@ -157,16 +180,20 @@ abbrev rows_ended_by : Kinds → Kinds → List Row → Option (List Row)
 rows_ended_by [] s rows = then_rows s rows (λ rs. Some rs)
 rows_ended_by (k ∷ ks) s rows = None
 
+-- the rows that the walk over all words ends with, if nothing is refused
 abbrev ends : List Text → Option (List Row)
 ends words = ends_from (at idle nothing_held) words
 
+-- without a word `--`, all words end with the rows of the uses that they say
 ends_is : (words : List Text) → has_dashes words ≡ false → ends words ≡ rows_of_uses [] (uses_from None words)
 ends_is words none = (ended words none).idly [] None
 
+-- what the walk ends with is told by its faults, by those of settling and by the rows then
 by_faults : (w : Kinds) (h : Held) → rows_ended w h ≡ rows_ended_by w (settle_fault options false h) (settled options h).rows
 by_faults [] h = refl
 by_faults (k ∷ ks) h = refl
 
+-- what all words end with is told by the faults of the walk, by those of settling and by the rows at its end
 ends_by : (words : List Text) → ends words
     ≡ rows_ended_by (walk_fault shape [] (at idle nothing_held) words) (settle_fault options false (walk_end words).held)
     (settled options (walk_end words).held).rows
@@ -197,6 +224,7 @@ pub record Kept (words : List Text) (asked : Bool) : Type 0 where
   pub journal : one_of (codes "journal") (matches_of options_app words) ≡ Some (bool_text asked)
   pub numbers : given_texts (λ o. first_of (name_of o) (matches_of options_app words)) asked ≡ read_options nothing_given words
 
+-- the row that is added for the option without a number changes nothing of what the other options give
 same_texts : (rows : List Row) (asked : Bool)
     → given_texts (λ o. first_of (name_of o) (with_journal rows)) asked ≡ given_texts (λ o. first_of (name_of o) rows) asked
 same_texts rows asked = same_numbers (ap (number_in Workers) (text_stays (codes "workers") rows refl))
@@ -204,12 +232,14 @@ same_texts rows asked = same_numbers (ap (number_in Workers) (text_stays (codes 
     (ap (number_in Segments) (text_stays (codes "segments") rows refl)) (ap (number_in Cells) (text_stays (codes "cells") rows refl))
     (ap (number_in Size) (text_stays (codes "size") rows refl)) refl
 
+-- rows that were made from uses, one after another, are the rows of some uses
 rows_of_made : (us : Option (List Use)) (rows : List Row) → rows_of_uses [] us ≡ Some rows → (all : List Use) × (rows ≡ rows_for all)
 rows_of_made None rows is =
     let bad : None ≡ Some rows = is in
     absurd (cc)
 rows_of_made (Some us) rows is = made us [] [] rows refl is
 
+-- words without `--` that are not refused are kept as clap keeps them
 pub kept : (words : List Text) → has_dashes words ≡ false → fault_of options_app words ≡ [] → (asked : Bool) × Kept words asked
 kept words none clear =
     let rows = (settled options (walk_end words).held).rows in

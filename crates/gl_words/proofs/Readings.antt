@@ -18,54 +18,67 @@ use Rattle.gl_words.proofs.Uses.{Kind, Use, flag, id_of, number, row_of, rows_wi
 
 -- ## One number more, or one that is there
 
+-- a number of workers besides other options gives what those give, and then that number
 workers_more : (n : Option ℕ) (b c d e : Option (Option ℕ)) (j : Bool) → given_numbers (option_map (λ m. Some m) n) b c d e j
     ≡ option_and_then (λ g. option_and_then (λ m. give Workers m g) n) (given_numbers (Some None) b c d e j)
 workers_more n b c d e j = grind (arith, common_steps)
 
+-- a number of steps besides other options gives what those give, and then that number
 steps_more : (n : Option ℕ) (a c d e : Option (Option ℕ)) (j : Bool) → given_numbers a (option_map (λ m. Some m) n) c d e j
     ≡ option_and_then (λ g. option_and_then (λ m. give Steps m g) n) (given_numbers a (Some None) c d e j)
 steps_more n a c d e j = grind (arith, common_steps)
 
+-- a number of segments besides other options gives what those give, and then that number
 segments_more : (n : Option ℕ) (a b d e : Option (Option ℕ)) (j : Bool) → given_numbers a b (option_map (λ m. Some m) n) d e j
     ≡ option_and_then (λ g. option_and_then (λ m. give Segments m g) n) (given_numbers a b (Some None) d e j)
 segments_more n a b d e j = grind (arith, common_steps)
 
+-- a number of cells besides other options gives what those give, and then that number
 cells_more : (n : Option ℕ) (a b c e : Option (Option ℕ)) (j : Bool) → given_numbers a b c (option_map (λ m. Some m) n) e j
     ≡ option_and_then (λ g. option_and_then (λ m. give Cells m g) n) (given_numbers a b c (Some None) e j)
 cells_more n a b c e j = grind (arith, common_steps)
 
+-- a size besides other options gives what those give, and then that size
 size_more : (n : Option ℕ) (a b c d : Option (Option ℕ)) (j : Bool) → given_numbers a b c d (option_map (λ m. Some m) n) j
     ≡ option_and_then (λ g. option_and_then (λ m. give Size m g) n) (given_numbers a b c d (Some None) j)
 size_more n a b c d j = grind (arith, common_steps)
 
+-- the option without a number besides others gives what those give, and then itself
 journal_more : (a b c d e : Option (Option ℕ)) → given_numbers a b c d e true ≡ option_and_then give_journal (given_numbers a b c d e false)
 journal_more a b c d e = grind (arith, common_steps)
 
+-- where a number of workers is given, another one gives nothing
 workers_twice : (n m : Option ℕ) (b c d e : Option (Option ℕ)) (j : Bool)
     → option_and_then (λ g. option_and_then (λ k. give Workers k g) m) (given_numbers (option_map (λ k. Some k) n) b c d e j) ≡ None
 workers_twice n m b c d e j = grind (arith, common_steps)
 
+-- where a number of steps is given, another one gives nothing
 steps_twice : (n m : Option ℕ) (a c d e : Option (Option ℕ)) (j : Bool)
     → option_and_then (λ g. option_and_then (λ k. give Steps k g) m) (given_numbers a (option_map (λ k. Some k) n) c d e j) ≡ None
 steps_twice n m a c d e j = grind (arith, common_steps)
 
+-- where a number of segments is given, another one gives nothing
 segments_twice : (n m : Option ℕ) (a b d e : Option (Option ℕ)) (j : Bool)
     → option_and_then (λ g. option_and_then (λ k. give Segments k g) m) (given_numbers a b (option_map (λ k. Some k) n) d e j) ≡ None
 segments_twice n m a b d e j = grind (arith, common_steps)
 
+-- where a number of cells is given, another one gives nothing
 cells_twice : (n m : Option ℕ) (a b c e : Option (Option ℕ)) (j : Bool)
     → option_and_then (λ g. option_and_then (λ k. give Cells k g) m) (given_numbers a b c (option_map (λ k. Some k) n) e j) ≡ None
 cells_twice n m a b c e j = grind (arith, common_steps)
 
+-- where a size is given, another one gives nothing
 size_twice : (n m : Option ℕ) (a b c d : Option (Option ℕ)) (j : Bool)
     → option_and_then (λ g. option_and_then (λ k. give Size k g) m) (given_numbers a b c d (option_map (λ k. Some k) n) j) ≡ None
 size_twice n m a b c d j = grind (arith, common_steps)
 
+-- where the option without a number is given, it gives nothing a second time
 journal_twice : (a b c d e : Option (Option ℕ)) → option_and_then give_journal (given_numbers a b c d e true) ≡ None
 journal_twice a b c d e = grind (arith, common_steps)
 
 -- ## One row more
 
+-- a row at the end that passes is found where none before it passes
 pub find_own : (p : Row → Bool) (rows : List Row) (r : Row) → list_any p rows ≡ false → p r ≡ true → find p (rows ++ r ∷ []) ≡ Some r
 find_own p [] r none own = rw own refl
 find_own p (x ∷ xs) r none own = go (p x) none (λ more. find_own p xs r more own)
@@ -75,10 +88,12 @@ find_own p (x ∷ xs) r none own = go (p x) none (λ more. find_own p xs r more 
     go true e more = absurd (true≢false e)
     go false e more = more e
 
+-- a row at the end that does not pass changes nothing of what is found
 pub find_other : (p : Row → Bool) (rows : List Row) (r : Row) → p r ≡ false → find p (rows ++ r ∷ []) ≡ find p rows
 find_other p [] r other = rw other refl
 find_other p (x ∷ xs) r other = ap (cond (p x) (Some x)) (find_other p xs r other)
 
+-- where no row passes, none is found
 pub find_none : (p : Row → Bool) (rows : List Row) → list_any p rows ≡ false → find p rows ≡ None
 find_none p [] none = refl
 find_none p (x ∷ xs) none = go (p x) none (find_none p xs)
@@ -87,6 +102,7 @@ find_none p (x ∷ xs) none = go (p x) none (find_none p xs)
     go true e more = absurd (true≢false e)
     go false e more = more e
 
+-- a row at the end that has the name is a row of that name
 row_own : (id : Text) (rows : List Row) (r : Row) → bytes_eq r.id id ≡ true → has_row id (rows ++ r ∷ []) ≡ true
 row_own id [] r own = rw own refl
 row_own id (x ∷ xs) r own = go (bytes_eq x.id id) (row_own id xs r own)
@@ -95,6 +111,7 @@ row_own id (x ∷ xs) r own = go (bytes_eq x.id id) (row_own id xs r own)
     go true e = refl
     go false e = e
 
+-- a row at the end of another name changes nothing of whether there is a row of this one
 row_other : (id : Text) (rows : List Row) (r : Row) → bytes_eq r.id id ≡ false → has_row id (rows ++ r ∷ []) ≡ has_row id rows
 row_other id [] r other = rw other refl
 row_other id (x ∷ xs) r other = ap (λ (b : Bool). bytes_eq x.id id || b) (row_other id xs r other)
@@ -106,12 +123,14 @@ text_kept o k t rows other =
     ap (λ (r : Option Row). number_in o (option_and_then (λ x. slice_get x.values 0) r))
     (find_other (λ r. bytes_eq r.id (name_of o)) rows (row_of k t) other)
 
+-- the text of an option's first row, put at the end, gives the number that it says
 text_own : (o : NumberOption) (t : Text) (rows : List Row) → has_row (name_of o) rows ≡ false → bytes_eq (name_of o) (name_of o) ≡ true
     → number_in o (first_of (name_of o) (rows ++ row_of (number o) t ∷ [])) ≡ option_map (λ m. Some m) (number_of o t)
 text_own o t rows none own =
     ap (λ (r : Option Row). number_in o (option_and_then (λ x. slice_get x.values 0) r))
     (find_own (λ r. bytes_eq r.id (name_of o)) rows (row_of (number o) t) none own)
 
+-- an option without a row gives no number, and is not refused
 no_text : (o : NumberOption) (rows : List Row) → has_row (name_of o) rows ≡ false → number_in o (first_of (name_of o) rows) ≡ Some None
 no_text o rows none =
     ap (λ (r : Option Row). number_in o (option_and_then (λ x. slice_get x.values 0) r))
@@ -121,6 +140,7 @@ no_text o rows none =
 abbrev pub reads : List Row → Option Given
 reads rows = given_texts (λ o. first_of (name_of o) rows) (has_row (codes "journal") rows)
 
+-- equal texts give the same
 pub same_numbers : {a a' b b' c c' d d' e e' : Option (Option ℕ)} {j j' : Bool} → a ≡ a' → b ≡ b' → c ≡ c' → d ≡ d' → e ≡ e' → j ≡ j'
     → given_numbers a b c d e j ≡ given_numbers a' b' c' d' e' j'
 same_numbers p q r s t u = λ i. given_numbers (p i) (q i) (r i) (s i) (t i) (u i)
@@ -129,9 +149,11 @@ same_numbers p q r s t u = λ i. given_numbers (p i) (q i) (r i) (s i) (t i) (u 
 abbrev here : NumberOption → List Row → Option (Option ℕ)
 here o rows = number_in o (first_of (name_of o) rows)
 
+-- whether the rows have one of the option without a number
 abbrev asked : List Row → Bool
 asked = has_row (codes "journal")
 
+-- rows with one more, of an option that had none, give what they gave and then what that use gives
 grown : (k : Kind) (t : Text) (rows : List Row) → has_row (id_of k) rows ≡ false
     → reads (rows ++ row_of k t ∷ []) ≡ option_and_then (λ g. give_use g (k, t)) (reads rows)
 grown (number Workers) t rows none =
@@ -183,6 +205,7 @@ grown flag t rows none =
 
 -- ## The uses of the rows
 
+-- the rows of uses
 abbrev pub rows_for : List Use → List Row
 rows_for = map (λ u. row_of u.0 u.1)
 
@@ -243,11 +266,13 @@ twice flag t us has =
     ∙ journal_twice (here Workers (rows_for us)) (here Steps (rows_for us)) (here Segments (rows_for us)) (here Cells (rows_for us))
     (here Size (rows_for us))
 
+-- one step and then another, after something, are both as one step after it
 two_steps : (f h : Given → Option Given) (x : Option Given)
     → option_and_then h (option_and_then f x) ≡ option_and_then (λ g. option_and_then h (f g)) x
 two_steps f h None = refl
 two_steps f h (Some g) = refl
 
+-- where the first of two steps gives nothing, both as one step give nothing
 then_none : (f h : Given → Option Given) (x : Option Given) → option_and_then f x ≡ None
     → option_and_then (λ g. option_and_then h (f g)) x ≡ None
 then_none f h x none = sym (two_steps f h x) ∙ ap (option_and_then h) none

@@ -22,12 +22,14 @@ use Rattle.gl_words.proofs.Turns.{dashes}
 abbrev pub give_use : Given → Use → Option Given
 give_use g u = elim u.0 [ number o ↦ option_and_then (λ n. give o n g) (number_of o u.1) | flag ↦ give_journal g ]
 
+-- what uses give, one after another, after what is given already
 abbrev pub gives : Given → List Use → Option Given
 gives g [] = Some g
 gives g (u ∷ us) = option_and_then (λ more. gives more us) (give_use g u)
 
 -- ## The form of a word
 
+-- some element passes exactly where the first place of one that passes is before the end
 any_within : (p : ℕ → Bool) (xs : List ℕ) → list_any p xs ≡ nat_lt (position_or_len p xs) (length xs)
 any_within p [] = refl
 any_within p (x ∷ xs) = go (p x) (any_within p xs)
@@ -47,6 +49,7 @@ cut text n false false e past = ap (λ (t : Word). (t, None)) (sym (past refl))
 cut text n true false e past = absurd (true≢false (sym e))
 cut text n false true e past = absurd (true≢false e)
 
+-- a name and its number are told apart as clap tells a name and its value apart
 names_are : (text : Word) → name_and_number text ≡ name_and_value text
 names_are text =
     let n = position_or_len is_equals text in
@@ -76,6 +79,7 @@ named_as (x ∷ y ∷ z ∷ rest) other = go (x == 45) (y == 45) refl refl
 
 -- ## Numbers
 
+-- what is false is not both
 none_in : (b : Bool) → (b && false) ≡ false
 none_in true = refl
 none_in false = refl
@@ -92,6 +96,7 @@ hyphen_no_number o rest =
     go true m bad = refl
     go false m bad = rw bad refl
 
+-- a word that is no value says no number
 flag_no_number : (o : NumberOption) (word : Word) → is_value word ≡ false → number_of o word ≡ None
 flag_no_number o [] none = absurd (true≢false none)
 flag_no_number o (x ∷ rest) none = go (x == 45) refl
@@ -113,6 +118,7 @@ one_kind name o is = go (is_journal name) refl
         let other : None ≡ Some o = sym (ap option_named name_is) ∙ is in
         absurd (cc)
 
+-- an option is what it is when it is handed on
 pub option_some : {X : Type 0} (x : Option X) → x ≡ option_and_then (λ y. Some y) x
 option_some None = refl
 option_some (Some y) = refl
@@ -196,6 +202,7 @@ by_form word g f h none all = go (bytes_eq word dashes) refl
         rw is none
     go false e = ap (option_and_then f) (named_as word e) ∙ same (long_of word)
 
+-- the words give what their uses give, one after another
 pub said_by_uses : (words : List Word) (g : Given) → read_options g words ≡ option_and_then (gives g) (uses_from None words)
 said_by_uses [] g = refl
 said_by_uses (word ∷ []) g =
@@ -213,28 +220,34 @@ said_by_uses (word ∷ next ∷ rest) g =
 
 -- ## A word `--` is no form
 
+-- `--` gives nothing, where the empty name without a number gives nothing
 dashes_by_form : (word : Word) (f : Word × Option Word → Option Given) → bytes_eq word dashes ≡ true → f ([], None) ≡ None
     → option_and_then f (named word) ≡ None
 dashes_by_form word f e none =
     let is : word ≡ dashes = (bytes_eq-Decides word dashes).0 e in
     rw is none
 
+-- `--` is no number of an option
 dashes_no_number : (o : NumberOption) (word : Word) → bytes_eq word dashes ≡ true → number_of o word ≡ None
 dashes_no_number o word e = rw ((bytes_eq-Decides word dashes).0 e) (hyphen_no_number o (45 ∷ []))
 
+-- where one of two holds, the first does or the second
 or_split : (a b : Bool) → (a || b) ≡ true → (a ≡ true) ⊎ (b ≡ true)
 or_split true b e = inl refl
 or_split false b e = inr e
 
+-- a next step that gives nothing for anything gives nothing
 none_next : (f : Given → Option Given) (x : Option Given) → ((m : Given) → f m ≡ None) → option_and_then f x ≡ None
 none_next f None all = refl
 none_next f (Some m) all = all m
 
+-- where nothing comes of any form, nothing comes of this one
 no_form : (form : Option (Word × Option Word)) (f : Word × Option Word → Option Given) → ((p : Word × Option Word) → f p ≡ None)
     → option_and_then f form ≡ None
 no_form None f all = refl
 no_form (Some p) f all = all p
 
+-- words with `--` among them give nothing
 pub dashes_say_nothing : (words : List Word) (g : Given) → has_dashes words ≡ true → read_options g words ≡ None
 dashes_say_nothing [] g has = absurd (true≢false (sym has))
 dashes_say_nothing (word ∷ []) g has = elim (or_split (bytes_eq word dashes) false has) [

@@ -19,6 +19,7 @@ use Rattle.gl_words.proofs.Uses.{Kind, flag, id_of, kind_named, number, options,
 
 -- ## Which option a name finds
 
+-- bytes are compared the same way round and the other
 flip : (a b : List ℕ) → bytes_eq a b ≡ bytes_eq b a
 flip a b = go (bytes_eq a b) (bytes_eq b a) refl refl
   where
@@ -32,6 +33,7 @@ flip a b = go (bytes_eq a b) (bytes_eq b a) refl refl
         let other : bytes_eq a b ≡ true = (bytes_eq-Decides a b).1 (sym ((bytes_eq-Decides b a).0 two)) in
         absurd (cc)
 
+-- the rule that clap finds by a name is that of the option of this name
 pub found : (name : Word) → arg_by_long options name ≡ option_map rule_for (kind_named name)
 found name = rw (
   flip (codes "workers") name,
@@ -61,6 +63,7 @@ found name = rw (
 
 -- ## One use
 
+-- a change of a row that is not there puts a new one at the end
 pub row_absent : (id : Text) (change : Row → List Row) (missing rows : List Row) → has_row id rows ≡ false
     → at_row id change missing rows ≡ rows ++ missing
 row_absent id change missing [] none = refl
@@ -76,6 +79,7 @@ alone : (b : Bool) → or_else (cond (b && true) (ArgumentConflict ∷ []) []) [
 alone true = refl
 alone false = refl
 
+-- a use of an option with a number is refused exactly as a second one
 pub use_of_number : (o : NumberOption) (t : Text) (rows : List Row)
     → use_fault false (rule_for (number o)) (t ∷ []) rows ≡ repeated (name_of o) rows
 use_of_number Workers t rows = alone (has_row (codes "workers") rows)
@@ -84,6 +88,7 @@ use_of_number Segments t rows = alone (has_row (codes "segments") rows)
 use_of_number Cells t rows = alone (has_row (codes "cells") rows)
 use_of_number Size t rows = alone (has_row (codes "size") rows)
 
+-- a use of the option without a number is refused exactly as a second one
 pub use_of_flag : (rows : List Row) → use_fault false (rule_for flag) [] rows ≡ repeated (codes "journal") rows
 use_of_flag rows = alone (has_row (codes "journal") rows)
 
@@ -95,6 +100,7 @@ put k t rows none =
     ap (with_values (id_of k) AsWritten CommandLine (text_of k t ∷ [])) same
     ∙ row_absent (id_of k) (more_values CommandLine (text_of k t ∷ [])) (row_of k t ∷ []) rows none
 
+-- the first use of an option with a number puts its row at the end
 pub used_number : (o : NumberOption) (t : Text) (rows : List Row) → has_row (name_of o) rows ≡ false
     → used (rule_for (number o)) (t ∷ []) rows ≡ rows ++ row_of (number o) t ∷ []
 used_number Workers t rows none = put (number Workers) t rows none
@@ -103,18 +109,22 @@ used_number Segments t rows none = put (number Segments) t rows none
 used_number Cells t rows none = put (number Cells) t rows none
 used_number Size t rows none = put (number Size) t rows none
 
+-- the first use of the option without a number puts its row at the end
 pub used_flag : (rows : List Row) → has_row (codes "journal") rows ≡ false
     → used (rule_for flag) [] rows ≡ rows ++ row_of flag (codes "true") ∷ []
 used_flag rows none = put flag (codes "true") rows none
 
 -- ## One word
 
+-- what the walk holds: rows, and the option that waits to be settled, if any
 abbrev pub held : List Row → Option (Text × List Text) → Held
 held rows pending = record { rows = rows; pending = pending; skip = 0 }
 
+-- the walk where it waits for this and holds that, on its way through the words
 abbrev pub at : Waiting → Held → Walk
 at waiting h = record { held = h; waiting = waiting; position = 1; is_trailing = false; stopped = None }
 
+-- the word `--`
 abbrev pub dashes : Text
 dashes = 45 ∷ 45 ∷ []
 
@@ -122,23 +132,28 @@ dashes = 45 ∷ 45 ∷ []
 abbrev pub met_at : Waiting → Text → Held → Bool → Option (Text × Option Text) → Held × Step
 met_at waiting word h is_dashes form = if is_dashes then (h, trailing 1) else long_or_other options waiting word form h
 
+-- the faults of a turn on a word of this form, where it is `--` or not
 abbrev pub fault_at : Waiting → Text → Held → Bool → Option (Text × Option Text) → Kinds
 fault_at waiting word h is_dashes form = or_else (if is_dashes then [] else flag_word_fault options false form word h)
     (step_fault shape 1 (met_at waiting word h is_dashes form).0 (met_at waiting word h is_dashes form).1)
 
+-- the walk after a turn on a word of this form, where it is `--` or not
 abbrev pub walk_at : Waiting → Text → Held → Bool → Option (Text × Option Text) → Walk
 walk_at waiting word h is_dashes form = after_step options word (at waiting h) (met_at waiting word h is_dashes form).0
     (met_at waiting word h is_dashes form).1
 
+-- the name and the value of a word of a long form, if it is one
 abbrev pub Form : Type 0
 Form = Option (Text × Option Text)
 
+-- the faults of a turn on a word other than `--` are those of its form
 pub fault_is : (w : Waiting) (word : Text) (h : Held) (form : Form) → bytes_eq word dashes ≡ false → long_of word ≡ form
     → turn_fault shape [] (at w h) word ≡ fault_at w word h false form
 fault_is idle word h form other is = ap₂ (fault_at idle word h) other is
 fault_is (option id) word h form other is = ap₂ (fault_at (option id) word h) other is
 fault_is positional word h form other is = ap₂ (fault_at positional word h) other is
 
+-- the walk after a turn on a word other than `--` is that of its form
 pub walk_is : (w : Waiting) (word : Text) (h : Held) (form : Form) → bytes_eq word dashes ≡ false → long_of word ≡ form
     → walked options [] (at w h) word ≡ walk_at w word h false form
 unfolding walked
@@ -152,13 +167,16 @@ walk_is positional word h form other is = ap₂ (walk_at positional word h) othe
 abbrev pub rows_settled : Held → Option (List Row)
 rows_settled h = then_rows (settle_fault options false h) (settled options h).rows Some
 
+-- the rows of a walk that has ended, where it had no fault
 abbrev pub rows_ended : Kinds → Held → Option (List Row)
 rows_ended [] h = rows_settled h
 rows_ended (k ∷ ks) h = None
 
+-- the rows that a walk ends with, over these words, where nothing is refused
 abbrev pub ends_from : Walk → List Text → Option (List Row)
 ends_from w words = rows_ended (walk_fault shape [] w words) (fold (walked options []) w words).held
 
+-- a word without a fault leads the walk on to where it ends over the other words
 pub goes_on : (w v : Walk) (word : Text) (rest : List Text) → turn_fault shape [] w word ≡ [] → walked options [] w word ≡ v
     → ends_from w (word ∷ rest) ≡ ends_from v rest
 unfolding walk_fault
@@ -167,6 +185,7 @@ goes_on w v word rest clear on =
     (fold (walked options []) (walked options [] w word) rest).held) clear
     ∙ ap (λ (u : Walk). ends_from u rest) on
 
+-- a word with a fault ends the walk with no rows
 pub stops : (w : Walk) (word : Text) (rest : List Text) (k : ErrorKind) (ks : Kinds) → turn_fault shape [] w word ≡ k ∷ ks
     → ends_from w (word ∷ rest) ≡ None
 unfolding walk_fault

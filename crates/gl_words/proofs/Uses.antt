@@ -18,10 +18,12 @@ pub data Kind : Type 0 where
   number : NumberOption → Kind
   flag : Kind
 
+-- the name of an option
 abbrev pub id_of : Kind → Text
 id_of (number o) = name_of o
 id_of flag = codes "journal"
 
+-- the option of a name
 abbrev pub kind_named : Word → Option Kind
 kind_named name = elim (option_named name) [ Some o ↦ Some (number o) | None ↦ if is_journal name then Some flag else None ]
 
@@ -33,9 +35,11 @@ Use = Kind × Text
 abbrev pub has_flags : Option Text → Bool
 has_flags flags = is_some (option_and_then (λ f. slice_get (chars f) 0) flags)
 
+-- a word that is neither of a long form nor flags
 abbrev pub is_value : Text → Bool
 is_value word = not (is_some (long_of word)) && not (has_flags (short_of word))
 
+-- the uses that a name says, with the value beside it, and those of the words after it
 abbrev pub said : Option Text → Option Kind → (Option NumberOption → Option (List Use)) → Option (List Use)
 said v None more = None
 said (Some t) (Some (number o)) more = option_map (λ us. (number o, t) ∷ us) (more None)
@@ -53,12 +57,15 @@ uses_from (Some o) (word ∷ rest) =
 
 -- ## The rows that clap makes of them
 
+-- clap's shape of these options
 abbrev pub shape : Shape
 shape = (built options_app).top
 
+-- the rules of the options, as clap has them
 abbrev pub options : List Rule
 options = shape.rules
 
+-- clap's rule of an option
 abbrev pub rule_for : Kind → Rule
 rule_for (number o) = with_index 1 (filled (number_rule o))
 rule_for flag = with_index 1 (filled journal_rule)
@@ -68,9 +75,11 @@ abbrev pub text_of : Kind → Text → Text
 text_of (number o) t = t
 text_of flag t = codes "true"
 
+-- the row of an option that is given by a text
 abbrev pub row_of : Kind → Text → Row
 row_of k t = record { id = id_of k; values = text_of k t ∷ []; count = None; source = Some CommandLine; reading = AsWritten }
 
+-- the fault of a second use of an option
 abbrev pub repeated : Text → List Row → Kinds
 repeated id rows = if has_row id rows then ArgumentConflict ∷ [] else []
 
@@ -84,5 +93,6 @@ abbrev pub rows_with : List Row → List Use → Option (List Row)
 rows_with rows [] = Some rows
 rows_with rows (u ∷ us) = then_rows (repeated (id_of u.0) rows) (rows ++ row_of u.0 u.1 ∷ []) (λ more. rows_with more us)
 
+-- the rows after these with the rows of the uses, if there are uses and none is a second one
 abbrev pub rows_of_uses : List Row → Option (List Use) → Option (List Row)
 rows_of_uses rows = option_and_then (rows_with rows)
