@@ -1,4 +1,4 @@
-ghost use Rattle.std.specs.Prelude.{◌≡◌, ◌<◌, ◌≤◌, ◌+◌, ◌*◌, ◌^◌, [], ◌∷◌, IfSome, OnSome, OnOk, OnErr, Contains};
+ghost use Rattle.std.specs.Prelude.{◌≡◌, ◌<◌, ◌≤◌, ◌+◌, ◌*◌, ◌^◌, [], ◌∷◌, IfSome, OnSome, Contains};
 ghost use Rattle.gl_draws.specs.Ties.{counted};
 ghost use Rattle.gl_model.specs.declared.limits.TheConstants.{MONITORS};
 ghost use Rattle.gl_events.specs.Answers.{MayCall};
