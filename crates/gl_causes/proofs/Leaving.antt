@@ -7,7 +7,7 @@ use Rattle.gl_draws.specs.Ties.{last_position}
 use Rattle.gl_model.specs.declared.event.Act.TheVariants.{Begin, End, Fork}
 use Rattle.gl_model.specs.declared.event.Event.TheVariants.{Act as Does, Commit as Commits}
 use Rattle.gl_model.specs.declared.event.Stamp.{Stamp}
-use Rattle.gl_model.specs.Edges.{SynchronizesWith, unlock_lock, write_read, fork_begin, end_join, commits, Unlocks, WritesVolatile, TransitiveClosure, one_step, then_step}
+use Rattle.gl_model.specs.Edges.{SynchronizesWith, release_acquire, fork_begin, end_join, commits, TransitiveClosure, one_step, then_step}
 use Rattle.gl_model.specs.Entries.{Entry, Sync, Commit, Plain, Abort, Trim, Over}
 use Rattle.gl_model.specs.Form.{ListForm, IsTrim, IsBegin, IsOver}
 use Rattle.gl_model.specs.HappensBefore.{HappensBefore, by_steps, from_commit, through_commit, IsCommit, OrdersDirectly, program_order, synchronizes}
@@ -15,6 +15,7 @@ use Rattle.gl_model.specs.Records.{At, Lists, Place, InProgramOrder, IsEventAt, 
 use Rattle.gl_raised.proofs.Blocks.{all_trims, end_entry}
 use Rattle.gl_causes.proofs.Telling.{commit_event}
 
+-- an event is no note of a trim
 event_no_trim : (e : Entry) (p : ℕ) → position_of e ≡ Some p → IsTrim e → ⊥
 event_no_trim (Sync at act value) p i t = t
 event_no_trim (Commit at tx) p i t = t
@@ -23,6 +24,7 @@ event_no_trim (Abort tx why) p i t = t
 event_no_trim (Trim low) p i t = cc
 event_no_trim (Over ending) p i t = t
 
+-- an event is no end of a list
 event_no_over : (e : Entry) (p : ℕ) → position_of e ≡ Some p → IsOver e → ⊥
 event_no_over (Sync at act value) p i t = t
 event_no_over (Commit at tx) p i t = t
@@ -31,6 +33,7 @@ event_no_over (Abort tx why) p i t = t
 event_no_over (Trim low) p i t = t
 event_no_over (Over ending) p i t = cc
 
+-- the entry of a thread's beginning is the event of one
 begin_there : (e : Entry) → IsBegin e → (g : ℕ) × (event_of e ≡ Some (Does (Begin g)))
 begin_there (Sync at (Begin g) value) b = (g, refl)
 begin_there (Sync at End value) b = absurd b
@@ -68,8 +71,7 @@ no_end t es form i e there p event b l is = elim (slice_get_cases es (l.index + 
 
 -- what synchronizes with a later event begins no thread
 source_no_begin : (r t : Stamp) → SynchronizesWith r t → (g : ℕ) → r.event ≢ Does (Begin g)
-source_no_begin r t (unlock_lock o x y) g e = subst (λ v. Unlocks v o) e x
-source_no_begin r t (write_read v x y) g e = subst (λ w. WritesVolatile w v) e x
+source_no_begin r t (release_acquire o x y) g e = let none = rw e at x in cc
 source_no_begin r t (fork_begin k n x y) g e = let z : Does (Begin g) ≡ Does (Fork t.thread k) = sym e ∙ x in cc
 source_no_begin r t (end_join x y) g e = let z : Does (Begin g) ≡ Does End = sym e ∙ x in cc
 source_no_begin r t (commits k xs ys x y m n) g e = let z : Does (Begin g) ≡ Commits xs = sym e ∙ x in cc
