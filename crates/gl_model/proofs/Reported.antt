@@ -11,11 +11,13 @@ use Rattle.gl_model.specs.Report.{report_of, summary_of, line_of}
 printing : List (ℕ × List Entry)
 printing = (0, Sync 0 (Begin 0) (pos 0) ∷ Sync 1 Print (pos 5) ∷ Sync 2 End (pos 0) ∷ Over Halt ∷ []) ∷ []
 
+-- the whole report of the printing record, line by line
 is_reported : report_of printing ≡ (line_of (codes "out " ++ signed_decimal (pos 5)) ++ [])
     ++ ((line_of (codes "end " ++ (decimal 0 ++ codes " halt")) ++ []) ++ line_of (codes "races " ++ decimal 0))
 unfolding printing
 is_reported = refl
 
+-- its whole summary, line by line
 is_summed : summary_of printing ≡ line_of (codes "total " ++ signed_decimal (pos 5))
     ++ (line_of (codes "commits " ++ decimal 0) ++ line_of (codes "races " ++ decimal 0))
 unfolding printing

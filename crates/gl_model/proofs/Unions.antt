@@ -18,6 +18,7 @@ one_grows x (y ∷ ys) =
           ]
     ]
 
+-- two lists put together have no fewer than the second
 all_grow : (xs ys : List ℕ) → length ys ≤ length (with_all xs ys)
 all_grow [] ys = omega arith
 all_grow (x ∷ xs) ys = let one = one_grows x ys in let rest = all_grow xs (with_one x ys) in omega arith
