@@ -11,6 +11,7 @@ use Rattle.gl_model.specs.Edges.{SynchronizesWith, unlock_lock, write_read, fork
 pub eq_test : (a b : ℕ) → IsTrue (a == b) ↔ (a ≡ b)
 eq_test a b = (λ t. eqb-true a b t, λ e. eq-eqb a b e)
 
+-- the test for less holds exactly where it is less
 pub lt_test : (a b : ℕ) → IsTrue (nat_lt a b) ↔ (a < b)
 lt_test a b = (λ t. ltb-true a b t, λ l. lt-ltb a b l)
 
@@ -19,9 +20,11 @@ pub negated : (b : Bool) (P : Type 0) → IsTrue b ↔ P → IsTrue (not b) ↔ 
 negated true P p = (λ t. absurd (cc), λ w. absurd (w (p.0 refl)))
 negated false P p = (λ _ x. (let yes = p.1 x in cc), λ _. refl)
 
+-- a test holds exactly where it is true
 pub truth : (b : Bool) → IsTrue b ↔ (b ≡ true)
 truth b = (λ t. t, λ t. t)
 
+-- the test for nothing holds exactly where there is nothing
 pub none_test : {A : Type 0} (o : Option A) (b : Bool) → is_some o ≡ not b → IsTrue b ↔ (o ≡ None)
 none_test None true is = (λ _. refl, λ _. refl)
 none_test None false is = absurd (cc)
@@ -33,6 +36,7 @@ pub either : (a b : Bool) (P Q : Type 0) → IsTrue a ↔ P → IsTrue b ↔ Q �
 either true b P Q p q = (λ _. inl (p.0 refl), λ _. refl)
 either false b P Q p q = (λ t. inr (q.0 t), λ w. elim w [ inl x ↦ absurd (let n = p.1 x in cc) | inr y ↦ q.1 y ])
 
+-- two tests hold both exactly where both facts do
 pub both : (a b : Bool) (P Q : Type 0) → IsTrue a ↔ P → IsTrue b ↔ Q → IsTrue (a && b) ↔ (P × Q)
 both true b P Q p q = (λ t. (p.0 refl, q.0 t), λ w. q.1 w.1)
 both false b P Q p q = (λ t. absurd (cc), λ w. absurd (let n = p.1 w.0 in cc))
@@ -41,6 +45,7 @@ both false b P Q p q = (λ t. absurd (cc), λ w. absurd (let n = p.1 w.0 in cc))
 pub first_holds : (a b : Bool) (P Q : Type 0) → a ≡ true → IsTrue a ↔ P → IsTrue b ↔ Q → IsTrue b ↔ (P × Q)
 first_holds a b P Q e p q = (λ t. (p.0 e, q.0 t), λ w. q.1 w.1)
 
+-- where the first fact fails, both do not hold
 pub first_fails : (a : Bool) (P Q : Type 0) → a ≡ false → IsTrue a ↔ P → IsTrue false ↔ (P × Q)
 first_fails a P Q e p = (λ t. absurd (cc), λ w. absurd (let n = p.1 w.0 in cc))
 
@@ -61,6 +66,7 @@ Cases e f =
     ((e.event ≡ Does End) × (f.event ≡ Does (Join e.thread)))) ⊎
     ((x : ℕ) × (xs : List ℕ) × (ys : List ℕ) × (e.event ≡ Commit xs) × (f.event ≡ Commit ys) × Contains xs x × Contains ys x)
 
+-- by each case the one event synchronizes with the other
 from_case : (e f : Stamp) → Cases e f → SynchronizesWith e f
 unfolding Cases
 from_case e f (inl (inl (inl (inl (o, u, l))))) = unlock_lock o u l
@@ -69,6 +75,7 @@ from_case e f (inl (inl (inr ((g, forked), (k, begun))))) = fork_begin g k forke
 from_case e f (inl (inr (ended, joined))) = end_join ended joined
 from_case e f (inr (x, xs, ys, first, second, one, other)) = commits x xs ys first second one other
 
+-- an event that synchronizes with another does so by one of the cases
 to_case : (e f : Stamp) → SynchronizesWith e f → Cases e f
 unfolding Cases
 to_case e f (unlock_lock o u l) = inl (inl (inl (inl (o, u, l))))
@@ -77,6 +84,7 @@ to_case e f (fork_begin g k forked begun) = inl (inl (inr ((g, forked), (k, begu
 to_case e f (end_join ended joined) = inl (inr (ended, joined))
 to_case e f (commits x xs ys first second one other) = inr (x, xs, ys, first, second, one, other)
 
+-- the tests of the cases, put together, are the test whether one event synchronizes with another
 pub synchronizes_by :
     (e f : Stamp) (m v k g n j c : Bool) →
     IsTrue m ↔ ((o : ℕ) × Unlocks e.event o × Locks f.event o) → IsTrue v ↔ ((x : ℕ) × WritesVolatile e.event x × ReadsVolatile f.event x) →
