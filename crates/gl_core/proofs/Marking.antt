@@ -18,17 +18,17 @@ pub or_none : (a b : Bool) → (a || b) ≡ false → (a ≡ false) × (b ≡ fa
 or_none true b e = absurd (cc)
 or_none false b e = (refl, e)
 
--- where the first holds, either does
+-- where the first test holds, one of the two does
 pub or_left : (a b : Bool) → a ≡ true → (a || b) ≡ true
 or_left true b e = refl
 or_left false b e = absurd (cc)
 
--- where the second holds, either does
+-- where the second test holds, one of the two does
 pub or_right : (a b : Bool) → b ≡ true → (a || b) ≡ true
 or_right true b e = refl
 or_right false b e = e
 
--- where both fail, neither holds
+-- where both tests fail, neither holds
 pub or_both : (a b : Bool) → a ≡ false → b ≡ false → (a || b) ≡ false
 or_both true b e f = absurd (cc)
 or_both false b e f = f

@@ -98,7 +98,7 @@ and_not_false : (b : Bool) → (b && not false) ≡ b
 and_not_false true = refl
 and_not_false false = refl
 
--- where either of two tests fails to hold, the first does not hold
+-- where neither of two tests holds, the first fails
 not_first : (a b : Bool) → (if a then true else b) ≡ false → a ≡ false
 not_first true b e = absurd (cc)
 not_first false b e = refl

@@ -41,7 +41,7 @@ right_grows log more until x ds t p (Entered (Over a)) r = tt
 right_grows log more until x ds t p (Looked z) r = tt
 right_grows log more until x ds t p Open r = tt
 
--- and so is each of a variable
+-- what is said of a variable's refusals holds with more events
 pub refusals_grow : (log more : List Stamp) (until : ℕ → ℕ) (x : ℕ) (ds : List Draw) → RefusalsHold log until x ds
     → RefusalsHold (log ++ more) until x ds
 refusals_grow log more until x [] r = tt
