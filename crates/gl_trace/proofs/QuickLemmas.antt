@@ -178,7 +178,7 @@ digit_word b e =
           (λ z. omega arith),
     )
 
--- digits are a word
+-- digits have no byte that ends a word
 digits_word : (ds : List ℕ) → list_all is_ascii_digit ds ≡ true → list_any is_end ds ≡ false
 digits_word [] e = refl
 digits_word (b ∷ bs) e =

@@ -158,7 +158,7 @@ well_more old new m s well few range kept none adds =
       clean = subst AreClean (sym steps) (clean_push (steps_of old) s well.clean none);
     }
 
--- a line that says a step is read: the tables are as they were and with the step
+-- a line that says a step, and has no fault, is read: the step is put to those that were read
 pub read_step : (text line : List ℕ) (n : ℕ) (rest : List (List ℕ)) (old new : List TraceLine) (before after : Standing) (s : Step)
     → Reads text n (line ∷ rest) old before → n + 1 ≤ TRACE_LINES → said (words line) ≡ Ok (Some s)
     → line_fault (steps_of old) (n + 1) line ≡ None

@@ -325,7 +325,7 @@ lines_left ls js count k dl dj h =
     ∙ ap (λ n. judged_lines (get_or ls k dl ∷ drop (suc k) ls) n) (drop-cons js k dj below)
     ∙ ap (λ n. (get_or ls k dl, get_or js k dj) ∷ judged_lines (drop n ls) (drop n js)) (sym (add-one k))
 
--- what holds without a success holds with one
+-- what holds anyway holds of a success
 pub on_any : {T E P : Type 0} (r : Result T E) → P → OnOk r P
 on_any (Ok x) p = p
 on_any (Err e) p = tt
