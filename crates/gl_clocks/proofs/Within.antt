@@ -33,6 +33,7 @@ use Rattle.gl_clocks.proofs.Ordered.{list_law, same_now, stands_access}
 at_own : (old : ℕ → ThreadState) (t : ℕ) (a : ThreadState) → with_at old t a t ≡ a
 at_own old t a = with_here old t a
 
+-- after an event that is not its End the thread runs
 after_runs : (setting : Setting) (old new : State) (t : ℕ) (e : Event) (value : ℤ) → MayStep (old.threads t) e value
     → Effect setting old t e value new → e ≢ Does End → new.threads t ≡ Running
 after_runs setting old new t (Does (Begin f)) value may h other = ap (λ (s : State). s.threads t) h ∙ with_here old.threads t Running
@@ -67,10 +68,12 @@ reaches_above (commit_edge s ys e l w on) = l
 reaches_above (thread_on r s reach e f l same) = let k = reaches_above reach in omega arith
 reaches_above (edge_on r s reach e f l w) = let k = reaches_above reach in omega arith
 
+-- the tick of an access is no less than its block
 tick_least : (b : ℕ) (v : Option (List ℕ)) → b ≤ tick_of b v
 tick_least b None = omega arith
 tick_least b (Some xs) = omega arith
 
+-- a thread's clock after an event of it has passed an access exactly where that comes before what the thread does then
 pub precede_law : ClocksPrecede
 precede_law setting h now allowed a is q s here other apart =
     let n : q < length h = slice_get_within h q s here in
@@ -111,6 +114,7 @@ precede_law setting h now allowed a is q s here other apart =
           (λ l. absurd (omega arith), λ p. absurd (let r = reaches_above p.reached in let v = p.within in omega arith)))
     ]
 
+-- so it is before a plain entry anywhere in a record, by its block
 pub entries_law : ClocksInRecord
 entries_law setting R h now is_list rise allowed c a stands d f here plain q b goes_on apart =
     let at : EventAt h q b.event = is_list.listed (record { thread = d.thread; index = b.index }) q b.event b.made in
@@ -124,10 +128,12 @@ entries_law setting R h now is_list rise allowed c a stands d f here plain q b g
           (precedes R h is_list rise c a stands d f here (λ p. plain_no_event f p plain) q b plain apart k),
     )
 
+-- what is in a list of one is that
 single : (x y : ℕ) → Contains (x ∷ []) y → y ≡ x
 single x y (zero, l, e) = sym e
 single x y (suc k, l, e) = absurd (omega arith)
 
+-- a variable's clock has passed an access exactly where a commit of it comes after the access, or is it
 pub variable_law : ClocksAtVariable
 variable_law setting h now allowed a is x =
     let near : a.block < length h = slice_get_within h a.block is.event is.there in
@@ -167,6 +173,7 @@ pub data IsBehindCommit (h : List Stamp) (a : Access) (x m : ℕ) : Type 0 where
   reached : (p : ℕ) (s : Stamp) (ys : List ℕ) → EventAt h p s → s.event ≡ Commit ys → Contains ys x → p < m → Reaches h a p
       → IsBehindCommit h a x m
 
+-- so it is after the first m events, of the commits among those
 variable_at : (setting : Setting) (h : List Stamp) (now : State) → Allows setting h now → (a : Access) → IsAccessOf h a → (x m : ℕ)
     → m ≤ length h → (tick a < clocks (take m h) (Var x) a.thread) ↔ IsBehindCommit h a x m
 variable_at setting h now allowed a is x m le = elim (cases_lt a.block m) [
@@ -263,6 +270,7 @@ module _ (R : Lists) (h : List Stamp) (is_list : IsEventList h R) (rise : Positi
                 (reached_event R h is_list rise c a stands b o.0 o.1 o.3 k),
           )
 
+-- an access happens before a refused commit where the thread's clock, or one of a variable of the commit, has passed it
 pub refusal_law : ClocksAtRefusal
 refusal_law setting R h now is_list rise allowed c a stands d xs until r within q b goes_on apart =
     let is = stands_access R h is_list c a stands in

@@ -12,6 +12,7 @@ use Rattle.gl_core.specs.Latests.{plain_mark, commit_mark, untouched, noted}
 use Rattle.gl_core.specs.Stands.{IsEpochOf, AreMarksOf, LatestStands}
 use Rattle.gl_core.proofs.Marking.{zero_at}
 
+-- of no draws what is kept is that nothing was accessed
 pub untouched_stands : (x : ℕ) → LatestStands x [] untouched
 untouched_stands x = record {
   writer = tt;

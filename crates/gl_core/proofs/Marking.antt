@@ -8,34 +8,42 @@ use Rattle.gl_core.specs.Marks.{marks_fail}
 
 -- ---- two tests joined
 
+-- where either of two tests holds, one does
 pub or_cases : (a b : Bool) → (a || b) ≡ true → (a ≡ true) ⊎ (b ≡ true)
 or_cases true b e = inl refl
 or_cases false b e = inr e
 
+-- where neither of two tests holds, both fail
 pub or_none : (a b : Bool) → (a || b) ≡ false → (a ≡ false) × (b ≡ false)
 or_none true b e = absurd (cc)
 or_none false b e = (refl, e)
 
+-- where the first test holds, one of the two does
 pub or_left : (a b : Bool) → a ≡ true → (a || b) ≡ true
 or_left true b e = refl
 or_left false b e = absurd (cc)
 
+-- where the second test holds, one of the two does
 pub or_right : (a b : Bool) → b ≡ true → (a || b) ≡ true
 or_right true b e = refl
 or_right false b e = e
 
+-- where both tests fail, neither holds
 pub or_both : (a b : Bool) → a ≡ false → b ≡ false → (a || b) ≡ false
 or_both true b e f = absurd (cc)
 or_both false b e f = f
 
+-- where two tests hold both, each does
 pub and_both : (a b : Bool) → (a && b) ≡ true → (a ≡ true) × (b ≡ true)
 and_both true b e = (refl, e)
 and_both false b e = absurd (cc)
 
+-- where each holds, both do
 pub and_true : (a b : Bool) → a ≡ true → b ≡ true → (a && b) ≡ true
 and_true true b e f = f
 and_true false b e f = e
 
+-- where not both hold and the first does, the second fails
 pub and_none : (a b : Bool) → (a && b) ≡ false → a ≡ true → b ≡ false
 and_none true b e t = e
 and_none false b e t = absurd (cc)
@@ -71,12 +79,15 @@ marks_none known u (m ∷ ms) e (suc t) =
     subst (λ k. nat_lt (known k) (at ms t) ≡ false) z
     (marks_none known (u + 1) ms (or_none (nat_lt (known u) m) (marks_fail known (u + 1) ms) e).1 t)
 
+-- a place counted from 0 is that place
 first_place : (known : ℕ → ℕ) (ms : List ℕ) (b : Bool) (t : ℕ) → nat_lt (known (0 + t)) (at ms t) ≡ b → nat_lt (known t) (at ms t) ≡ b
 first_place known ms b t e = let z : 0 + t ≡ t = omega arith in subst (λ k. nat_lt (known k) (at ms t) ≡ b) z e
 
+-- where the marks fail, some thread's mark is unknown
 pub some_mark : (known : ℕ → ℕ) (ms : List ℕ) → marks_fail known 0 ms ≡ true → (t : ℕ) × (nat_lt (known t) (at ms t) ≡ true)
 some_mark known ms e = let r = marks_at known 0 ms e in (r.0, first_place known ms true r.0 r.1)
 
+-- where they do not, each thread's mark is known
 pub no_mark : (known : ℕ → ℕ) (ms : List ℕ) → marks_fail known 0 ms ≡ false → (t : ℕ) → nat_lt (known t) (at ms t) ≡ false
 no_mark known ms e t = first_place known ms false t (marks_none known 0 ms e t)
 

@@ -10,11 +10,13 @@ use Rattle.gl_core.specs.declared.latest.Epoch.{Epoch}
 use Rattle.gl_core.specs.Marks.{Marks}
 use Rattle.gl_core.specs.Latests.{latest_of, plain_mark, commit_mark, noted}
 
+-- a place set twice to one value is set once
 set_twice : {A : Type 0} (xs : List A) (i : ℕ) (a : A) → set (set xs i a) i a ≡ set xs i a
 set_twice [] i a = refl
 set_twice (x ∷ xs) zero a = refl
 set_twice (x ∷ xs) (suc i) a = ap (λ ys. x ∷ ys) (set_twice xs i a)
 
+-- an access noted twice is noted once
 noted_twice : (w : Bool) (e : Epoch) (l : Marks) → noted w e (noted w e l) ≡ noted w e l
 noted_twice true e l = refl
 noted_twice false e l =
@@ -22,6 +24,7 @@ noted_twice false e l =
     (set_twice l.reads e.thread (plain_mark e))
     ∙ ap (λ parts. record l { reads = set l.reads e.thread (plain_mark e); parts = parts }) (set_twice l.parts e.thread (commit_mark e))
 
+-- what is kept of a variable with the commit noted
 abbrev Part : List ℕ → Bool → Epoch → List Marks → ℕ → Marks
 Part xs w e latests y = if is_in y xs then noted w e (latest_of latests y) else latest_of latests y
 

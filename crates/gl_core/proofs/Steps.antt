@@ -46,9 +46,11 @@ use Rattle.gl_core.proofs.FindFirst.{find_none, find_first}
 use Rattle.gl_core.proofs.Grown.{stays, noted_stands}
 use Rattle.gl_core.proofs.Telling.{tell_law}
 
+-- a line, by thread, item and what was said of it
 abbrev pub line : ℕ → Item → Judged → Line
 line t item judged = record { thread = t; item = item; judged = judged }
 
+-- after sound lines that the detector follows, the next one is judged rightly and followed
 abbrev pub Stepped : ℕ → Item → Judged → Tables → List Marks → List Bool → Tables → List Marks → List Bool → Type 0
 Stepped t item judged T kept over T' kept' over' =
     (lines : List Line) → AreSound (lines ++ line t item judged ∷ []) → AreVerdicts lines → AreFollowed lines T kept over →
@@ -66,6 +68,7 @@ followed_push lines l T kept over clocks stands ended = record {
   ended = λ u. ended u ∙ sym (ended_push (steps_of lines) (l.thread, l.item) u) ∙ ap (λ ss. is_ended ss u) (sym (steps_push lines l));
 }
 
+-- a line that is no access is followed where its clocks and who has ended are
 pub stepped_act : (t : ℕ) (act : Act) (T T' : Tables) (kept kept' : List Marks) (over over' : List Bool) (joined : Bool) → kept' ≡ kept
     → ((u : ℕ) → act ≡ Join u → joined ≡ slice_index_or over u false) →
     ((s : Traced) → AreClocksOf s.history T → ((u : ℕ) → act ≡ Join u → joined ≡ s.tracing.ended u)
@@ -85,14 +88,17 @@ stepped_act t act T T' kept kept' over over' joined same joins events ends lines
           ∙ ap (λ b. b || act_joins u act) (f.ended u)),
     )
 
+-- a test and one that fails fail
 and_not_true : (b : Bool) → (b && not true) ≡ false
 and_not_true true = refl
 and_not_true false = refl
 
+-- a test and one that holds are the test
 and_not_false : (b : Bool) → (b && not false) ≡ b
 and_not_false true = refl
 and_not_false false = refl
 
+-- where neither of two tests holds, the first fails
 not_first : (a b : Bool) → (if a then true else b) ≡ false → a ≡ false
 not_first true b e = absurd (cc)
 not_first false b e = refl
@@ -248,12 +254,14 @@ module _ (s : Traced) (now : State) (r : IsRecorded s now) (t : ℕ) (near : t <
     commit_clocks T' Performed d = d s.history are
     commit_clocks T' (Raised var) d = subst (AreClocksOf s.history) (sym d) are
 
+-- a plain access leaves the clocks as they are
 plain_clocks : (t x : ℕ) (write : Bool) (judged : Judged) (s : Traced) (T : Tables) → AreClocksOf s.history T
     → AreClocksOf (after_item t (Access x write) judged s).history T
 plain_clocks t x write NoAccess s T are = are
 plain_clocks t x write Performed s T are = are
 plain_clocks t x write (Raised var) s T are = are
 
+-- a plain line that is raised exactly where its variable fails, and else noted, is followed
 pub stepped_plain : (t x : ℕ) (write : Bool) (judged : Judged) (T T' : Tables) (kept kept' : List Marks) (over over' : List Bool)
     → t < THREADS → T' ≡ T → over' ≡ over → ((y : ℕ) → (y ≡ x → ⊥) → latest_of kept' y ≡ latest_of kept y) →
     PlainDone (clocks_in T (Thread t)) (latest_of kept x) t x write judged (latest_of kept' x)
@@ -272,6 +280,7 @@ stepped_plain t x write judged T T' kept kept' over over' near same_tables same_
           (λ u. ap (λ bs. slice_index_or bs u false) same_over ∙ f.ended u ∙ sym (or_false (is_ended (steps_of lines) u))),
     )
 
+-- a commit line that is refused for its first variable that fails, and else noted, is followed
 pub stepped_commit : (t : ℕ) (reads writes : List ℕ) (judged : Judged) (T T' : Tables) (kept kept' : List Marks) (over over' : List Bool)
     → t < THREADS → over' ≡ over →
     (length (with_all writes reads) ≤ TX_VARIABLES → Rises (with_all writes reads)

@@ -40,6 +40,7 @@ module _ (h : List Stamp) (s : Stamp) (C C1 C2 : Clocks) (n : ℕ) (same : (y : 
       after_is y u ∙ ap (λ (D : Clocks). after_event D n s y u) eq ∙ ap (λ m. after_event (clocks h) m s y u) long
       ∙ ap (λ (D : Clocks). D y u) (sym (clocks_push h s))
 
+-- the next position after an event more is the length with it
 pub one_longer : (h : List Stamp) (s : Stamp) (n m : ℕ) → n ≡ length h → m ≡ n → m + 1 ≡ length (h ++ s ∷ [])
 one_longer h s n m e f = omega (arith, length_push h s)
 
@@ -53,6 +54,7 @@ first_known s a b c d (Monitor o) u = b o u
 first_known s a b c d (Volatile v) u = c v u
 first_known s a b c d (Var x) u = d x u
 
+-- in a table of zeros each cell is 0
 pub zero_cell : (m n t u : ℕ) → cell (replicate m (replicate n 0)) t u ≡ 0
 zero_cell zero n t u = refl
 zero_cell (suc m) n zero u = zero_at n u

@@ -41,12 +41,14 @@ marks_true k p c m false n ep ec e = (
   ],
 )
 
+-- where an access's marks do not fail, both are commits or the access is known
 marks_false : (k p c m : ℕ) (b n : Bool) → p ≡ (if b then 0 else m + 1) → c ≡ (if b then m + 1 else 0)
     → (nat_lt k p || (not n && nat_lt k c)) ≡ false → ((n ≡ true) × (b ≡ true)) ⊎ (m < k)
 marks_false k p c m true true ep ec e = inl (refl, refl)
 marks_false k p c m true false ep ec e = inr (let l = ltb-false k c (or_none (nat_lt k p) (nat_lt k c) e).1 in omega arith)
 marks_false k p c m false n ep ec e = inr (let l = ltb-false k p (or_none (nat_lt k p) (not n && nat_lt k c) e).0 in omega arith)
 
+-- marks that are 0 do not fail
 none_fail : (k p c : ℕ) (n : Bool) → p ≡ 0 → c ≡ 0 → (nat_lt k p || (not n && nat_lt k c)) ≡ true → ⊥
 none_fail k p c n ep ec e = elim (or_cases (nat_lt k p) (not n && nat_lt k c) e) [
   | inl a ↦ (let z = none_unknown k p ep in cc)
@@ -68,6 +70,7 @@ read_at known n reads parts e = elim (or_cases (marks_fail known 0 reads) (not n
       ))
 ]
 
+-- where the reads do not fail, those of no thread do
 reads_at : (known : ℕ → ℕ) (n : Bool) (reads parts : List ℕ) → (marks_fail known 0 reads || (not n && marks_fail known 0 parts)) ≡ false
     → (t : ℕ) → (nat_lt (known t) (at reads t) || (not n && nat_lt (known t) (at parts t))) ≡ false
 reads_at known true reads parts e t = or_both (nat_lt (known t) (at reads t)) false
@@ -76,10 +79,12 @@ reads_at known false reads parts e t =
     let b = or_none (marks_fail known 0 reads) (marks_fail known 0 parts) e in
     or_both (nat_lt (known t) (at reads t)) (nat_lt (known t) (at parts t)) (no_mark known reads b.0 t) (no_mark known parts b.1 t)
 
+-- what has variables has some
 commit_is : (v : Option (List ℕ)) → is_some v ≡ true → (xs : List ℕ) × (v ≡ Some xs)
 commit_is None e = absurd (cc)
 commit_is (Some xs) e = (xs, refl)
 
+-- a draw of which all was said rightly is an access of the list
 placed_access : (h : List Stamp) (x : ℕ) (ds : List Draw) → DrawsHold h x ds → (d : Draw) → Among ds d → IsAccessOf h (access_of d)
 placed_access h x ds all d among =
     let p = (holds_of h x ds all d among).1.placed in
@@ -193,6 +198,7 @@ module _ (setting : Setting) (h : List Stamp) (now : State) (allowed : Allows se
           by true e r = refl
           by false e r = absurd (not_racy e r)
 
+-- a next access is racy exactly where what is kept fails by what its thread knows
 pub tell_law : EpochsTell
 tell_law setting h now allowed u running x ds all l s v write f next writes =
     told setting h now allowed u running x ds all v f next l s write writes

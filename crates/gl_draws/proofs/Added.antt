@@ -166,6 +166,7 @@ module _ (setting : Setting) (h h' : List Stamp) (now : State) (allowed : Allows
       back = taken_map (LocksetAt h' (access_of o) (length h)) (LocksetAt h (access_of o) (length h)) a.event
           (λ z k. subst (λ (X : Type 0). X) (set_is z) k) (Thread a.event.thread)
 
+-- an entry that was added to a record is racy in it exactly where it was so as the next access before
 pub added_law : AddedIsRacy
 added_law setting h h' now allowed R ds ds' d running e None y m i a =
     racy_alike h h' R ds ds' d e None y m i (λ o c placed stands other. plain_next R h

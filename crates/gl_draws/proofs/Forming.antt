@@ -16,6 +16,7 @@ use Rattle.gl_draws.proofs.Pushes.{at_kept, at_cases, at_within}
 use Rattle.gl_draws.specs.Cached.{IsLastValue}
 use Rattle.gl_draws.specs.Forming.{events_by, IsFormed, MayStore}
 
+-- a right that was there is there in the list with one entry more
 right_kept : (es : List Entry) (e : Entry) (i x k : ℕ) (write : Bool) → i ≤ length es → HasRight es i x k write
     → HasRight (es ++ e ∷ []) i x k write
 right_kept es e i x k write le r = record {
@@ -36,6 +37,7 @@ right_kept es e i x k write le r = record {
   ];
 }
 
+-- the last value before a place is the same in the list with one entry more
 value_kept : (es : List Entry) (e : Entry) (i x : ℕ) (value : ℤ) → i ≤ length es → IsLastValue es i x value
     → IsLastValue (es ++ e ∷ []) i x value
 value_kept es e i x value le r = record {
@@ -50,9 +52,11 @@ value_kept es e i x value le r = record {
   ];
 }
 
+-- what equals an entry that is no trim is none
 is_trim : (e f : Entry) → f ≡ e → (IsTrim f → ⊥) → IsTrim e → ⊥
 is_trim e f same not t = not (subst IsTrim (sym same) t)
 
+-- a list that is formed stays so with an entry that may be stored next
 pub formed_push : (t : ℕ) (es : List Entry) (e : Entry) → MayStore t es e → IsFormed t es → IsFormed t (es ++ e ∷ [])
 formed_push t es e may k = record {
   well_formed = λ i f at. elim (at_cases es e f i at) [
@@ -102,6 +106,7 @@ formed_push t es e may k = record {
   ];
 }
 
+-- an entry more that is no trim is one more that counts
 pub counted_push : (es : List Entry) (e : Entry) → (IsTrim e → ⊥) → counted (es ++ e ∷ []) ≡ suc (counted es)
 counted_push [] (Sync a b c) not = refl
 counted_push [] (Commit a b) not = refl
@@ -116,6 +121,7 @@ counted_push (Abort a b ∷ es) e not = ap suc (counted_push es e not)
 counted_push (Trim a ∷ es) e not = counted_push es e not
 counted_push (Over a ∷ es) e not = ap suc (counted_push es e not)
 
+-- an event more of the thread, at the end, is one more in its count
 pub by_own : (t : ℕ) (xs : List Stamp) (x : Stamp) → x.thread ≡ t → events_by t (xs ++ x ∷ []) ≡ suc (events_by t xs)
 by_own t [] x e = let b : (x.thread == t) ≡ true = eq-eqb x.thread t e in rw b refl
 by_own t (y ∷ xs) x e = here (ℕ_discrete y.thread t) (by_own t xs x e)
@@ -125,6 +131,7 @@ by_own t (y ∷ xs) x e = here (ℕ_discrete y.thread t) (by_own t xs x e)
     here (yes s) r = let b : (y.thread == t) ≡ true = eq-eqb y.thread t s in rw b (ap suc r)
     here (no s) r = let b : (y.thread == t) ≡ false = ne_eqb y.thread t s in rw b r
 
+-- an event more of another thread changes its count in nothing
 pub by_other : (t : ℕ) (xs : List Stamp) (x : Stamp) → x.thread ≢ t → events_by t (xs ++ x ∷ []) ≡ events_by t xs
 by_other t [] x e = let b : (x.thread == t) ≡ false = ne_eqb x.thread t e in rw b refl
 by_other t (y ∷ xs) x e = here (ℕ_discrete y.thread t) (by_other t xs x e)
@@ -133,16 +140,20 @@ by_other t (y ∷ xs) x e = here (ℕ_discrete y.thread t) (by_other t xs x e)
     here (yes s) r = let b : (y.thread == t) ≡ true = eq-eqb y.thread t s in rw b (ap suc r)
     here (no s) r = let b : (y.thread == t) ≡ false = ne_eqb y.thread t s in rw b r
 
+-- how many events the threads below n made
 abbrev total : ℕ → List Stamp → ℕ
 total zero ds = 0
 total (suc n) ds = events_by n ds + total n ds
 
+-- an event of the thread at the head is one more in its count
 hit : (t : ℕ) (d : Stamp) (ds : List Stamp) → d.thread ≡ t → events_by t (d ∷ ds) ≡ suc (events_by t ds)
 hit t d ds e = let b : (d.thread == t) ≡ true = eq-eqb d.thread t e in rw b refl
 
+-- an event of another thread at the head changes its count in nothing
 miss : (t : ℕ) (d : Stamp) (ds : List Stamp) → d.thread ≢ t → events_by t (d ∷ ds) ≡ events_by t ds
 miss t d ds other = let b : (d.thread == t) ≡ false = ne_eqb d.thread t other in rw b refl
 
+-- an event of a thread that is not below n is not in the sum
 total_out : (n : ℕ) (d : Stamp) (ds : List Stamp) → n ≤ d.thread → total n (d ∷ ds) ≡ total n ds
 total_out zero d ds le = refl
 total_out (suc n) d ds le =
@@ -150,6 +161,7 @@ total_out (suc n) d ds le =
     let other : d.thread ≢ n = λ e. omega arith in
     let p = miss n d ds other in omega arith
 
+-- an event of a thread below n is one more in the sum
 total_in : (n : ℕ) (d : Stamp) (ds : List Stamp) → d.thread < n → total n (d ∷ ds) ≡ suc (total n ds)
 total_in zero d ds lt = absurd (omega arith)
 total_in (suc n) d ds lt = here (ℕ_discrete d.thread n) (λ l. total_in n d ds l)
@@ -158,19 +170,23 @@ total_in (suc n) d ds lt = here (ℕ_discrete d.thread n) (λ l. total_in n d ds
     here (yes e) rec = let p = hit n d ds e in let r = total_out n d ds (omega arith) in omega arith
     here (no other) rec = let p = miss n d ds other in let r = rec (omega arith) in omega arith
 
+-- of no events the sum is 0
 total_none : (n : ℕ) → total n [] ≡ 0
 total_none zero = refl
 total_none (suc n) = let r = total_none n in omega arith
 
+-- where all threads are below n, the sum over those is the number of events
 total_all : (P : Stamp → Type 0) (n : ℕ) (ds : List Stamp) → ((d : Stamp) → P d → d.thread < n) → All P ds → total n ds ≡ length ds
 total_all P n [] f all = total_none n
 total_all P n (d ∷ ds) f all = total_in n d ds (f d (All-head P d ds all)) ∙ ap suc (total_all P n ds f (All-tail P d ds all))
 
+-- where each thread made at most m events, the sum over n threads is at most n * m
 total_most : (n m : ℕ) (ds : List Stamp) → ((t : ℕ) → events_by t ds ≤ m) → total n ds ≤ n * m
 total_most zero m ds few = omega arith
 total_most (suc n) m ds few = let r = total_most n m ds few in let f = few n in let s : suc n * m
     ≡ m + n * m = grind (arith, Rattle.std.proofs.Common.suc-mul) in omega arith
 
+-- n threads with at most m events each made at most n * m events
 pub log_bound : (P : Stamp → Type 0) (n m : ℕ) (ds : List Stamp) → ((d : Stamp) → P d → d.thread < n) → All P ds
     → ((t : ℕ) → events_by t ds ≤ m) → length ds ≤ n * m
 log_bound P n m ds f all few = let a = total_all P n ds f all in let b = total_most n m ds few in omega arith

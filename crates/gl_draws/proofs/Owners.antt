@@ -14,6 +14,7 @@ use Rattle.gl_draws.proofs.DrawTies.{with_here, with_else}
 SameOwner : ℕ → (ℕ → MonitorState) → (ℕ → MonitorState) → Type 0
 SameOwner t f g = (o : ℕ) → ((d : ℕ) × (f o ≡ Owned t d)) ↔ ((d : ℕ) × (g o ≡ Owned t d))
 
+-- a monitor has one owner
 owned_one : (t u d e : ℕ) → Owned t d ≡ Owned u e → t ≡ u
 owned_one t u d e h = cc
 
@@ -75,6 +76,7 @@ pub record StateAt (setting : Setting) (old : State) (h : List Stamp) (k t : ℕ
   pub run : Run setting old (take k h) state
   pub owns : (o : ℕ) → Owns state t o ↔ Owns now t o
 
+-- after the first k events, which have all of thread t's, t owns the monitors that it owns at the end
 pub state_at : (setting : Setting) (old now : State) (h : List Stamp) (k t : ℕ) → Run setting old h now
     → ((p : ℕ) (s : Stamp) → slice_get h p ≡ Some s → s.thread ≡ t → p < k) → StateAt setting old h k t now
 unfolding SameOwner

@@ -40,6 +40,7 @@ event_front h n q s le lt at =
     let long : length (take n h) ≡ n = length-take-le n h le in
     sym (get_front (take n h) (drop n h) q (omega arith)) ∙ ap (λ l. Rattle.std.specs.Prelude.slice_get l q) (take-append-drop n h) ∙ at
 
+-- an event of the first n stands below n in the whole list
 event_whole : (h : List Stamp) (n q : ℕ) (s : Stamp) → n ≤ length h → EventAt (take n h) q s → (q < n) × EventAt h q s
 event_whole h n q s le at =
     let long : length (take n h) ≡ n = length-take-le n h le in
@@ -47,14 +48,17 @@ event_whole h n q s le at =
     let lt : q < n = omega arith in
     (lt, sym (ap (λ l. Rattle.std.specs.Prelude.slice_get l q) (take-append-drop n h)) ∙ get_front (take n h) (drop n h) q near ∙ at)
 
+-- what is reached below n is reached among the first n
 reaches_front : (h : List Stamp) (n q : ℕ) (a : Access) → n ≤ length h → q < n → Reaches h a q → Reaches (take n h) a q
 reaches_front h n q a le lt r =
     let long : length (take n h) ≡ n = length-take-le n h le in
     reaches_back (take n h) (drop n h) (omega arith) (subst (λ l. Reaches l a q) (sym (take-append-drop n h)) r)
 
+-- what is reached among the first n is reached in the whole list
 reaches_whole : (h : List Stamp) (n q : ℕ) (a : Access) → Reaches (take n h) a q → Reaches h a q
 reaches_whole h n q a r = subst (λ l. Reaches l a q) (take-append-drop n h) (reaches_grows (take n h) (drop n h) r)
 
+-- an entry that is a commit event is a commit at that position, on those variables
 commit_event : (e : Entry) (q : ℕ) (ys : List ℕ) → position_of e ≡ Some q → event_of e ≡ Some (Commits ys) → (tx : Tx) × (e ≡ Commit q tx)
     × (variables_of tx ≡ ys)
 commit_event (Commit at tx) q ys p i = (tx, (let z : at ≡ q = cc in ap (λ n. Commit n tx) z), cc)
@@ -64,6 +68,7 @@ commit_event (Abort a b) q ys p i = absurd (cc)
 commit_event (Trim a) q ys p i = absurd (cc)
 commit_event (Over a) q ys p i = absurd (cc)
 
+-- a commit has a position and a transaction
 is_commit : (e : Entry) → IsCommit e → (q : ℕ) × (tx : Tx) × (e ≡ Commit q tx)
 is_commit (Commit at tx) i = (at, tx, refl)
 is_commit (Sync at act value) i = absurd i

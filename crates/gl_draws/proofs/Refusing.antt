@@ -14,11 +14,13 @@ use Rattle.gl_draws.specs.Verdicts.{DrawHolds, DrawsHold}
 use Rattle.gl_draws.proofs.LastOnes.{each_at}
 use Rattle.gl_draws.proofs.Pushes.{at_cases}
 
+-- the first n of a longer list are the first n of the list, where it has so many
 pub take_front : (log more : List Stamp) (n : ℕ) → n ≤ length log → take n (log ++ more) ≡ take n log
 take_front log more zero le = refl
 take_front [] more (suc n) le = absurd (omega arith)
 take_front (x ∷ xs) more (suc n) le = ap (λ l. x ∷ l) (take_front xs more n (omega arith))
 
+-- a refusal that was right is so with more events
 right_grows : (log more : List Stamp) (until : ℕ → ℕ) (x : ℕ) (ds : List Draw) (t p : ℕ) (w : What) → RefusalRight log until x ds t p w
     → RefusalRight (log ++ more) until x ds t p w
 right_grows log more until x ds t p (Entered (Abort tx (Raised var))) r =
@@ -39,6 +41,7 @@ right_grows log more until x ds t p (Entered (Over a)) r = tt
 right_grows log more until x ds t p (Looked z) r = tt
 right_grows log more until x ds t p Open r = tt
 
+-- what is said of a variable's refusals holds with more events
 pub refusals_grow : (log more : List Stamp) (until : ℕ → ℕ) (x : ℕ) (ds : List Draw) → RefusalsHold log until x ds
     → RefusalsHold (log ++ more) until x ds
 refusals_grow log more until x [] r = tt
@@ -60,6 +63,7 @@ right_until log u u' x ds t p (Entered (Over a)) same r = tt
 right_until log u u' x ds t p (Looked z) same r = tt
 right_until log u u' x ds t p Open same r = tt
 
+-- what is said of refusals asks nothing of how far numbers that are not drawn were judged
 pub refusals_until : (log : List Stamp) (u u' : ℕ → ℕ) (x : ℕ) (ds : List Draw) → ((k : ℕ) → k < length ds → u' k ≡ u k)
     → RefusalsHold log u x ds → RefusalsHold log u' x ds
 refusals_until log u u' x [] same r = tt
@@ -98,6 +102,7 @@ pub refusals_commit : (log more : List Stamp) (until : ℕ → ℕ) (x : ℕ) (d
     → RefusalRight (log ++ more) until x ds at (length log) (Entered (Commit at tx))
 refusals_commit log more until x ds at tx r k a is refusal = refusal_within log until x ds k a r is refusal
 
+-- an entry more that is no refused attempt leaves those judged once
 pub refusals_push : (until : ℕ → ℕ → ℕ) (es : List Entry) (e : Entry) → ((tx : Tx) (var : ℕ) → e ≡ Abort tx (Raised var) → ⊥)
     → AreJudgedOnce until es → AreJudgedOnce until (es ++ e ∷ [])
 refusals_push until es e not k i tx var at =

@@ -58,6 +58,7 @@ no_later (e ∷ es) zero none = ap (λ o. or_else o (position_of e)) (no_later e
     ∙ none zero e refl (omega arith)
 no_later (e ∷ es) (suc n) none = ap (λ o. or_else o (position_of e)) (no_later es n (λ j f at le. none (suc j) f at (omega arith)))
 
+-- of two equal options the entries are equal
 some_same : (a c : Entry) → Some a ≡ Some c → a ≡ c
 some_same a c e = cc
 

@@ -13,17 +13,21 @@ contains_at f (x ∷ xs) z zero n e = (x, (zero, omega arith, refl), e)
 contains_at f (x ∷ xs) z (suc k) n e = let r = contains_at f xs z k (omega arith) e in let m = r.1.1
     in (r.0, (suc r.1.0, omega arith, r.1.2), r.2)
 
+-- what the mapped list has is the image of something in the list
 pub contains_map : {A B : Type 0} (f : A → B) (xs : List A) (z : B) → Contains (map f xs) z → (a : A) × Contains xs a × (f a ≡ z)
 contains_map f xs z c = contains_at f xs z c.0 c.1 c.2
 
+-- the image of what stands at k is in the mapped list
 map_at : {A B : Type 0} (f : A → B) (xs : List A) (a : A) (k : ℕ) → k < length xs → get_or xs k a ≡ a → Contains (map f xs) (f a)
 map_at f [] a k n e = absurd (omega arith)
 map_at f (x ∷ xs) a zero n e = (zero, omega arith, ap f e)
 map_at f (x ∷ xs) a (suc k) n e = let c = map_at f xs a k (omega arith) e in let m = c.1 in (suc c.0, omega arith, c.2)
 
+-- the image of a member is in the mapped list
 pub map_contains : {A B : Type 0} (f : A → B) (xs : List A) (a : A) → Contains xs a → Contains (map f xs) (f a)
 map_contains f xs a c = map_at f xs a c.0 c.1 c.2
 
+-- mapping forth and back gives the list
 pub map_back : {A : Type 0} (f : A → ℕ) (g : ℕ → A) → ((x : ℕ) → f (g x) ≡ x) → (xs : List ℕ) → map f (map g xs) ≡ xs
 map_back f g back [] = refl
 map_back f g back (x ∷ xs) = ap (λ y. y ∷ map f (map g xs)) (back x) ∙ ap (λ ys. x ∷ ys) (map_back f g back xs)
@@ -33,12 +37,14 @@ twice : (c r : Bool) → (if c then true else r) ≡ (if c then true else if c t
 twice true r = refl
 twice false r = refl
 
+-- of two questions after one another either may be asked first
 swapped : (a b r : Bool) → (if a then true else if b then true else r) ≡ (if b then true else if a then true else r)
 swapped true true r = refl
 swapped true false r = refl
 swapped false true r = refl
 swapped false false r = refl
 
+-- in a set with x more are x and what was in it
 is_in-one : (z x : ℕ) (ys : List ℕ) → is_in z (with_one x ys) ≡ (if z == x then true else is_in z ys)
 is_in-one z x [] = refl
 is_in-one z x (y ∷ ys) = here (x == y) refl (nat_lt x y) (is_in-one z x ys)
@@ -50,17 +56,20 @@ is_in-one z x (y ∷ ys) = here (x == y) refl (nat_lt x y) (is_in-one z x ys)
     here false e true rec = refl
     here false e false rec = ap (λ r. if z == y then true else r) rec ∙ swapped (z == y) (z == x) (is_in z ys)
 
+-- two questions after one another are one question with either
 joined : (a b r : Bool) → (if b then true else if a then true else r) ≡ (if (if a then true else b) then true else r)
 joined true true r = refl
 joined true false r = refl
 joined false true r = refl
 joined false false r = refl
 
+-- in two sets put together is what is in either
 is_in-all : (z : ℕ) (xs ys : List ℕ) → is_in z (with_all xs ys) ≡ (if is_in z xs then true else is_in z ys)
 is_in-all z [] ys = refl
 is_in-all z (x ∷ xs) ys = is_in-all z xs (with_one x ys) ∙ ap (λ r. if is_in z xs then true else r) (is_in-one z x ys)
     ∙ joined (z == x) (is_in z xs) (is_in z ys)
 
+-- either of two is the same in either order
 exchanged : (a b : Bool) → (if a then true else b) ≡ (if b then true else a)
 exchanged true true = refl
 exchanged true false = refl

@@ -51,6 +51,7 @@ trim_or_not (Plain var nth cached write value raised) = inr (λ z. z)
 trim_or_not (Abort tx why) = inr (λ z. z)
 trim_or_not (Over ending) = inr (λ z. z)
 
+-- a trim is not laid out
 trim_not_laid : (e : Entry) → IsTrim e → IsLaidOut e → ⊥
 trim_not_laid (Trim low) t l = l
 trim_not_laid (Sync at act value) t l = t

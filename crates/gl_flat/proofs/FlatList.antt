@@ -46,6 +46,7 @@ module _ {A : Type 0} where
 abbrev pub IsLaidOutAt : Lists → Place → Type 0
 IsLaidOutAt R c = (e : Entry) × EntryAt R c e × IsLaidOut e
 
+-- an entry is laid out, or is not
 laid_or_not : (e : Entry) → IsLaidOut e ⊎ (IsLaidOut e → ⊥)
 laid_or_not (Sync a b c) = inl tt
 laid_or_not (Commit a b) = inl tt

@@ -26,6 +26,7 @@ writes_laid (Abort tx why) x v w = w
 writes_laid (Trim low) x v w = w
 writes_laid (Over ending) x v w = w
 
+-- what reads a value is laid out
 pub reads_laid : (e : Entry) (x : ℕ) (v : ℤ) → ReadsValue e x v → IsLaidOut e
 reads_laid (Plain var nth cached write value raised) x v w = w.0
 reads_laid (Commit at tx) x v w = tt
@@ -34,6 +35,7 @@ reads_laid (Abort tx why) x v w = w
 reads_laid (Trim low) x v w = w
 reads_laid (Over ending) x v w = w
 
+-- where a write stands, an entry is laid out
 pub writes_laid_at : (R : Lists) (c : Place) (x : ℕ) (v : ℤ) → WritesAt R c x v → IsLaidOutAt R c
 writes_laid_at R c x v w = (w.0, w.1, writes_laid w.0 x v w.2)
 

@@ -32,6 +32,7 @@ written_more ns (v ∷ ws) (suc i) w at =
     ∙ sym (append_assoc (with_number v (find (λ n. n.var == v.var) ns)) (written_in ns (take i ws))
     (with_number w (find (λ n. n.var == w.var) ns)))
 
+-- a transaction's next write is put after those gathered, with its number, if it has one
 pub add_more : (ns : List Number) (ws : List Pair) (i : ℕ) (w : Pair) (o : Option Number) (first old new : List Written) →
     slice_get ws i ≡ Some w → o ≡ find (λ n. n.var == w.var) ns →
     old ≡ first ++ written_in ns (take i ws) → new ≡ old ++ with_number w o → new ≡ first ++ written_in ns (take (i + 1) ws)
@@ -45,12 +46,14 @@ pub flat_seen : {A B C : Type 0} (f : A → B) (g : B → List C) (xs : List A) 
 flat_seen f g [] = refl
 flat_seen f g (x ∷ xs) = ap (λ ys. g (f x) ++ ys) (flat_seen f g xs)
 
+-- a write with a number is put with that number
 numbered : (w : Pair) (o : Option Number) (x : Written) → In (with_number w o) x → (n : Number) × (o ≡ Some n) ×
     (record { var = w.var; nth = n.nth; value = w.value } ≡ x)
 numbered w None x i = absurd i
 numbered w (Some n) x (inl e) = (n, refl, e)
 numbered w (Some n) x (inr i) = absurd i
 
+-- a write that was gathered of a transaction has its number and its value from it
 of_tx : (ns : List Number) (ws : List Pair) (x : Written) → In (written_in ns ws) x → In ns (record { var = x.var; nth = x.nth }) ×
     In ws (record { var = x.var; value = x.value })
 of_tx ns [] x i = absurd i
@@ -66,6 +69,7 @@ of_tx ns (w ∷ ws) x i = elim (in_append (with_number w (find (λ n. n.var == w
       (subst (In ns) number f.0, inl (λ k. record { var = var k; value = value k })))
 ]
 
+-- what has its number and its value from a transaction is gathered, where the numbers rise by variable
 to_tx : (ns : List Number) (ws : List Pair) (x : Written) → Rises (map (λ n. n.var) ns) → In ns (record { var = x.var; nth = x.nth }) →
     In ws (record { var = x.var; value = x.value }) → In (written_in ns ws) x
 to_tx ns [] x rises n i = absurd i
@@ -94,6 +98,7 @@ of_entry (Abort tx why) x i = absurd i
 of_entry (Trim low) x i = absurd i
 of_entry (Over ending) x i = absurd i
 
+-- each value that an entry writes is gathered, with the number that it has there
 pub to_entry : (e : Entry) (x : Written) → IsEntryKept e → NumberOn e x.var x.nth → WritesValue e x.var x.value → In (written_by e) x
 to_entry (Plain var nth cached true value false) x kept n w = inl (λ k. record { var = n.0 k; nth = n.1 k; value = w.3 k })
 to_entry (Plain var nth cached true value true) x kept n w = absurd (let z = w.0 in cc)
@@ -109,9 +114,11 @@ to_entry (Over ending) x kept n w = absurd w
 abbrev pub WrittenBelow : Lists → ℕ → Written → Type 0
 WrittenBelow R t x = (c : Place) × (c.thread < t) × ((e : Entry) × EntryAt R c e × In (written_by e) x)
 
+-- these are the performed writes of the threads below t
 abbrev pub AreWritesBelow : Lists → ℕ → List Written → Type 0
 AreWritesBelow R t ws = (x : Written) → In ws x ↔ WrittenBelow R t x
 
+-- below thread 0 there are none
 pub none_written : (R : Lists) → AreWritesBelow R 0 []
 none_written R x = (λ i. absurd i, λ w. let z = w.1 in omega arith)
 

@@ -18,6 +18,7 @@ all_at P [] all i e at = absurd (cc)
 all_at P (f ∷ es) all zero e at = let same : f ≡ e = cc in subst P same all.0
 all_at P (f ∷ es) all (suc i) e at = all_at P es all.1 i e at
 
+-- an entry of kept lists is of a thread that there is, and keeps to the ids that there are
 kept_in : (ls : List (ℕ × List Entry)) → AllByRecursion IsListKept ls → (t i : ℕ) (e : Entry) → At (lists_of ls t) i e → (t < THREADS) ×
     IsEntryKept e
 kept_in [] kept t i e at = absurd (cc)
@@ -32,12 +33,15 @@ kept_in (l ∷ ls) kept t i e at = here (kept_in ls kept.1 t i e) (l.0 == t) ref
         let s : lists_of (l ∷ ls) t ≡ lists_of ls t = rw is refl in
         rest (subst (λ es. At es i e) s at)
 
+-- each entry of a record keeps to them
 pub kept_at : (made : List (ℕ × List Entry)) → IsRecord made → (c : Place) (e : Entry) → EntryAt (lists_of made) c e → IsEntryKept e
 kept_at made record' c e there = (kept_in made record'.1 c.thread c.index e there).1
 
+-- the thread of each entry of a record is one that there is
 pub thread_at : (made : List (ℕ × List Entry)) → IsRecord made → (c : Place) (e : Entry) → EntryAt (lists_of made) c e → c.thread < THREADS
 thread_at made record' c e there = (kept_in made record'.1 c.thread c.index e there).0
 
+-- of kept lists each has entries that keep to them
 list_kept : (ls : List (ℕ × List Entry)) → AllByRecursion IsListKept ls → (t : ℕ) → AllByRecursion IsEntryKept (lists_of ls t)
 list_kept [] kept t = tt
 list_kept (l ∷ ls) kept t = here (list_kept ls kept.1 t) (l.0 == t) refl
@@ -46,6 +50,7 @@ list_kept (l ∷ ls) kept t = here (list_kept ls kept.1 t) (l.0 == t) refl
     here rest true is = let s : lists_of (l ∷ ls) t ≡ l.1 = rw is refl in subst (AllByRecursion IsEntryKept) (sym s) kept.0.2
     here rest false is = let s : lists_of (l ∷ ls) t ≡ lists_of ls t = rw is refl in subst (AllByRecursion IsEntryKept) (sym s) rest
 
+-- so has each list of a record
 pub lists_kept : (made : List (ℕ × List Entry)) → IsRecord made → (t : ℕ) → AllByRecursion IsEntryKept (lists_of made t)
 lists_kept made record' t = list_kept made record'.1 t
 

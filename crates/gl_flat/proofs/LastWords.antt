@@ -22,11 +22,13 @@ StoredOrKept words ws x =
     Contains ws (record { var = x; value = stored words ws x }) ⊎
     (((u : ℤ) → Contains ws (record { var = x; value = u }) → ⊥) × (stored words ws x ≡ words x))
 
+-- what is written neither by the first write, which is of another variable, nor by the others, is not written
 no_pair : (w : Pair) (ws : List Pair) (x : ℕ) (u : ℤ) → x ≢ w.var → (Contains ws (record { var = x; value = u }) → ⊥) →
     Contains (w ∷ ws) (record { var = x; value = u }) → ⊥
 no_pair w ws x u ne none (zero, n, e) = ne (sym (ap (λ (p : Pair). p.var) e))
 no_pair w ws x u ne none (suc k, n, e) = none (k, omega arith, e)
 
+-- after some writes a word was written by one of them, or is as before
 stored_or_kept : (words : ℕ → ℤ) (ws : List Pair) (x : ℕ) → StoredOrKept words ws x
 stored_or_kept words [] x = inr (λ u c. (let n = c.1 in omega arith), refl)
 stored_or_kept words (w ∷ ws) x = elim (stored_or_kept (with_at words w.var w.value) ws x) [
@@ -46,6 +48,7 @@ stored_or_kept words (w ∷ ws) x = elim (stored_or_kept (with_at words w.var w.
 abbrev WrittenOrKept : (ℕ → ℤ) → Entry → ℕ → Type 0
 WrittenOrKept words e x = WritesValue e x (words_past words e x) ⊎ (((u : ℤ) → WritesValue e x u → ⊥) × (words_past words e x ≡ words x))
 
+-- after an entry a word was written by it, or is as before
 written_or_kept : (words : ℕ → ℤ) (e : Entry) (x : ℕ) → WrittenOrKept words e x
 written_or_kept words (Plain var nth cached true value false) x = elim (ℕ_discrete x var) [
   | yes same ↦ inl (refl, sym same, refl, sym (ap (with_at words var value) same ∙ with_here words var value))

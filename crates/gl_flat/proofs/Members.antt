@@ -66,11 +66,13 @@ found_is (m ∷ ms) x n e = here (found_is ms x n) (m.var == x) refl e
         let r = rest (sym later ∙ e) in
         (inr r.0, r.1)
 
+-- where all variables are above x, that of each number is
 above : (x : ℕ) (ms : List Number) (n : Number) → AllByRecursion (λ y. x < y) (map (λ m. m.var) ms) → In ms n → x < n.var
 above x [] n all i = absurd i
 above x (m ∷ ms) n all (inl e) = subst (λ (z : Number). x < z.var) e all.0
 above x (m ∷ ms) n all (inr i) = above x ms n all.1 i
 
+-- in numbers that rise by variable, what is found for a variable is its number
 pub found_one : (ns : List Number) (n : Number) → Rises (map (λ m. m.var) ns) → In ns n → find (λ m. m.var == n.var) ns ≡ Some n
 found_one [] n rises i = absurd i
 found_one (m ∷ ms) n rises (inl e) = let is : (m.var == n.var) ≡ true = eq-eqb m.var n.var (ap (λ (z : Number). z.var) e) in

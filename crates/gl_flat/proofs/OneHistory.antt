@@ -67,15 +67,18 @@ module _ (R : Lists) (h : List Stamp) (is_list : IsEventList h R) (rise : Positi
     λ i. contains_in cs c ((f.each c).1 ((g.each c).0 (in_contains ds c i))),
   ))
 
+-- a well-formed record has a flat history, and one only
 pub flat_history : FlatHistoryIsOne
 flat_history R h is_list form = (history R h is_list form, one_flat R h is_list (positions_rise R form))
 
+-- a well-formed record of a run of the machine is legal exactly where its words hold
 pub legal_law : LegalWhereWordsHold
 legal_law made record' form setting h is_list machine = (
   holds_of setting (lists_of made) h is_list (positions_rise (lists_of made) form),
   legal_of setting (lists_of made) h is_list form machine (λ c e there. rising_of e (kept_at made record' c e there)),
 )
 
+-- a word fails first at one place at most
 first_place : (R : Lists) → Form R → Listed R → (c d : Place) → WordFailsFirst R c → WordFailsFirst R d → c ≡ d
 first_place R form listed c d (inl a) (inl b) = elim (compare R listed.0 listed.1 (positions_rise R form) c d (block c a.0) (block d b.0)) [
   | inl before ↦ absurd (b.1 c a.0 before)
@@ -97,9 +100,11 @@ first_place R form listed c d (inr a) (inr b) = elim (cases_order c.thread d.thr
   ]
 ]
 
+-- where a word fails first somewhere, the words do not hold
 no_place : (R : Lists) (c : Place) → WordFailsFirst R c → WordsHold R → ⊥
 no_place R c (inl a) hold = let f = a.0 in f.2.1.2 (hold.flat c f.0 f.1 f.2.0 f.2.1.0 f.2.1.1)
 no_place R c (inr a) hold = let f = a.1.0 in f.2 (hold.looks c f.0 f.1)
 
+-- there is one first place where a word fails, and none where all hold
 pub first_word_law : FirstWordIsOne
 first_word_law = record { one_place = first_place; none = no_place }

@@ -32,6 +32,7 @@ at_map f [] k x near is = absurd (omega arith)
 at_map f (y ∷ ys) zero x near is = ap (λ z. Some (f z)) (sym is)
 at_map f (y ∷ ys) (suc k) x near is = at_map f ys k x (omega arith) is
 
+-- where something stands, its image stands in the mapped list
 pub at_map_or : {A B : Type 0} (f : A → B) (xs : List A) (k : ℕ) (d : A) → k < length xs → slice_get (map f xs) k ≡ Some (f (get_or xs k d))
 at_map_or f [] k d near = absurd (omega arith)
 at_map_or f (y ∷ ys) zero d near = refl
@@ -46,6 +47,7 @@ no_position (Abort tx why) q not is = cc
 no_position (Trim low) q not is = cc
 no_position (Over ending) q not is = cc
 
+-- what is an event has a position
 has_position : (e : Entry) → is_event e ≡ true → (q : ℕ) × (position_of e ≡ Some q)
 has_position (Sync at act value) is = (at, refl)
 has_position (Commit at tx) is = (at, refl)
@@ -185,6 +187,7 @@ module _ (R : Lists) (walk : IsWalkable R) (t p : ℕ) (s : Stamp) (i : ℕ) (ma
           let y = o.1 in
           omega arith
 
+-- at the event of its block the walk has changed nothing
 pub comes_first : (es : List Entry) (i : ℕ) (words : List ℤ) → ComesTo es i i words words
 comes_first es i words = record {
   on = omega arith;
@@ -248,6 +251,7 @@ all_passed R walk cs places n words far w c e there x v reads =
     let near : b.0 < length cs = slice_get_within cs b.0 (record { thread = c.thread; index = b.1.index }) at in
     w.right c (b.0, b.1, inl (omega arith)) e there x v reads
 
+-- in a table of zeros each word is 0
 zeros : (n x : ℕ) → word_in (replicate n (pos 0)) x ≡ pos 0
 zeros zero x = refl
 zeros (suc n) zero = refl

@@ -53,6 +53,7 @@ number_found R ns n var found false rises at wrong = λ all.
     let same : n ≡ record { var = var; nth = n.nth } = (λ j. record { var = f.1 j; nth = n.nth }) in
     wrong (all n.nth (subst (Contains ns) same (in_contains ns n f.0)))
 
+-- where no number of the variable is found, what was found is right
 pub no_number : (R : Lists) (ns : List Number) (var : ℕ) (found : ℤ) → Rises (map (λ m. m.var) ns) → find (λ m. m.var == var) ns ≡ None →
     FoundIsRight R ns var found
 no_number R ns var found rises none k c =

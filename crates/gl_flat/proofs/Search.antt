@@ -22,22 +22,27 @@ total : IsTotalOrder written_cmp
 total = then_total (on_total (λ (w : Written). w.var) nat_cmp_total)
     (then_total (on_total (λ (w : Written). w.nth) nat_cmp_total) (on_total (λ (w : Written). w.value) int_cmp_total))
 
+-- the order of writes is one that can be searched by
 weak : IsStrictWeakOrder (λ v w. is_lt (written_cmp v w))
 weak = ranks_by total (λ (w : Written). w)
 
+-- by two orders after one another not less is greater by the first, or equal by it and not less by the second
 not_below : (r s : Ordering) → is_lt (ordering_then r s) ≡ false → (r ≡ Greater) ⊎ ((r ≡ Equal) × (is_lt s ≡ false))
 not_below Less s e = absurd (cc)
 not_below Equal s e = inr (refl, e)
 not_below Greater s e = inl refl
 
+-- equal by two orders after one another is equal by both
 both_equal : (r s : Ordering) → ordering_then r s ≡ Equal → (r ≡ Equal) × (s ≡ Equal)
 both_equal Less s e = absurd (cc)
 both_equal Equal s e = (refl, e)
 both_equal Greater s e = absurd (cc)
 
+-- what compares as greater is greater
 greater : (x y : ℕ) → nat_cmp x y ≡ Greater → y < x
 greater x y e = subst (λ r. MatchOrdering r (x < y) (x ≡ y) (y < x)) e (ranked x y (nat_cmp x y) refl)
 
+-- what compares as equal is equal
 equal : (x y : ℕ) → nat_cmp x y ≡ Equal → x ≡ y
 equal x y e = subst (λ r. MatchOrdering r (x < y) (x ≡ y) (y < x)) e (ranked x y (nat_cmp x y) refl)
 
@@ -51,6 +56,7 @@ behind v w e = elim (not_below (nat_cmp w.var v.var) (ordering_then (nat_cmp w.n
   ]
 ]
 
+-- writes that compare as equal are equal
 same_written : (v w : Written) → written_cmp v w ≡ Equal → v ≡ w
 same_written v w e =
     let a = both_equal (nat_cmp v.var w.var) (ordering_then (nat_cmp v.nth w.nth) (int_cmp v.value w.value)) e in
@@ -63,6 +69,7 @@ same_written v w e =
 abbrev pub is_before : ℕ → ℕ → Written → Bool
 is_before x n w = if nat_lt w.var x then true else if w.var == x then nat_lt w.nth n else false
 
+-- a write that passes the test is of a lesser variable, or of that one with a lesser number
 before_is : (x n : ℕ) (w : Written) → is_before x n w ≡ true → (w.var < x) ⊎ ((w.var ≡ x) × (w.nth < n))
 before_is x n w e = go (nat_lt w.var x) refl (w.var == x) refl e
   where
@@ -72,6 +79,7 @@ before_is x n w e = go (nat_lt w.var x) refl (w.var == x) refl e
     go false is true is' e = inr (eqb-true w.var x is', grind (arith, nat_tests))
     go false is false is' e = absurd (cc)
 
+-- a write of a lesser variable, or of that one with a lesser number, passes the test
 is_so : (x n : ℕ) (w : Written) → (w.var < x) ⊎ ((w.var ≡ x) × (w.nth < n)) → is_before x n w ≡ true
 is_so x n w (inl lt) = let is : nat_lt w.var x ≡ true = grind (arith, nat_tests) in rw is refl
 is_so x n w (inr q) =

@@ -21,6 +21,7 @@ kept_part key n [] i a all at = absurd (cc)
 kept_part key n (p ∷ ps) zero a all at = let same : p ≡ a = cc in subst (λ z. key z < n) same all.0
 kept_part key n (p ∷ ps) (suc i) a all at = kept_part key n ps i a all.1 at
 
+-- a mapped list is as long as the list
 pub map_length : {A B : Type 0} (f : A → B) (ps : List A) → length (map f ps) ≡ length ps
 map_length f [] = refl
 map_length f (p ∷ ps) = ap suc (map_length f ps)
@@ -29,6 +30,7 @@ map_length f (p ∷ ps) = ap suc (map_length f ps)
 pub few_parts : {A : Type 0} (key : A → ℕ) (ps : List A) → AreVariables (map key ps) → length ps ≤ TX_VARIABLES
 few_parts key ps are = let n = are.0 in let same = map_length key ps in omega arith
 
+-- the words after one write more are those before it, with its value at its variable
 stored_more : (words : ℕ → ℤ) (ws : List Pair) (i : ℕ) (w : Pair) → slice_get ws i ≡ Some w → (x : ℕ) →
     stored words (take (suc i) ws) x ≡ with_at (stored words (take i ws)) w.var w.value x
 stored_more words [] i w at x = absurd (cc)
@@ -49,6 +51,7 @@ set_word table k v x near = elim (ℕ_discrete x k) [
     other : x ≢ k → word_in (slice_set table k v) x ≡ word_in table x
     other ne = rw get_or-set_other refl
 
+-- a table with the next write stored has the words after that
 pub store_step : (table before : List ℤ) (ws : List Pair) (i : ℕ) (w : Pair) → length table ≡ VARIABLES → w.var < VARIABLES →
     slice_get ws i ≡ Some w →
     ((x : ℕ) → x < VARIABLES → word_in table x ≡ stored (word_in before) (take i ws) x) → (x : ℕ) → x < VARIABLES →

@@ -183,6 +183,7 @@ cached_goes_on e var nth write value is i block rights less answer said = (let P
           λ all. refused es i block rights are (Plain var nth true write value false) at var less nth write wrong
           (all var nth write value at)
 
+-- the right that an entry gives: by its place, its number and whether it writes
 abbrev right_of : ℕ → ℕ → Bool → Right
 right_of i nth write = record { index = i; nth = nth; write = write }
 

@@ -11,16 +11,20 @@ use Rattle.gl_model.specs.declared.tx.Tx.{Tx}
 use Rattle.gl_form.specs.Passed.{AreDrawn, IsAbove, IsNotAbove, IsTxLast, TxDraws, TxGoesOn, last_on}
 use Rattle.gl_form.proofs.Parts.{at_of, contains_at, has_part}
 
+-- a look, by variable, value and number
 abbrev pub look_of : ℕ → ℤ → ℕ → Look
 look_of x v k = record { var = x; value = v; nth = k }
 
+-- a number of its own, by variable
 abbrev pub number_of : ℕ → ℕ → Number
 number_of x k = record { var = x; nth = k }
 
+-- what is above the last number is so with more added
 above_more : (last : Option ℕ) (k m : ℕ) → IsAbove last k → k < m → IsAbove last m
 above_more None k m is less = tt
 above_more (Some n) k m is less = (let lt : n < k = is in omega arith)
 
+-- an option has one content
 some_same : (k m : ℕ) (o : Option ℕ) → o ≡ Some k → o ≡ Some m → k ≡ m
 some_same k m o is also = cc
 

@@ -145,12 +145,14 @@ sync_draws_none e at act value is x k draws = by_kind (let P : Entry → Type 0 
   by_kind (inl d) = d
   by_kind (inr d) = d
 
+-- a trim draws no number
 pub trim_draws_none : (e : Entry) (low : ℕ) → e ≡ Trim low → (x k : ℕ) → DrawsOn x e k → ⊥
 trim_draws_none e low is x k draws = by_kind (let P : Entry → Type 0 = λ f. DrawsOn x f k in subst P is draws) where
   by_kind : DrawsOn x (Trim low) k → ⊥
   by_kind (inl d) = d
   by_kind (inr d) = d
 
+-- an Over draws no number
 pub over_draws_none : (e : Entry) (ending : Ending) → e ≡ Over ending → (x k : ℕ) → DrawsOn x e k → ⊥
 over_draws_none e ending is x k draws = by_kind (let P : Entry → Type 0 = λ f. DrawsOn x f k in subst P is draws) where
   by_kind : DrawsOn x (Over ending) k → ⊥

@@ -11,6 +11,7 @@ use Rattle.gl_form.specs.Rules.{FormFails, FormFailsAt, KeepsForm}
 use Rattle.gl_form.proofs.Stable.{either_over, stable_begin, stable_end, stable_form, stable_over}
 use Rattle.gl_form.proofs.StableRight.{stable_right}
 
+-- of two numbers, what is not at most the other is above it
 less_or : (m n : ℕ) → (n ≤ m → ⊥) → m < n
 less_or m n refuted = elim (cases_lt m n) [ inl lt ↦ lt | inr ge ↦ absurd (refuted ge) ]
 
@@ -72,15 +73,19 @@ module _ (R : Lists) (nowhere : (c : Place) → FormFailsAt R c → ⊥) where
     ];
   }
 
+-- a record is of the form exactly where no place fails it
 pub formed_exactly : (R : Lists) → Form R ↔ ((c : Place) → FormFailsAt R c → ⊥)
 formed_exactly R = ((λ is c fails. fails (keeps_all R is c.thread c.index)), form R)
 
+-- the place of a thread with an index
 abbrev at_place : ℕ → ℕ → Place
 at_place t i = record { thread = t; index = i }
 
+-- places with one thread and one index are one place
 same_place : (c d : Place) → c.thread ≡ d.thread → c.index ≡ d.index → c ≡ d
 same_place c d threads indices = ap (λ (n : ℕ). at_place n c.index) threads ∙ ap (λ (n : ℕ). at_place d.thread n) indices
 
+-- the form fails first at one place at most
 pub one_first : (R : Lists) (c d : Place) → IsFirstBy Before (FormFailsAt R) c → IsFirstBy Before (FormFailsAt R) d → c ≡ d
 one_first R c d first also = by_thread (cases_order c.thread d.thread) where
   by_index : c.thread ≡ d.thread → (c.index ≡ d.index) ⊎ ((c.index < d.index) ⊎ (d.index < c.index)) → c ≡ d

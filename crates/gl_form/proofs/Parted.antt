@@ -54,6 +54,7 @@ none_found (p ∷ looks) x none k l at is = by_first (cases_eq p.var x) (λ more
   by_first (inr other) rest (suc j) there = (let here : (p.var == x) ≡ false = grind (arith, nat_tests) in
       let more : find (λ p. p.var == x) looks ≡ None = rw here at none in rest more j l there is)
 
+-- a look, by variable, value and number
 abbrev look_of : ℕ → ℤ → ℕ → Look
 look_of x v k = record { var = x; value = v; nth = k }
 
@@ -162,6 +163,7 @@ module _ (tx : Tx) where
 
 -- ## Gathered
 
+-- a variable above all comes to the end
 with_one_last : (x : ℕ) (xs : List ℕ) → AllByRecursion (λ y. y < x) xs → with_one x xs ≡ xs ++ x ∷ []
 with_one_last x [] all = refl
 with_one_last x (y ∷ ys) all =
@@ -180,17 +182,20 @@ taken_below (y ∷ ys) (suc i) x rises at = (all_above y ys i x rises.0 at, take
   all_above y (z ∷ zs) zero x all at = (let same : z ≡ x = cc in rw (sym same) all.0)
   all_above y (z ∷ zs) (suc i) x all at = all_above y zs i x all.1 at
 
+-- the first i + 1 are the first i, and then the one at i
 take_next : (xs : List ℕ) (i x : ℕ) → slice_get xs i ≡ Some x → take (suc i) xs ≡ take i xs ++ x ∷ []
 take_next [] i x at = absurd cc
 take_next (y ∷ ys) zero x at = (let same : y ≡ x = cc in rw same refl)
 take_next (y ∷ ys) (suc i) x at = ap (λ zs. y ∷ zs) (take_next ys i x at)
 
+-- where nothing stands at i, the first i + 1 are the first i
 take_past : (xs : List ℕ) (i : ℕ) → slice_get xs i ≡ None → take (suc i) xs ≡ take i xs
 take_past [] zero at = refl
 take_past [] (suc i) at = refl
 take_past (y ∷ ys) zero at = absurd cc
 take_past (y ∷ ys) (suc i) at = ap (λ zs. y ∷ zs) (take_past ys i at)
 
+-- the first i are no more than i
 take_few : (xs : List ℕ) (i : ℕ) → length (take i xs) ≤ i
 take_few [] zero = omega arith
 take_few [] (suc i) = omega arith

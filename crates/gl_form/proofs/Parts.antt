@@ -16,9 +16,11 @@ use Rattle.gl_form.proofs.Lasts.{before_next}
 pub at_of : {A : Type 0} → (xs : List A) (x : A) → Contains xs x → (k : ℕ) × (slice_get xs k ≡ Some x)
 at_of xs x c = (c.0, slice_get-get_or xs c.0 x c.1 ∙ ap Some c.2)
 
+-- what stands at a place is in the list
 pub contains_at : {A : Type 0} → (xs : List A) (k : ℕ) (x : A) → slice_get xs k ≡ Some x → Contains xs x
 contains_at xs k x at = (k, slice_get_within xs k x at, get_or_from_slice_get xs k x x at)
 
+-- what holds of all variables holds of that of the part at a place
 pub all_at :
     (P : ℕ → Type 0) {A : Type 0} (var : A → ℕ) (parts : List A) (k : ℕ) (a : A) → AllByRecursion P (map var parts) →
     slice_get parts k ≡ Some a → P (var a)

@@ -16,34 +16,41 @@ use Rattle.gl_form.proofs.Parts.{at_of, contains_at}
 abbrev pub NotNot : Type 0 → Type 0
 NotNot Q = (Q → ⊥) → ⊥
 
+-- integers that are equal by the test are equal
 same_int : (a b : ℤ) → int_eq a b ≡ true → a ≡ b
 same_int a b is = search (rules, is)
 
+-- an integer equals itself by the test
 int_itself : (v : ℤ) → int_eq v v ≡ true
 int_itself v = search rules
 
+-- two integers are equal or not
 either_int : (a b : ℤ) → (a ≡ b) ⊎ (a ≡ b → ⊥)
 either_int a b = by_test (int_eq a b) refl where
   by_test : (t : Bool) → int_eq a b ≡ t → (a ≡ b) ⊎ (a ≡ b → ⊥)
   by_test true e = inl (same_int a b e)
   by_test false e = inr (λ same. let itself : int_eq a b ≡ true = rw same (int_itself b) in cc)
 
+-- two numbers are equal or not
 pub either_nat : (a b : ℕ) → (a ≡ b) ⊎ (a ≡ b → ⊥)
 either_nat a b = elim (cases_order a b) [
   | inl same ↦ inl same
   | inr other ↦ inr (λ same. elim other [ inl lt ↦ omega arith | inr gt ↦ omega arith ])
 ]
 
+-- what is decided, and not refuted, holds
 of_either : (Q : Type 0) → Q ⊎ (Q → ⊥) → NotNot Q → Q
 of_either Q (inl yes') refuted = yes'
 of_either Q (inr no') refuted = absurd (refuted no')
 
+-- two truth values whose equality is not refuted are equal
 stable_bool : (a b : Bool) → NotNot (a ≡ b) → a ≡ b
 stable_bool true true refuted = refl
 stable_bool false false refuted = refl
 stable_bool true false refuted = absurd (refuted (λ is. cc))
 stable_bool false true refuted = absurd (refuted (λ is. cc))
 
+-- two lists whose equality is not refuted are equal
 stable_list : (xs ys : List ℕ) → NotNot (xs ≡ ys) → xs ≡ ys
 stable_list [] [] refuted = refl
 stable_list [] (y ∷ ys) refuted = absurd (refuted (λ is. cc))
@@ -53,6 +60,7 @@ stable_list (x ∷ xs) (y ∷ ys) refuted =
     let tails = stable_list xs ys (λ other. refuted (λ is. other cc)) in
     rw (heads, tails) refl
 
+-- that numbers name just these variables holds where it is not refuted
 stable_names : (tx : Tx) (xs : List ℕ) → NotNot (NumbersName tx xs) → NumbersName tx xs
 stable_names tx xs refuted = record {
   variables = stable_list (map (λ n. n.var) tx.numbers) xs (λ other. refuted (λ n. other n.variables));
@@ -66,6 +74,7 @@ stable_names tx xs refuted = record {
 abbrev HasLook : List Look → ℕ → ℤ → Type 0
 HasLook ls var read = (nth : ℕ) × ((k : ℕ) × (slice_get ls k ≡ Some (record { var = var; value = read; nth = nth })))
 
+-- a look of this variable with this value is there, or is not
 either_look : (ls : List Look) (var : ℕ) (read : ℤ) → HasLook ls var read ⊎ (HasLook ls var read → ⊥)
 either_look [] var read = inr (λ h. let at = h.1.1 in cc)
 either_look (l ∷ ls) var read = by_parts (either_nat l.var var) (either_int l.value read) (either_look ls var read) where
@@ -89,15 +98,18 @@ either_look (l ∷ ls) var read = by_parts (either_nat l.var var) (either_int l.
   by_parts (inr a) b (inr none) = inr (not_first (λ both. a both.0) none)
   by_parts (inl a) (inr b) (inr none) = inr (not_first (λ both. b both.1) none)
 
+-- the transaction looked at this variable and found this value
 abbrev LooksAtValue : Tx → ℕ → ℤ → Type 0
 LooksAtValue tx var read = (nth : ℕ) × Contains tx.looks (record { var = var; value = read; nth = nth })
 
+-- that it did holds where it is not refuted
 stable_look : (tx : Tx) (var : ℕ) (read : ℤ) → NotNot (LooksAtValue tx var read) → LooksAtValue tx var read
 stable_look tx var read refuted = by_look (either_look tx.looks var read) where
   by_look : HasLook tx.looks var read ⊎ (HasLook tx.looks var read → ⊥) → LooksAtValue tx var read
   by_look (inl found) = (found.0, contains_at tx.looks found.1.0 _ found.1.1)
   by_look (inr none) = absurd (refuted (λ h. none (h.0, at_of tx.looks _ h.1)))
 
+-- what an entry has to be by itself, it is where that is not refuted
 pub stable_form : (t : ℕ) (e : Entry) → NotNot (EntryForm t e) → EntryForm t e
 stable_form t (Sync at act value) refuted = λ h. of_either (value ≡ pos 0) (either_int value (pos 0)) (λ other. refuted (λ f. other (f h)))
 stable_form t (Commit at tx) refuted = stable_names tx (variables_of tx) refuted
@@ -115,6 +127,7 @@ stable_form t (Abort tx (Changed var read found)) refuted = (
 stable_form t (Trim low) refuted = tt
 stable_form t (Over ending) refuted = tt
 
+-- what is not refuted to be an Over is one
 pub stable_over : (e : Entry) → NotNot (IsOver e) → IsOver e
 stable_over (Over ending) refuted = tt
 stable_over (Sync at act value) refuted = refuted (λ x. x)
@@ -123,6 +136,7 @@ stable_over (Plain var nth cached write value raised) refuted = refuted (λ x. x
 stable_over (Abort tx why) refuted = refuted (λ x. x)
 stable_over (Trim low) refuted = refuted (λ x. x)
 
+-- what is not refuted to be a Begin is one
 pub stable_begin : (e : Entry) → NotNot (IsBegin e) → IsBegin e
 stable_begin (Sync at (Begin f) value) refuted = tt
 stable_begin (Sync at End value) refuted = refuted (λ x. x)
@@ -142,6 +156,7 @@ stable_begin (Abort tx why) refuted = refuted (λ x. x)
 stable_begin (Trim low) refuted = refuted (λ x. x)
 stable_begin (Over ending) refuted = refuted (λ x. x)
 
+-- what is not refuted to be an End is one
 pub stable_end : (e : Entry) → NotNot (IsEnd e) → IsEnd e
 stable_end (Sync at (Begin f) value) refuted = refuted (λ x. x)
 stable_end (Sync at End value) refuted = tt

@@ -14,12 +14,14 @@ record Gives (e : Entry) (x : ℕ) : Type 0 where
   write : Bool
   gives : GivesRight e x number write
 
+-- two truth values are equal or not
 either_bool : (b c : Bool) → (b ≡ c) ⊎ (b ≡ c → ⊥)
 either_bool true true = inl refl
 either_bool false false = inl refl
 either_bool true false = inr (λ is. cc)
 either_bool false true = inr (λ is. cc)
 
+-- an entry gives a right on x, or does not
 either_gives : (e : Entry) (x : ℕ) → Gives e x ⊎ (Gives e x → ⊥)
 either_gives (Plain var nth cached write value raised) x =
     by_parts (either_bool cached false) (either_bool raised false) (either_nat var x) where
@@ -36,6 +38,7 @@ either_gives (Abort tx why) x = inr (λ g. g.gives)
 either_gives (Trim low) x = inr (λ g. g.gives)
 either_gives (Over ending) x = inr (λ g. g.gives)
 
+-- what gives a right with a number gives it with an equal one
 gives_number : (e : Entry) (x k m : ℕ) (w : Bool) → m ≡ k → GivesRight e x m w → GivesRight e x k w
 gives_number e x k m w same g = rw (sym same) g
 

@@ -18,6 +18,7 @@ trim_no_end (Plain var nth cached write value raised) trim ends = trim
 trim_no_end (Abort tx why) trim ends = trim
 trim_no_end (Over ending) trim ends = trim
 
+-- a trim is no Over
 trim_no_over : (e : Entry) → IsTrim e → IsOver e → ⊥
 trim_no_over (Trim low) trim over = over
 trim_no_over (Sync at act value) trim over = trim
@@ -26,6 +27,7 @@ trim_no_over (Plain var nth cached write value raised) trim over = trim
 trim_no_over (Abort tx why) trim over = trim
 trim_no_over (Over ending) trim over = trim
 
+-- a Begin is no Over
 begin_no_over : (e : Entry) → IsBegin e → IsOver e → ⊥
 begin_no_over (Over ending) begins over = begins
 begin_no_over (Sync at act value) begins over = over
@@ -34,6 +36,7 @@ begin_no_over (Plain var nth cached write value raised) begins over = over
 begin_no_over (Abort tx why) begins over = over
 begin_no_over (Trim low) begins over = over
 
+-- an End is no Over
 end_no_over : (e : Entry) → IsEnd e → IsOver e → ⊥
 end_no_over (Over ending) ends over = ends
 end_no_over (Sync at act value) ends over = over
@@ -42,6 +45,7 @@ end_no_over (Plain var nth cached write value raised) ends over = over
 end_no_over (Abort tx why) ends over = over
 end_no_over (Trim low) ends over = over
 
+-- a Begin is no trim
 begin_no_trim : (e : Entry) → IsBegin e → IsTrim e → ⊥
 begin_no_trim (Trim low) begins trim = begins
 begin_no_trim (Sync at act value) begins trim = trim
@@ -50,6 +54,7 @@ begin_no_trim (Plain var nth cached write value raised) begins trim = trim
 begin_no_trim (Abort tx why) begins trim = trim
 begin_no_trim (Over ending) begins trim = trim
 
+-- a Begin is no End
 begin_no_end : (e : Entry) → IsBegin e → IsEnd e → ⊥
 begin_no_end (Sync at (Begin f) value) begins ends = ends
 begin_no_end (Sync at End value) begins ends = begins

@@ -86,6 +86,7 @@ module _ (t : ℕ) (es : List Entry) (i : ℕ) where
 pub entry_at : (list : List StoredEntry) (i : ℕ) (x : StoredEntry) → i < length list → x ≡ get_or list i x → At (map seen list) i (seen x)
 entry_at list i x less is = slice_get-map seen list i ∙ ap (option_map seen) (slice_get_read list (length list) i x refl less is)
 
+-- of a list whose entries all keep to the ids that there are, the one at a place does
 pub entry_kept : (es : List Entry) (i : ℕ) (e : Entry) → AllByRecursion IsEntryKept es → At es i e → IsEntryKept e
 entry_kept [] i e kept at = absurd (no_entry i e at)
 entry_kept (f ∷ es) zero e kept at = (let same : f ≡ e = cc in subst IsEntryKept same kept.0)

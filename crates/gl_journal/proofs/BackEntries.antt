@@ -32,9 +32,11 @@ use Rattle.gl_journal.proofs.WrittenNumbers.{natural_back, numeral_decimal, nume
 
 -- ## Words of small letters
 
+-- a word of small letters alone, and of at least one
 abbrev is_keyword : Word → Bool
 is_keyword w = nat_lt 0 (length w) && list_all (λ b. nat_le 97 b && nat_le b 122) w
 
+-- small letters are bytes of words
 letters : (w : Word) → list_all (λ b. nat_le 97 b && nat_le b 122) w ≡ true → AllByRecursion IsWordByte w
 letters [] all = tt
 letters (b ∷ bs) all =
@@ -44,16 +46,19 @@ letters (b ∷ bs) all =
     let high : b ≤ 122 = leb-true b 122 here.1 in
     ((omega arith, omega arith, λ e. omega arith), letters bs both.1)
 
+-- such a word is a word of a line
 pub keyword : (w : Word) → is_keyword w ≡ true → IsWord w
 keyword w is =
     let both = and_parts (nat_lt 0 (length w)) (list_all (λ b. nat_le 97 b && nat_le b 122) w) is in
     (ltb-true 0 (length w) both.0, letters w both.1)
 
+-- a number of at most 19 digits, written, is a word
 pub decimal_word : (n : ℕ) → n < 10 ^ 19 → IsWord (decimal n)
 decimal_word n small = numeral_is_word (decimal n) (numeral_decimal n small)
 
 -- ## Acts
 
+-- the word of a kind of act is read as that kind
 kind_back : (k : SyncKind) → kind_in (word_of k) ≡ Ok k
 kind_back kinds.Begin = refl
 kind_back kinds.End = refl
@@ -68,6 +73,7 @@ kind_back kinds.Print = refl
 kind_back kinds.Input = refl
 kind_back kinds.Fail = refl
 
+-- it is a word of a line
 kind_word : (k : SyncKind) → IsWord (word_of k)
 kind_word kinds.Begin = keyword (codes "begin") refl
 kind_word kinds.End = keyword (codes "end") refl
@@ -90,6 +96,7 @@ fork_back u f low =
     let rest : n % 16 < 16 = mod_below n 16 (omega arith) in
     (omega arith, omega arith)
 
+-- the act of an act's kind and number is the act
 act_back : (a : Act) → IsActInRange a → act_of (kind_of a) (arg_of a) ≡ a
 act_back (acts.Begin f) is = refl
 act_back acts.End is = refl
@@ -104,6 +111,7 @@ act_back acts.Print is = refl
 act_back acts.Input is = refl
 act_back (acts.Fail code) is = refl
 
+-- the number of an act is at most the greatest of its kind
 arg_small : (a : Act) → IsActInRange a → IsActTyped a → arg_of a ≤ most_of (kind_of a)
 arg_small (acts.Begin f) is small = omega arith
 arg_small acts.End is small = omega arith
@@ -118,6 +126,7 @@ arg_small acts.Print is small = omega arith
 arg_small acts.Input is small = omega arith
 arg_small (acts.Fail code) is small = omega arith
 
+-- the greatest number of any kind is at most 1023
 most_small : (k : SyncKind) → most_of k ≤ 1023
 most_small kinds.Begin = omega arith
 most_small kinds.End = omega arith
@@ -134,17 +143,20 @@ most_small kinds.Fail = omega arith
 
 -- ## Choices
 
+-- one of two words, written for a test, is read as the test, where the two tell it
 choice_back : (b : Bool) (first second : Word) → choice_in first second first ≡ Ok false → choice_in first second second ≡ Ok true
     → choice_in first second (if b then second else first) ≡ Ok b
 choice_back true first second one two = two
 choice_back false first second one two = one
 
+-- it is a word where both are
 choice_word : (b : Bool) (first second : Word) → IsWord first → IsWord second → IsWord (if b then second else first)
 choice_word true first second one two = two
 choice_word false first second one two = one
 
 -- ## Entries that are read back
 
+-- the words of a synchronization are read as it
 sync_back : (at : ℕ) (a : Act) (value : _) → at ≤ MOST_STAMP → IsActInRange a → IsActTyped a → IsValue value
     → sync_in (decimal at ∷ word_of (kind_of a) ∷ decimal (arg_of a) ∷ signed_decimal value ∷ []) ≡ Ok (Sync at a value)
 unfolding sync_in
@@ -155,12 +167,14 @@ sync_back at a value low range small is =
     (rw (natural_back (most_of (kind_of a)) (arg_of a) arg (omega (arith, most_small (kind_of a))))
     (rw (value_back_in value is) (ap (λ b. Ok (Sync at b value)) (act_back a range)))))
 
+-- the words of a commit are read as it
 commit_back : (at : ℕ) (tx : Tx) → at ≤ MOST_STAMP → IsTxKept tx → IsTxTyped tx → IsTxStamped tx → TxNamesFew tx
     → commit_in (decimal at ∷ tx_words tx)
     ≡ Ok (Commit at tx)
 unfolding commit_in
 commit_back at tx low kept typed few named = rw (natural_back MOST_STAMP at low (omega arith)) (rw (tx_back tx kept typed few named) refl)
 
+-- the words of a plain access are read as it
 plain_back : (var nth : ℕ) (cached write : Bool) (value : _) (raised : Bool) → var < VARIABLES → nth ≤ MOST_STAMP → IsValue value
     → plain_in (decimal var ∷ decimal nth ∷ (if write then codes "wr" else codes "rd") ∷ signed_decimal value
     ∷ (if cached then codes "cached" else codes "own") ∷ (if raised then codes "race" else codes "ok") ∷ [])
@@ -174,6 +188,7 @@ plain_back var nth cached write value raised low few is =
     (rw (choice_back cached (codes "own") (codes "cached") refl refl)
     (rw (choice_back raised (codes "ok") (codes "race") refl refl) refl)))))
 
+-- the words of an attempt that found a change are read as it
 changed_back : (tx : Tx) (var : ℕ) (read found : _) → var < VARIABLES → IsValue read → IsValue found → IsTxKept tx → IsTxTyped tx
     → IsTxStamped tx → TxNamesFew tx
     → changed_in (decimal var ∷ signed_decimal read ∷ signed_decimal found ∷ tx_words tx) ≡ Ok (Abort tx (Changed var read found))
@@ -182,6 +197,7 @@ changed_back tx var read found low old new kept typed few named =
     rw (natural_back (VARIABLES - 1) var (omega arith) (omega arith))
     (rw (value_back_in read old) (rw (value_back_in found new) (rw (tx_back tx kept typed few named) refl)))
 
+-- the words of an attempt that was refused for a race are read as it
 raised_back : (tx : Tx) (var : ℕ) → var < VARIABLES → IsTxKept tx → IsTxTyped tx → IsTxStamped tx → TxNamesFew tx
     → raised_in (decimal var ∷ tx_words tx)
     ≡ Ok (Abort tx (Raised var))
@@ -189,16 +205,19 @@ unfolding raised_in
 raised_back tx var low kept typed few named = rw (natural_back (VARIABLES - 1) var (omega arith) (omega arith))
     (rw (tx_back tx kept typed few named) refl)
 
+-- the words of a trim are read as it
 trim_back : (low : ℕ) → low ≤ MOST_STAMP → trim_in (decimal low ∷ []) ≡ Ok (Trim low)
 unfolding trim_in
 trim_back low is = rw (natural_back MOST_STAMP low is (omega arith)) refl
 
+-- the words of an end by an exception are read as it
 uncaught_back : (code : ℕ) → code ≤ 255 → uncaught_in (decimal code ∷ []) ≡ Ok (Over (Uncaught code))
 unfolding uncaught_in
 uncaught_back code is = rw (natural_back 255 code is (omega arith)) refl
 
 -- ## Any entry
 
+-- the form of an entry's line
 abbrev pub form_for : Entry → EntryForm
 form_for (Sync at act value) = entry_forms.Sync
 form_for (Commit at tx) = entry_forms.Commit
@@ -210,6 +229,7 @@ form_for (Over Halt) = entry_forms.Halt
 form_for (Over Spent) = entry_forms.Spent
 form_for (Over (Uncaught code)) = entry_forms.Uncaught
 
+-- it is the form that the line's words tell
 pub form_is : (e : Entry) → form_of (entry_row e) ≡ Ok (forms.Entry (form_for e))
 form_is (Sync at act value) = refl
 form_is (Commit at tx) = refl
@@ -221,6 +241,7 @@ form_is (Over Halt) = refl
 form_is (Over Spent) = refl
 form_is (Over (Uncaught code)) = refl
 
+-- the line has as many words as its form asks
 pub count_is : (e : Entry) → length (entry_row e) ≡ count_of (forms.Entry (form_for e))
 count_is (Sync at act value) = refl
 count_is (Commit at tx) = refl
@@ -232,6 +253,7 @@ count_is (Over Halt) = refl
 count_is (Over Spent) = refl
 count_is (Over (Uncaught code)) = refl
 
+-- the line of an entry has words
 pub some_words : (e : Entry) → 0 < length (entry_row e)
 some_words (Sync at act value) = omega arith
 some_words (Commit at tx) = omega arith
@@ -243,6 +265,7 @@ some_words (Over Halt) = omega arith
 some_words (Over Spent) = omega arith
 some_words (Over (Uncaught code)) = omega arith
 
+-- the operands of an entry's line are read as the entry
 pub entry_back : (e : Entry) → IsEntryKept e → IsEntryTyped e → IsEntryStamped e → NamesFew e
     → entry_in (form_for e) (operands_of (forms.Entry (form_for e)) (entry_row e)) ≡ Ok e
 entry_back (Sync at act value) kept typed few named = sync_back at act value few kept typed.0 typed.1
@@ -255,9 +278,11 @@ entry_back (Over Halt) kept typed few named = refl
 entry_back (Over Spent) kept typed few named = refl
 entry_back (Over (Uncaught code)) kept typed few named = uncaught_back code typed
 
+-- a value, written, is a word
 signed_word : (z : _) → IsValue z → IsWord (signed_decimal z)
 signed_word z is = numeral_is_word (signed_decimal z) (numeral_signed z is)
 
+-- the line of an entry is of words
 pub entry_are_words : (e : Entry) → IsEntryKept e → IsEntryTyped e → IsEntryStamped e → AreWords (entry_row e)
 entry_are_words (Sync at act value) kept typed few =
     let arg : arg_of act ≤ most_of (kind_of act) = arg_small act kept typed.0 in

@@ -16,6 +16,7 @@ use Rattle.gl_journal.specs.Refused.{Refused}
 
 -- ## A text has no more lines than bytes
 
+-- a text of at most k bytes has no more lines than bytes
 lines_few_by : (k : ℕ) (bs : List ℕ) → length bs ≤ k → length (lines bs) ≤ length bs
 lines_few_by k [] le = let none : lines [] ≡ [] = refl in omega (arith, ap length none)
 lines_few_by zero (b ∷ bs) le = absurd (omega arith)
@@ -31,6 +32,7 @@ lines_few_by (suc k) (b ∷ bs) le =
       | inr h ↦ omega (arith, ap length (lines_last (b ∷ bs) (omega arith) h))
     ]
 
+-- a text has no more lines than bytes
 pub lines_few : (bs : List ℕ) → length (lines bs) ≤ length bs
 lines_few bs = lines_few_by (length bs) bs (omega arith)
 
@@ -48,6 +50,7 @@ record IsNext (ls : List (List ℕ)) (n : ℕ) (line : List ℕ) (rest : List (L
   after : drop (n + 1) ls ≡ rest
   taken : take (n + 1) ls ≡ take n ls ++ line ∷ []
 
+-- the first of the lines that are left from n on stands at n
 next_of : (ls : List (List ℕ)) (n : ℕ) (line : List ℕ) (rest : List (List ℕ)) → drop n ls ≡ line ∷ rest → IsNext ls n line rest
 next_of ls n line rest e =
     let there : n < length ls = omega (arith, length-drop n ls, ap length e) in
@@ -69,6 +72,7 @@ fault_here text line n rest s r reads is =
     ap (λ t. fault_of (line_read t (get_or (lines text) n []))) (sym reads.says) ∙ ap (λ l. fault_of (line_read s l)) next.here
     ∙ ap fault_of is
 
+-- a line without a fault is read: what it says is said, and the rest is left
 pub read_on : (text line : List ℕ) (n : ℕ) (rest : List (List ℕ)) (s t : Standing) → Reads text n (line ∷ rest) s → line_read s line ≡ Ok t
     → Reads text (n + 1) rest t
 read_on text line n rest s t reads is =
@@ -105,6 +109,7 @@ pub numbered_on : (text line : List ℕ) (n m given : ℕ) (rest : List (List �
 numbered_on text line n m given rest s t next same reads is =
     subst (λ k. Reads text k rest t) (sym (same ∙ next)) (read_on text line n rest s t reads is)
 
+-- a line that is refused, after lines without a fault, is the first with one
 pub numbered_fault : (text line : List ℕ) (first n m : ℕ) (rest : List (List ℕ)) (s : Standing) (refusal : Refusal) → m ≡ n + 1
     → Reads text n (line ∷ rest) s
     → Refused (line_read s line) refusal → FaultsFirst (lines text) first (refused_at (first + (m - 1)) refusal)

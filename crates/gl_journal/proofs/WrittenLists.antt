@@ -18,10 +18,12 @@ use Rattle.gl_journal.specs.Rows.{Row, entry_row, entry_rows, header_row, list_r
 
 -- ## Lists of parts
 
+-- the texts of a list with one member more are those before, and its own
 flat_more : {A : Type 0} (f : A → List ℕ) (xs : List A) (x : A) → flat_map f (xs ++ x ∷ []) ≡ flat_map f xs ++ f x
 flat_more f [] x = append-nil (f x)
 flat_more f (y ∷ ys) x = ap (λ l. f y ++ l) (flat_more f ys x) ∙ sym (append_assoc (f y) (flat_map f ys) (f x))
 
+-- a list that is written with one member more has a comma and its word at the end
 word_more : {A : Type 0} (f : A → Word) (y : A) (ys : List A) (x : A) → list_word (map f (y ∷ (ys ++ x ∷ []))) ≡ list_word (map f (y ∷ ys))
     ++ (codes "," ++ f x)
 word_more f y ys x =
@@ -29,6 +31,7 @@ word_more f y ys x =
     ∙ ap (λ l. f y ++ l) (flat_more (λ v. codes "," ++ v) (map f ys) (f x))
     ∙ sym (append_assoc (f y) (flat_map (λ v. codes "," ++ v) (map f ys)) (codes "," ++ f x))
 
+-- the first i + 1 of a list, written, are the first i, a comma and the one at i
 list_more : {A : Type 0} (f : A → Word) (xs : List A) (i : ℕ) (x : A) → 1 ≤ i → slice_get xs i ≡ Some x
     → list_word (map f (take (i + 1) xs)) ≡ list_word (map f (take i xs)) ++ (codes "," ++ f x)
 list_more f [] i x some there = cc
@@ -56,6 +59,7 @@ push_first f (y ∷ ys) x start new there is =
     let same : y ≡ x = cc in
     (omega arith, is ∙ ap (λ l. start ++ l) (sym (append-nil (f x)) ∙ ap (λ z. f z ++ []) (sym same)))
 
+-- where nothing stands, the list has ended
 past_of : {A : Type 0} (xs : List A) (at : ℕ) → slice_get xs at ≡ None → length xs ≤ at
 past_of xs at none =
     elim (slice_get_cases xs at).1 [
@@ -65,10 +69,12 @@ past_of xs at none =
 
 -- ## What holds of each part
 
+-- what holds of all and of one more holds of all with it
 all_push : {A : Type 0} (P : A → Type 0) (xs : List A) (x : A) → AllByRecursion P xs → P x → AllByRecursion P (xs ++ x ∷ [])
 all_push P [] x all last = (last, tt)
 all_push P (y ∷ xs) x all last = (all.0, all_push P xs x all.1 last)
 
+-- what holds of the first i and of the one at i holds of the first i + 1
 pub all_more : {A : Type 0} (P : A → Type 0) (xs : List A) (i : ℕ) (x : A) → slice_get xs i ≡ Some x → P x → AllByRecursion P (take i xs)
     → AllByRecursion P (take (i + 1) xs)
 all_more P xs i x there last all =
@@ -76,10 +82,12 @@ all_more P xs i x there last all =
     take_more xs i x (slice_get_within xs i x there) ∙ ap (λ z. take i xs ++ z ∷ []) (get_or_from_slice_get xs i x x there) in
     subst (AllByRecursion P) (sym more) (all_push P (take i xs) x all last)
 
+-- what holds of the first member holds of a list of it
 pub all_first : {A : Type 0} (P : A → Type 0) (xs : List A) (x : A) → slice_get xs 0 ≡ Some x → P x → AllByRecursion P (take 1 xs)
 all_first P [] x there first = cc
 all_first P (y ∷ ys) x there first = let same : x ≡ y = cc in (subst P same first, tt)
 
+-- what holds of as many as there are holds of all
 pub all_of : {A : Type 0} (P : A → Type 0) (xs : List A) (i : ℕ) → length xs ≤ i → AllByRecursion P (take i xs) → AllByRecursion P xs
 all_of P xs i past all = subst (AllByRecursion P) (take_all i xs past) all
 
@@ -89,22 +97,27 @@ all_of P xs i past all = subst (AllByRecursion P) (take_all i xs past) all
 abbrev pub entries_text : List Entry → List ℕ
 entries_text es = flat_map (λ e. row_text (entry_row e)) es
 
+-- the text of one thread's list
 abbrev pub one_text : ℕ × List Entry → List ℕ
 one_text l = row_text (thread_row l.0) ++ entries_text l.1
 
+-- the text of these lists
 abbrev pub lists_text : List (ℕ × List Entry) → List ℕ
 lists_text ls = flat_map one_text ls
 
+-- entries have the text that they have as definitions see them
 stored_text : (es : List StoredEntry) → flat_map (λ e. row_text (entry_row (seen e))) es ≡ entries_text (map seen es)
 stored_text [] = refl
 stored_text (e ∷ es) = ap (λ l. row_text (entry_row (seen e)) ++ l) (stored_text es)
 
+-- the rows of entries, before others, have the entries' text and then that of the others
 entries_are : (es : List Entry) (rest : List Row) → flat_map row_text (entry_rows es rest) ≡ entries_text es ++ flat_map row_text rest
 entries_are [] rest = refl
 entries_are (e ∷ es) rest =
     ap (λ l. row_text (entry_row e) ++ l) (entries_are es rest)
     ∙ sym (append_assoc (row_text (entry_row e)) (entries_text es) (flat_map row_text rest))
 
+-- the rows of lists, before others, have the lists' text and then that of the others
 lists_are : (ls : List (ℕ × List Entry)) (rest : List Row) → flat_map row_text (list_rows ls rest) ≡ lists_text ls ++ flat_map row_text rest
 lists_are [] rest = refl
 lists_are (l ∷ ls) rest =
@@ -133,6 +146,7 @@ pub below_none : (ls : List (ℕ × List Entry)) → below 0 ls ≡ []
 below_none [] = refl
 below_none (l ∷ ls) = (let no : nat_lt l.0 0 ≡ false = grind (arith, nat_tests) in rw no (below_none ls))
 
+-- where all threads are above t, no list is below t + 1
 none_below : (t n : ℕ) (ls : List (ℕ × List Entry)) → n ≤ t + 1 → AllByRecursion (λ s. t < s) (map (λ l. l.0) ls) → below n ls ≡ []
 none_below t n [] le above = refl
 none_below t n (l ∷ ls) le above =
@@ -145,9 +159,11 @@ abbrev pub one_of : ℕ → Option (List Entry) → List (ℕ × List Entry)
 one_of t None = []
 one_of t (Some es) = (t, es) ∷ []
 
+-- the lists below t + 1 are those below t, and t's, if it has one
 abbrev pub GathersNext : ℕ → List (ℕ × List Entry) → Type 0
 GathersNext t ls = below (t + 1) ls ≡ below t ls ++ one_of t (list_of ls t)
 
+-- where t's list is the first, and the others are above, it is so
 next_is_first : (t : ℕ) (l : ℕ × List Entry) (ls : List (ℕ × List Entry)) → l.0 ≡ t → AllByRecursion (λ s. l.0 < s) (map (λ l. l.0) ls)
     → GathersNext t (l ∷ ls)
 next_is_first t l ls same above =
@@ -157,6 +173,7 @@ next_is_first t l ls same above =
     rw (within, out, here, none_below l.0 (t + 1) ls (omega arith) above, none_below l.0 t ls (omega arith) above)
     (ap (λ s. (s, l.1) ∷ []) same)
 
+-- where the first list is another's, it is so where it is so of the rest
 next_is_later : (t : ℕ) (l : ℕ × List Entry) (ls : List (ℕ × List Entry)) → (l.0 < t) ⊎ (t < l.0) → GathersNext t ls
     → GathersNext t (l ∷ ls)
 next_is_later t l ls (inl lt) more =
@@ -208,6 +225,7 @@ thread_with t R es start old new rises some is adds =
 
 -- ## What holds of the entries of each thread so far
 
+-- where t has no list, entries below t + 1 are typed where those below t are
 pub typed_without : (t : ℕ) (R : List (ℕ × List Entry)) → Rises (map (λ l. l.0) R) → list_of R t ≡ None
     → AllEntries IsEntryTyped (below t R)
     → AllEntries IsEntryTyped (below (t + 1) R)
@@ -215,6 +233,7 @@ typed_without t R rises none all =
     let same : below (t + 1) R ≡ below t R = gathers_next t R rises ∙ ap (λ o. below t R ++ one_of t o) none ∙ append-nil (below t R) in
     subst (AllEntries IsEntryTyped) (sym same) all
 
+-- where t has a list of typed entries, those below t + 1 are typed where those below t are
 pub typed_with : (t : ℕ) (R : List (ℕ × List Entry)) (es : List StoredEntry) → Rises (map (λ l. l.0) R) → list_of R t ≡ Some (map seen es)
     → AllEntries IsEntryTyped (below t R) → AllByRecursion IsEntryTyped (map seen es) → AllEntries IsEntryTyped (below (t + 1) R)
 typed_with t R es rises some all typed =

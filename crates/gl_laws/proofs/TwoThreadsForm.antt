@@ -14,9 +14,11 @@ use native.Mathlib.Decide.{ℕ_discrete}
 abbrev Spot0 : ℕ → ℕ → Type 0
 Spot0 i p = ((i ≤ 1) × (p ≡ i)) ⊎ ((5 ≤ i) × (p + 1 ≡ i))
 
+-- the indices in thread 1's list that have positions, and which
 abbrev Spot1 : ℕ → ℕ → Type 0
 Spot1 i p = ((i ≡ 0) × (p ≡ 2)) ⊎ ((i ≡ 4) × (p ≡ 3)) ⊎ ((i ≡ 5) × (p ≡ 5))
 
+-- the positions in thread 0's list are those
 spots0 : (i : ℕ) (e : Entry) → At es0 i e → (p : ℕ) → position_of e ≡ Some p → Spot0 i p
 spots0 = entries0 (λ i e. (p : ℕ) → position_of e ≡ Some p → Spot0 i p)
     (λ p z. let a : 0 ≡ p = cc in inl (omega arith, omega arith)) (λ p z. let a : 1 ≡ p = cc in inl (omega arith, omega arith))
@@ -24,15 +26,18 @@ spots0 = entries0 (λ i e. (p : ℕ) → position_of e ≡ Some p → Spot0 i p)
     (λ p z. let a : 4 ≡ p = cc in inr (omega arith, omega arith)) (λ p z. absurd (cc)) (λ p z. let a : 6 ≡ p = cc
     in inr (omega arith, omega arith)) (λ p z. absurd (cc))
 
+-- the positions in thread 1's list are those
 spots1 : (i : ℕ) (e : Entry) → At es1 i e → (p : ℕ) → position_of e ≡ Some p → Spot1 i p
 spots1 = entries1 (λ i e. (p : ℕ) → position_of e ≡ Some p → Spot1 i p)
     (λ p z. let a : 2 ≡ p = cc in inl (refl, omega arith)) (λ p z. absurd (cc)) (λ p z. absurd (cc)) (λ p z. absurd (cc))
     (λ p z. let a : 3 ≡ p = cc in inr (inl (refl, omega arith))) (λ p z. let a : 5 ≡ p = cc in inr (inr (refl, omega arith)))
     (λ p z. absurd (cc))
 
+-- they rise along thread 0's list
 rise0 : (i j p q : ℕ) → i < j → Spot0 i p → Spot0 j q → p < q
 rise0 i j p q lt a b = omega arith
 
+-- they rise along thread 1's list
 rise1 : (i j p q : ℕ) → i < j → Spot1 i p → Spot1 j q → p < q
 rise1 i j p q lt a b = omega arith
 
@@ -40,21 +45,26 @@ rise1 i j p q lt a b = omega arith
 abbrev Number0 : ℕ → ℕ → ℕ → Type 0
 Number0 i x k = ((x ≡ 5) × (i ≡ 2)) ⊎ ((x ≡ 6) × (i ≡ 4) × (k ≤ 2)) ⊎ ((x ≡ 6) × (i ≡ 5) × (3 ≤ k)) ⊎ ((x ≡ 8) × (i ≡ 6))
 
+-- the numbers in thread 1's list: by index, variable and number
 abbrev Number1 : ℕ → ℕ → ℕ → Type 0
 Number1 i x k = ((x ≡ 5) × (i ≡ 1) × (k ≤ 1)) ⊎ ((x ≡ 5) × (i ≡ 2) × (2 ≤ k)) ⊎ ((x ≡ 8) × (i ≡ 3)) ⊎ ((x ≡ 6) × (i ≡ 4))
 
+-- what draws neither for a look nor for itself draws nothing
 no_draw : {A : Type 0} → ⊥ ⊎ ⊥ → A
 no_draw (inl d) = absurd d
 no_draw (inr d) = absurd d
 
+-- a numbered plain access draws its own number on its variable, and no other
 plain_is : (y n : ℕ) (write : Bool) (v : ℤ) (raised : Bool) (x k : ℕ) → Draws (Plain y n false write v raised) x k → (x ≡ y) × (k ≡ n)
 plain_is y n write v raised x k (inl d) = absurd d
 plain_is y n write v raised x k (inr d) = (sym d.1, sym d.2)
 
+-- the cached read draws no number
 cached_none : (x k : ℕ) → Draws C0 x k → ⊥
 cached_none x k (inl d) = d
 cached_none x k (inr d) = let z = d.0 in cc
 
+-- an attempt with one look and one number of its own, both on y, draws just those two
 tx_is : (y a b : ℕ) (v : ℤ) (x k : ℕ) → ((value : ℤ) × Contains (look y v a ∷ []) (look x value k))
     ⊎ Contains (number y b ∷ []) (number x k) → (x ≡ y) × ((k ≡ a) ⊎ (k ≡ b))
 tx_is y a b v x k (inl d) = let e = only (look y v a) (look x d.0 k) d.1
@@ -62,10 +72,12 @@ tx_is y a b v x k (inl d) = let e = only (look y v a) (look x d.0 k) d.1
 tx_is y a b v x k (inr d) = let e = only (number y b) (number x k) d
     in (sym (ap (λ (l : Number). l.var) e), inr (sym (ap (λ (l : Number). l.nth) e)))
 
+-- the writing commit draws number 1 of variable 6, and no other
 write_is : (x k : ℕ) → Draws K1 x k → (x ≡ 6) × (k ≡ 1)
 write_is x k (inl d) = nothing (look x d.0 k) d.1
 write_is x k (inr d) = let e = only (number 6 1) (number x k) d in (sym (ap (λ (l : Number). l.var) e), sym (ap (λ (l : Number). l.nth) e))
 
+-- the numbers that thread 0's entries draw are those
 numbers0 : (i : ℕ) (e : Entry) → At es0 i e → (x k : ℕ) → Draws e x k → Number0 i x k
 numbers0 = entries0 (λ i e. (x k : ℕ) → Draws e x k → Number0 i x k)
     (λ x k d. no_draw d) (λ x k d. no_draw d) (λ x k d. let z = plain_is 5 0 true (pos 7) false x k d in inl (z.0, refl))
@@ -74,6 +86,7 @@ numbers0 = entries0 (λ i e. (x k : ℕ) → Draws e x k → Number0 i x k)
     (λ x k d. let z = tx_is 6 3 4 (pos 3) x k d in inr (inr (inl (z.0, refl, (let y = z.1 in omega arith)))))
     (λ x k d. let z = plain_is 8 1 false (pos 9) false x k d in inr (inr (inr (z.0, refl)))) (λ x k d. no_draw d) (λ x k d. no_draw d)
 
+-- the numbers that thread 1's entries draw are those
 numbers1 : (i : ℕ) (e : Entry) → At es1 i e → (x k : ℕ) → Draws e x k → Number1 i x k
 numbers1 = entries1 (λ i e. (x k : ℕ) → Draws e x k → Number1 i x k)
     (λ x k d. no_draw d) (λ x k d. let z = plain_is 5 1 false (pos 0) true x k d in inl (z.0, refl, (let y = z.1 in omega arith)))
@@ -81,9 +94,11 @@ numbers1 = entries1 (λ i e. (x k : ℕ) → Draws e x k → Number1 i x k)
     (λ x k d. let z = plain_is 8 0 true (pos 9) false x k d in inr (inr (inl (z.0, refl))))
     (λ x k d. let z = write_is x k d in inr (inr (inr (z.0, refl)))) (λ x k d. no_draw d) (λ x k d. no_draw d)
 
+-- the numbers of a variable rise along thread 0's list
 grow0 : (i j x k m : ℕ) → i < j → Number0 i x k → Number0 j x m → k < m
 grow0 i j x k m lt a b = omega arith
 
+-- the numbers of a variable rise along thread 1's list
 grow1 : (i j x k m : ℕ) → i < j → Number1 i x k → Number1 j x m → k < m
 grow1 i j x k m lt a b = omega arith
 
@@ -99,12 +114,15 @@ behind_look y a b v lt x k m value l n =
 no_trim0 : (i : ℕ) (e : Entry) → At es0 i e → IsTrim e → ⊥
 no_trim0 = entries0 (λ i e. IsTrim e → ⊥) (λ z. z) (λ z. z) (λ z. z) (λ z. z) (λ z. z) (λ z. z) (λ z. z) (λ z. z) (λ z. z)
 
+-- thread 1's list has no trim
 no_trim1 : (i : ℕ) (e : Entry) → At es1 i e → IsTrim e → ⊥
 no_trim1 = entries1 (λ i e. IsTrim e → ⊥) (λ z. z) (λ z. z) (λ z. z) (λ z. z) (λ z. z) (λ z. z) (λ z. z)
 
+-- 0 is not 3
 three : pos 0 ≢ pos 3
 three e = absurd (cc)
 
+-- thread 0's list is well formed
 formed0 : ListForm 0 es0
 formed0 = record {
   well_formed = entries0 (λ i e. EntryForm 0 e) (λ h. refl) (λ h. absurd h) tt tt (
@@ -156,6 +174,7 @@ formed0 = record {
         (λ x k w v e. absurd (cc)) (λ x k w v e. absurd (cc)) (λ x k w v e. absurd (cc)) (λ x k w v e. absurd (cc))
         (λ x k w v e. absurd (cc))
 
+-- thread 1's list is well formed
 formed1 : ListForm 1 es1
 formed1 = record {
   well_formed = entries1 (λ i e. EntryForm 1 e) (λ h. absurd (omega arith)) (refl, λ w. refl)
@@ -185,6 +204,7 @@ formed1 = record {
     no_cached = entries1 (λ i e. (x k : ℕ) (write : Bool) (value : ℤ) → e ≡ Plain x k true write value false → ⊥)
         (λ x k w v e. cc) (λ x k w v e. cc) (λ x k w v e. cc) (λ x k w v e. cc) (λ x k w v e. cc) (λ x k w v e. cc) (λ x k w v e. cc)
 
+-- an empty list is well formed
 empty_formed : (t : ℕ) → ListForm t []
 empty_formed t = record {
   well_formed = λ i e a. absurd (cc);
@@ -197,6 +217,7 @@ empty_formed t = record {
   cached = λ i x k write value a. absurd (cc);
 }
 
+-- the record is well formed
 pub form : Form R
 form = record { main = λ e. (let z : length es0 ≡ 0 = ap length e in absurd (omega arith)); formed = all; ends = ends }
   where
@@ -218,6 +239,7 @@ draws_5 (suc (suc zero)) lt = (at 1 2, (A1, refl, inl (pos 7, (0, omega arith, r
 draws_5 (suc (suc (suc zero))) lt = (at 1 2, (A1, refl, inr (0, omega arith, refl)))
 draws_5 (suc (suc (suc (suc k)))) lt = absurd (omega arith)
 
+-- each number of variable 6 below 5 was drawn
 draws_6 : (k : ℕ) → k < 5 → (c : Place) × ((e : Entry) × EntryAt R c e × Draws e 6 k)
 draws_6 zero lt = (at 0 4, (A0, refl, inl (pos 0, (0, omega arith, refl))))
 draws_6 (suc zero) lt = (at 1 4, (K1, refl, inr (0, omega arith, refl)))
@@ -226,11 +248,13 @@ draws_6 (suc (suc (suc zero))) lt = (at 0 5, (K0, refl, inl (pos 3, (0, omega ar
 draws_6 (suc (suc (suc (suc zero)))) lt = (at 0 5, (K0, refl, inr (0, omega arith, refl)))
 draws_6 (suc (suc (suc (suc (suc k))))) lt = absurd (omega arith)
 
+-- each number of variable 8 below 2 was drawn
 draws_8 : (k : ℕ) → k < 2 → (c : Place) × ((e : Entry) × EntryAt R c e × Draws e 8 k)
 draws_8 zero lt = (at 1 3, (OtherWrite, refl, inr (refl, refl, refl)))
 draws_8 (suc zero) lt = (at 0 6, (R0, refl, inr (refl, refl, refl)))
 draws_8 (suc (suc k)) lt = absurd (omega arith)
 
+-- each number of a variable below its bound was drawn
 draws_below : (x k : ℕ) → k < bound x → (c : Place) × ((e : Entry) × EntryAt R c e × Draws e x k)
 draws_below x k lt = elim (ℕ_discrete x 5) [
   | yes e ↦ rw e (draws_5 k (rw e at lt))
@@ -256,6 +280,7 @@ apart = each (λ c e. (k x : ℕ) → LookDraws e x k → NumberDraws e x k → 
     (λ k x l n. l) (λ k x l n. l) (λ k x l n. let lt = behind_look 5 2 3 (pos 7) (omega arith) x k k l.0 l.1 n in omega arith)
     (λ k x l n. l) (λ k x l n. nothing (look x l.0 k) l.1) (λ k x l n. l) (λ k x l n. l)
 
+-- the numbers of each variable are drawn without a gap, each once
 pub numbered : Numbered R
 numbered x = (
   bound x,

@@ -14,6 +14,7 @@ use Rattle.gl_laws.proofs.SmallRecords.{at, all_at}
 use Rattle.gl_laws.proofs.TwoThreads.{B0, F0, FirstWrite, C0, K0, R0, E0, B1, OtherWrite, K1, E1, es0, es1, R, entries0, entries1, each, look, number, pair, only, nothing}
 use Rattle.gl_laws.proofs.TwoThreadsRun.{stamp, s1, s2, s3, s6, s7, step_begin, step_fork, step_begun, step_end_1, step_end_0}
 
+-- the places of the history, in order
 abbrev cs : List Place
 cs = at 0 0 ∷ at 0 1 ∷ at 0 2 ∷ at 0 3 ∷ at 1 0 ∷ at 1 3 ∷ at 1 4 ∷ at 0 5 ∷ at 0 6 ∷ at 1 5 ∷ at 0 7 ∷ []
 
@@ -30,11 +31,13 @@ index0 = entries0 (λ j e. (q : ℕ) → position_of e ≡ Some q → (j ≤ 1) 
     (λ q z. inl (omega arith)) (λ q z. inl (omega arith)) (λ q z. absurd (cc)) (λ q z. absurd (cc)) (λ q z. absurd (cc))
     (λ q z. inr (inl refl)) (λ q z. absurd (cc)) (λ q z. inr (inr refl)) (λ q z. absurd (cc))
 
+-- the events of thread 1 stand at indices 0, 4 and 5
 index1 : (j : ℕ) (e : Entry) → At es1 j e → (q : ℕ) → position_of e ≡ Some q → (j ≡ 0) ⊎ (j ≡ 4) ⊎ (j ≡ 5)
 index1 = entries1 (λ j e. (q : ℕ) → position_of e ≡ Some q → (j ≡ 0) ⊎ (j ≡ 4) ⊎ (j ≡ 5))
     (λ q z. inl refl) (λ q z. absurd (cc)) (λ q z. absurd (cc)) (λ q z. absurd (cc)) (λ q z. inr (inl refl)) (λ q z. inr (inr refl))
     (λ q z. absurd (cc))
 
+-- the block of thread 0's begin is 0
 block_00 : IsBlockOf R (at 0 0) 0
 block_00 = record {
   index = 0;
@@ -44,6 +47,7 @@ block_00 = record {
   last = λ j q s e le. le;
 }
 
+-- thread 0's entries from its fork up to its commit are in block 1
 block_01 : (i : ℕ) → 1 ≤ i → i < 5 → IsBlockOf R (at 0 i) 1
 block_01 i lo hi = record {
   index = 1;
@@ -54,6 +58,7 @@ block_01 i lo hi = record {
       index0 j e.entry e.there q e.position in omega arith;
 }
 
+-- thread 0's commit, and its read after that, are in block 4
 block_05 : (i : ℕ) → 5 ≤ i → i < 7 → IsBlockOf R (at 0 i) 4
 block_05 i lo hi = record {
   index = 5;
@@ -64,6 +69,7 @@ block_05 i lo hi = record {
       index0 j e.entry e.there q e.position in omega arith;
 }
 
+-- the block of thread 0's end is 6
 block_07 : IsBlockOf R (at 0 7) 6
 block_07 = record {
   index = 7;
@@ -73,6 +79,7 @@ block_07 = record {
   last = λ j q s e le. le;
 }
 
+-- thread 1's entries before its commit are in block 2
 block_10 : (i : ℕ) → i < 4 → IsBlockOf R (at 1 i) 2
 block_10 i hi = record {
   index = 0;
@@ -83,6 +90,7 @@ block_10 i hi = record {
       index1 j e.entry e.there q e.position in omega arith;
 }
 
+-- the block of thread 1's commit is 3
 block_14 : IsBlockOf R (at 1 4) 3
 block_14 = record {
   index = 4;
@@ -92,6 +100,7 @@ block_14 = record {
   last = λ j q s e le. le;
 }
 
+-- the block of thread 1's end is 5
 block_15 : IsBlockOf R (at 1 5) 5
 block_15 = record {
   index = 5;
@@ -105,6 +114,7 @@ block_15 = record {
 abbrev Before : Place → Place → Type 0
 Before c d = (block c < block d) ⊎ ((block c ≡ block d) × InProgramOrder c d)
 
+-- being laid out before is transitive
 before_trans : (c d e : Place) → Before c d → Before d e → Before c e
 before_trans c d e (inl a) (inl b) = inl (omega arith)
 before_trans c d e (inl a) (inr b) = inl (let z = b.0 in omega arith)
@@ -122,6 +132,7 @@ chain_all c [] ch j d at = absurd (cc)
 chain_all c (e ∷ ds) ch zero d at = let same : e ≡ d = cc in rw (sym same) ch.0
 chain_all c (e ∷ ds) ch (suc j) d at = before_trans c e d ch.0 (chain_all e ds ch.1 j d at)
 
+-- along a chain an earlier place is laid out before a later one
 chain_order : (c : Place) (ds : List Place) → Chain c ds → (i j : ℕ) (a b : Place) → slice_get (c ∷ ds) i ≡ Some a → slice_get (c ∷ ds) j
     ≡ Some b → i < j → Before a b
 chain_order c ds ch zero zero a b x y lt = absurd (omega arith)
@@ -130,6 +141,7 @@ chain_order c ds ch (suc i) zero a b x y lt = absurd (omega arith)
 chain_order c [] ch (suc i) (suc j) a b x y lt = absurd (cc)
 chain_order c (d ∷ ds) ch (suc i) (suc j) a b x y lt = chain_order d ds ch.1 i j a b x y (omega arith)
 
+-- the places of the history are a chain
 chained : Chain (at 0 0) (at 0 1 ∷ at 0 2 ∷ at 0 3 ∷ at 1 0 ∷ at 1 3 ∷ at 1 4 ∷ at 0 5 ∷ at 0 6 ∷ at 1 5 ∷ at 0 7 ∷ [])
 chained = (
   inl (omega arith),
@@ -151,6 +163,7 @@ chained = (
   ),
 )
 
+-- each place of the history has the block that was named
 blocked : (i : ℕ) (c : Place) → slice_get cs i ≡ Some c → IsBlockOf R c (block c)
 blocked = all_at (λ i c. IsBlockOf R c (block c)) cs (
   block_00,
@@ -172,6 +185,7 @@ blocked = all_at (λ i c. IsBlockOf R c (block c)) cs (
   ),
 )
 
+-- the history is the record, laid out
 flat : IsFlat R cs
 flat = record {
   each = λ c. (there c, λ e. laid c e.0 e.1 e.2);
@@ -212,9 +226,11 @@ flat = record {
 abbrev words_5 : ℕ → ℤ
 words_5 = with_at (λ _. pos 0) 5 (pos 7)
 
+-- the words with what thread 1 wrote to variable 8
 abbrev words_8 : ℕ → ℤ
 words_8 = with_at words_5 8 (pos 9)
 
+-- the words with what its commit wrote to variable 6
 abbrev words_6 : ℕ → ℤ
 words_6 = with_at words_8 6 (pos 3)
 
@@ -222,6 +238,7 @@ words_6 = with_at words_8 6 (pos 3)
 abbrev Wrote : ℕ → ℕ → Type 0
 Wrote x j = ((x ≡ 5) × (j ≡ 0)) ⊎ ((x ≡ 6) × (j ≡ 1)) ⊎ ((x ≡ 8) × (j ≡ 0))
 
+-- a performed write has one of these variables and numbers
 written : (c : Place) (e : Entry) → EntryAt R c e → (x j : ℕ) (u : ℤ) → NumberOn e x j → WritesValue e x u → Wrote x j
 written = each (λ c e. (x j : ℕ) (u : ℤ) → NumberOn e x j → WritesValue e x u → Wrote x j)
     (λ x j u n w. absurd n) (λ x j u n w. absurd n) (λ x j u n w. inl (sym n.0, sym n.1)) (λ x j u n w. absurd (let z = w.2 in cc))
@@ -231,9 +248,11 @@ written = each (λ c e. (x j : ℕ) (u : ℤ) → NumberOn e x j → WritesValue
     (λ x j u n w. let e = only (number 6 1) (number x j) n
     in inr (inl (sym (ap (λ (l : Number). l.var) e), sym (ap (λ (l : Number). l.nth) e)))) (λ x j u n w. absurd n) (λ x j u n w. absurd n)
 
+-- what is written in the record has one of these variables and numbers
 wrote_of : (x j : ℕ) (u : ℤ) → IsWritten R x j u → Wrote x j
 wrote_of x j u w = written w.0 w.1.0 w.1.1 x j u w.1.2 w.1.3
 
+-- above number 1 the word of variable 6 is 3
 word_6 : (n : ℕ) → 1 < n → IsWordBelow R 6 n (pos 3)
 word_6 n lt = inl (
   1,
@@ -243,6 +262,7 @@ word_6 n lt = inl (
       in omega arith,
 )
 
+-- below number 2 the word of variable 5 is 7
 word_5 : IsWordBelow R 5 2 (pos 7)
 word_5 = inl (
   0,
@@ -257,9 +277,11 @@ one_look : (l : Look) → IsWordBelow R l.var l.nth l.value → LooksReadRight R
 one_look l right zero m at = let same : l ≡ m = cc in rw (sym same) right
 one_look l right (suc k) m at = absurd (cc)
 
+-- below the number of the changed attempt the word of variable 6 is 3
 found_number : (k : ℕ) → Contains (number 6 2 ∷ []) (number 6 k) → IsWordBelow R 6 k (pos 3)
 found_number k c = let e : 2 ≡ k = ap (λ (l : Number). l.nth) (only (number 6 2) (number 6 k) c) in word_6 k (omega arith)
 
+-- the record is legal: laid out, it is one run of the machine
 pub legal : Legal trace_setting R
 legal = record {
   history = cs;

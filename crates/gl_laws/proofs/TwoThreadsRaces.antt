@@ -16,9 +16,11 @@ use Rattle.gl_laws.proofs.TwoThreadsForm.{form, numbered}
 use Rattle.gl_laws.proofs.TwoThreadsRun.{stamp, h, listed, machine}
 use Rattle.gl_laws.proofs.TwoThreadsLegal.{legal}
 
+-- of two equal options the entries are equal
 same_entry : (e f : Entry) → Some e ≡ Some f → e ≡ f
 same_entry e f s = cc
 
+-- a list of one number has just that
 number_is : (y n x k : ℕ) → Contains (number y n ∷ []) (number x k) → (x ≡ y) × (k ≡ n)
 number_is y n x k c = let e = only (number y n) (number x k) c in (sym (ap (λ (l : Number). l.var) e), sym (ap (λ (l : Number). l.nth) e))
 
@@ -28,6 +30,7 @@ Performed c e x k =
     ((x ≡ 5) × (k ≡ 0) × (c.thread ≡ 0)) ⊎ ((x ≡ 8) × (k ≡ 0) × (c ≡ at 1 3)) ⊎ ((x ≡ 8) × (k ≡ 1) × (c.thread ≡ 0))
     ⊎ ((x ≡ 6) × (IsPlain e → ⊥))
 
+-- each performed access of the record is one of these
 performed : (c : Place) (e : Entry) → EntryAt R c e → (x k : ℕ) → NumberOn e x k → IsPerformed e → Performed c e x k
 performed = each (λ c e. (x k : ℕ) → NumberOn e x k → IsPerformed e → Performed c e x k)
     (λ x k n p. absurd n) (λ x k n p. absurd n) (λ x k n p. inl (sym n.0, sym n.1, refl)) (λ x k n p. inl (sym n.0, sym n.1, refl))
@@ -51,10 +54,12 @@ record Prior (d : Place) (f : Entry) (x : ℕ) : Type 0 where
   pub conflict : IsPlain e ⊎ IsPlain f
   pub unordered : HappensBefore R c d → ⊥
 
+-- a number that is less, or equal in one of two ways, is at most the other
 upto_of : (n m : ℕ) (P : Type 0) → (n < m) ⊎ ((n ≡ m) × P) → n ≤ m
 upto_of n m P (inl lt) = omega arith
 upto_of n m P (inr e) = let z = e.0 in omega arith
 
+-- a racy access has such a performed access before it
 prior : (d : Place) (f : Entry) (x : ℕ) → EntryAt R d f → IsRacy R d x → Prior d f x
 prior d f x here r =
     let b = r.before in
@@ -111,6 +116,7 @@ ordered =
     let second : TransitiveClosure (OrdersDirectly R) (at 1 3) (at 0 5) = then_step first over in
     by_steps (then_step second on)
 
+-- thread 0's read of variable 8 is not racy
 none_read_8 : IsRacy R (at 0 6) 8 → ⊥
 none_read_8 r =
     let p = prior (at 0 6) R0 8 refl r in
@@ -139,6 +145,7 @@ none_of_commit d f x here no_plain six r =
 abbrev Late : Place → Type 0
 Late c = ((c.thread ≡ 0) × (2 ≤ c.index)) ⊎ ((c.thread ≡ 1) × (4 ≤ c.index))
 
+-- a late event has a position from 3 on
 late_position : (c : Place) (e : Entry) → EntryAt R c e → (p : ℕ) → position_of e ≡ Some p → Late c → 3 ≤ p
 late_position = each (λ c e. (p : ℕ) → position_of e ≡ Some p → Late c → 3 ≤ p)
     (λ p z l. absurd (omega arith)) (λ p z l. absurd (omega arith)) (λ p z l. absurd (cc)) (λ p z l. absurd (cc)) (λ p z l. absurd (cc))
@@ -147,6 +154,7 @@ late_position = each (λ c e. (p : ℕ) → position_of e ≡ Some p → Late c 
     (λ p z l. absurd (omega arith)) (λ p z l. absurd (cc)) (λ p z l. absurd (cc)) (λ p z l. absurd (cc)) (λ p z l. let a : 3 ≡ p = cc
     in omega arith) (λ p z l. let a : 5 ≡ p = cc in omega arith) (λ p z l. absurd (cc))
 
+-- an event with a position from 3 on is late
 position_late : (c : Place) (e : Entry) → EntryAt R c e → (p : ℕ) → position_of e ≡ Some p → 3 ≤ p → Late c
 position_late = each (λ c e. (p : ℕ) → position_of e ≡ Some p → 3 ≤ p → Late c)
     (λ p z l. absurd (let a : 0 ≡ p = cc in omega arith)) (λ p z l. absurd (let a : 1 ≡ p = cc in omega arith)) (λ p z l. absurd (cc))
@@ -155,6 +163,7 @@ position_late = each (λ c e. (p : ℕ) → position_of e ≡ Some p → 3 ≤ p
     (λ p z l. absurd (let a : 2 ≡ p = cc in omega arith)) (λ p z l. absurd (cc)) (λ p z l. absurd (cc)) (λ p z l. absurd (cc))
     (λ p z l. inr (refl, omega arith)) (λ p z l. inr (refl, omega arith)) (λ p z l. absurd (cc))
 
+-- one step from a late place leads to a late one
 late_on : (c d : Place) → Late c → OrdersDirectly R c d → Late d
 late_on c d l (program_order o) = elim l [
   | inl a ↦ inl (sym o.0 ∙ a.0, (let x = a.1 in let y = o.1 in omega arith))
@@ -163,6 +172,7 @@ late_on c d l (program_order o) = elim l [
 late_on c d l (synchronizes p q r s ec ed lt sw) = let three = late_position c ec.entry ec.there p ec.position l
     in position_late d ed.entry ed.there q ed.position (omega arith)
 
+-- so does a chain of steps
 late_all : (c : Place) → Late c → {d : Place} → TransitiveClosure (OrdersDirectly R) c d → Late d
 late_all c l {d = d} (one_step s) = late_on c d l s
 late_all c l {d = d} (then_step {b = b} chain s) = late_on b d (late_all c l chain) s
@@ -193,14 +203,17 @@ no_edge b d e =
     let five : e.var ≡ 5 = refused_5 d e.refused e.here e.is_refused e.var o.later (rw second at o.also_numbered) in
     omega arith
 
+-- the first write happens before none of thread 1's first three entries
 unordered : (i : ℕ) → i < 3 → HappensBefore R (at 0 2) (at 1 i) → ⊥
 unordered i lt (by_steps chain) = let l = late_all (at 0 2) (inl (refl, omega arith)) chain in absurd (omega arith)
 unordered i lt (from_commit e) = no_edge (at 0 2) (at 1 i) e
 unordered i lt (through_commit b chain e) = no_edge b (at 1 i) e
 
+-- the write and the read of variable 5 are of two threads
 apart : (at 0 2).thread ≢ (at 1 1).thread
 apart e = cc
 
+-- thread 1's read of variable 5 is racy
 racy_read : IsRacy R (at 1 1) 5
 racy_read = record {
   other = at 0 2;
@@ -221,6 +234,7 @@ racy_read = record {
   unordered = unordered 1 (omega arith);
 }
 
+-- thread 1's attempt is racy on variable 5
 racy_attempt : IsRacy R (at 1 2) 5
 racy_attempt = record {
   other = at 0 2;
@@ -241,9 +255,11 @@ racy_attempt = record {
   unordered = unordered 2 (omega arith);
 }
 
+-- and on no variable below that
 none_below : (x : ℕ) → x < 5 → IsRacy R (at 1 2) x → ⊥
 none_below x lt r = let p = prior (at 1 2) A1 x refl r in let five : x ≡ 5 = (number_is 5 3 x p.later p.also).0 in absurd (omega arith)
 
+-- the record obeys the race law
 races : Races R
 races = each (λ c e. IsRaisedRightly R c e) tt tt (λ z. absurd (cc), λ r. absurd (none_on_5 (at 0 2) FirstWrite refl refl r))
     (λ z. absurd (cc), λ r. absurd (none_on_5 (at 0 3) C0 refl refl r)) tt
@@ -258,25 +274,31 @@ Right es i x write = (j : ℕ) × (j < i) × ((e : Entry) × At es j e
     × ((m : ℕ) × ((w : Bool) × GivesRight e x m w × (write ≡ true → w ≡ true))))
     × ((l : ℕ) (f : Entry) → At es l f → j < l → l < i → EndsRights f → ⊥)
 
+-- in thread 0's list the first write gives a right on variable 5, the read one on 8, and nothing else does
 gives0 : (j : ℕ) (e : Entry) → At es0 j e → (x m : ℕ) (w : Bool) → GivesRight e x m w → ((x ≡ 5) × (j ≡ 2)) ⊎ ((x ≡ 8) × (j ≡ 6))
 gives0 = entries0 (λ j e. (x m : ℕ) (w : Bool) → GivesRight e x m w → ((x ≡ 5) × (j ≡ 2)) ⊎ ((x ≡ 8) × (j ≡ 6)))
     (λ x m w g. absurd g) (λ x m w g. absurd g) (λ x m w g. inl (sym g.2, refl)) (λ x m w g. absurd (let z = g.0 in cc))
     (λ x m w g. absurd g) (λ x m w g. absurd g) (λ x m w g. inr (sym g.2, refl)) (λ x m w g. absurd g) (λ x m w g. absurd g)
 
+-- in thread 1's list the write of variable 8 gives a right, and nothing else does
 gives1 : (j : ℕ) (e : Entry) → At es1 j e → (x m : ℕ) (w : Bool) → GivesRight e x m w → (x ≡ 8) × (j ≡ 3)
 gives1 = entries1 (λ j e. (x m : ℕ) (w : Bool) → GivesRight e x m w → (x ≡ 8) × (j ≡ 3))
     (λ x m w g. absurd g) (λ x m w g. absurd (let z = g.1 in cc)) (λ x m w g. absurd g) (λ x m w g. (sym g.2, refl)) (λ x m w g. absurd g)
     (λ x m w g. absurd g) (λ x m w g. absurd g)
 
+-- neither thread 0's first write nor its read of variable 8 has a right before it
 no_right0 : (i x : ℕ) (write : Bool) → ((i ≡ 2) × (x ≡ 5)) ⊎ ((i ≡ 6) × (x ≡ 8)) → Right es0 i x write → ⊥
 no_right0 i x write here r = let g = gives0 r.0 r.2.0 r.2.1 x r.2.2.0 r.2.2.1.0 r.2.2.1.1 in let lt = r.1 in absurd (omega arith)
 
+-- neither thread 1's read of variable 5 nor its write of 8 has a right before it
 no_right1 : (i x : ℕ) (write : Bool) → ((i ≡ 1) × (x ≡ 5)) ⊎ ((i ≡ 3) × (x ≡ 8)) → Right es1 i x write → ⊥
 no_right1 i x write here r = let g = gives1 r.0 r.2.0 r.2.1 x r.2.2.0 r.2.2.1.0 r.2.2.1.1 in let lt = r.1 in absurd (omega arith)
 
+-- the first write gives the cached read its right
 right : Right es0 3 5 false
 right = (2, omega arith, (FirstWrite, refl, (0, (true, (refl, refl, refl, refl, refl), λ z. refl))), λ l f a m n. absurd (omega arith))
 
+-- each cached access has a right, and no numbered one had one
 sparing : Sparing R
 sparing zero i x k cached write raised value a =
     entries0 (λ i e. e ≡ Plain x k cached write value raised → (cached ≡ true) ↔ Right es0 i x write)
@@ -326,6 +348,7 @@ kinds = record {
     away : (at 1 3).thread ≢ (at 0 6).thread
     away e = cc
 
+-- there is a record that every definition accepts
 pub whole : AreMet
 whole = record {
   lists = R;

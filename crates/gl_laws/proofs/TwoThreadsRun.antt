@@ -14,9 +14,11 @@ use Rattle.gl_model.specs.Records.{Place, EntryAt, IsEventAt, IsEventList, posit
 use Rattle.gl_laws.proofs.SmallRecords.{at, other}
 use Rattle.gl_laws.proofs.TwoThreads.{B0, F0, K0, E0, B1, K1, E1, es1, R, each}
 
+-- an event with its thread
 abbrev pub stamp : ℕ → Event → Stamp
 stamp t e = record { thread = t; event = e }
 
+-- the list of events: seven of them
 abbrev pub h : List Stamp
 h = stamp 0 (Does (Begin 0)) ∷ stamp 0 (Does (Fork 1 0)) ∷ stamp 1 (Does (Begin 0)) ∷ stamp 1 (Commits (6 ∷ []))
     ∷ stamp 0 (Commits (6 ∷ [])) ∷ stamp 1 (Does End) ∷ stamp 0 (Does End) ∷ []
@@ -44,6 +46,7 @@ events P b f b' k' k e' e = each (λ c x. (p : ℕ) (s : Stamp) → position_of 
     (λ p s i j o. let a : 3 ≡ p = cc in rw (sym a, stamp_is 1 (Commits (6 ∷ [])) s j o) k') (λ p s i j o. let a : 5 ≡ p = cc
     in rw (sym a, stamp_is 1 (Does End) s j o) e') (λ p s i j o. absurd (cc))
 
+-- the place of the event at each position
 abbrev where_is : ℕ → Place
 where_is zero = at 0 0
 where_is (suc zero) = at 0 1
@@ -53,6 +56,7 @@ where_is (suc (suc (suc (suc zero)))) = at 0 5
 where_is (suc (suc (suc (suc (suc zero))))) = at 1 5
 where_is (suc (suc (suc (suc (suc (suc p)))))) = at 0 7
 
+-- that is the record's list of events
 pub listed : IsEventList h R
 listed = record {
   listed = λ c p s e. events (λ c p x s. EventAt h p s) refl refl refl refl refl refl refl c e.entry e.there p s e.position e.event e.own;
@@ -84,21 +88,27 @@ listed = record {
 abbrev pub s0 : State
 s0 = start trace_setting
 
+-- once thread 0 has begun
 abbrev pub s1 : State
 s1 = record s0 { threads = with_at s0.threads 0 Running }
 
+-- once thread 1 is forked
 abbrev pub s2 : State
 s2 = record s1 { threads = with_at s1.threads 1 (Forked 0 (pos 1)) }
 
+-- once thread 1 has begun; the commits change nothing
 abbrev pub s3 : State
 s3 = record s2 { threads = with_at s2.threads 1 Running }
 
+-- once thread 1 has ended
 abbrev pub s6 : State
 s6 = record s3 { threads = with_at s3.threads 1 Ended }
 
+-- once both have ended
 abbrev pub s7 : State
 s7 = record s6 { threads = with_at s6.threads 0 Ended }
 
+-- the state before each position
 abbrev states : ℕ → State
 states zero = s0
 states (suc zero) = s1
@@ -109,27 +119,35 @@ states (suc (suc (suc (suc (suc zero))))) = s3
 states (suc (suc (suc (suc (suc (suc zero)))))) = s6
 states (suc (suc (suc (suc (suc (suc (suc p))))))) = s7
 
+-- thread 0's begin is a step
 pub step_begin : Step trace_setting s0 (stamp 0 (Does (Begin 0))) (pos 0) s1
 step_begin = record { may = refl; effect = refl }
 
+-- the fork is a step
 pub step_fork : Step trace_setting s1 (stamp 0 (Does (Fork 1 0))) (pos 1) s2
 step_fork = record { may = refl; effect = ((omega arith, omega arith, refl, (0, omega arith, refl), λ e. absurd (cc)), refl) }
 
+-- thread 1's begin is a step
 pub step_begun : Step trace_setting s2 (stamp 1 (Does (Begin 0))) (pos 1) s3
 step_begun = record { may = refl; effect = refl }
 
+-- thread 1's commit is a step
 step_commit_1 : Step trace_setting s3 (stamp 1 (Commits (6 ∷ []))) (pos 0) s3
 step_commit_1 = record { may = refl; effect = refl }
 
+-- thread 0's commit is a step
 step_commit_0 : Step trace_setting s3 (stamp 0 (Commits (6 ∷ []))) (pos 0) s3
 step_commit_0 = record { may = refl; effect = refl }
 
+-- thread 1's end is a step
 pub step_end_1 : Step trace_setting s3 (stamp 1 (Does End)) (pos 0) s6
 step_end_1 = record { may = refl; effect = refl }
 
+-- thread 0's end is a step
 pub step_end_0 : Step trace_setting s6 (stamp 0 (Does End)) (pos 0) s7
 step_end_0 = record { may = refl; effect = refl }
 
+-- the events are a run of the machine
 pub machine : IsMachineRun trace_setting R h
 machine = record {
   at = states;

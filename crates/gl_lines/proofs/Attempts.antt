@@ -12,6 +12,7 @@ use Rattle.gl_draws.proofs.DrawPlaces.{draw_below}
 use Rattle.gl_draws.proofs.DrawTies.{kept_push}
 use Rattle.gl_draws.proofs.Pushes.{at_new, at_cases, at_within}
 
+-- 1 where it is so, and else 0
 abbrev one_if : Bool → ℕ
 one_if b = if b then 1 else 0
 

@@ -78,9 +78,11 @@ attempt_stays h y t q p e b c ds row none s = own b refl
     own true is = let n = none is in row_stays trace_setting h y (with_look c t q ds) row (look c) (draw t p (Entered e)) n.0 n.1
     own false is = look c
 
+-- what is no variable of the commit is not touched by it
 not_touched : (reads writes : List ℕ) (y : ℕ) → (Contains (with_all writes reads) y → ⊥) → touches reads writes y ≡ true → ⊥
 not_touched reads writes y none is = none (is_in-contains y (with_all writes reads) (is_in-touches reads writes y ∙ is))
 
+-- what was raised is no performed write
 raised_writes : (w : Bool) → (w && not true) ≡ false
 raised_writes true = refl
 raised_writes false = refl
@@ -129,6 +131,7 @@ module _ (s : Traced) (t : ℕ) (y : ℕ) (row : Row) (stands : RowStands trace_
       attempt_stays s.history y t (block_of t s) (block_of t s) (refused_entry reads writes var s) (touches reads writes y) (is_in y reads)
       (s.draws y) row (λ i. (refl, refl)) stands
 
+-- a row stands on at a line that does not access its variable, or was raised
 pub stay_law : RowsStay
 stay_law lines l sound y row stands when =
     subst (λ (z : Traced). RowStands trace_setting z.history y (z.draws y) row) (sym (traced_push lines l))
@@ -267,6 +270,7 @@ module _ (lines : List Line) (s : Traced) (now : State) (r : IsRecorded s now) (
       both false true k = let z : false ≡ true = k.1 refl in z
       both false false k = refl
 
+-- a row stands with the line's access noted, where the Info stands for that
 pub follow_law : RowsFollow
 follow_law lines l sound y old new i stands access performed f marks n =
     let k = sound_traced lines (sound_front lines l sound) in

@@ -30,6 +30,7 @@ use Rattle.gl_draws.proofs.Runs.{allows_push}
 use Rattle.gl_lines.proofs.TraceEvents.{DrawFits, fits_grow, IsGoing, IsRecorded, zero_push, each_list, alone_push, formed_push, zeros_push, going_grows, going_new}
 use Rattle.gl_lines.proofs.TracePlain.{going_push, block_is, block_here, block_goes_on, own_below}
 
+-- what holds of an attempt's look, of its own draw and of all before holds of each draw with them
 pub each_attempt : (P : Draw → List Draw → Type 0) (t q p : ℕ) (e : Entry) (b c : Bool) (ds : List Draw)
     → (c ≡ true → P (draw t q (Looked (pos 0))) ds) → (b ≡ true → P (draw t p (Entered e)) (with_look c t q ds)) → EachDraw P ds
     → EachDraw P (with_own b t p e (with_look c t q ds))
@@ -38,6 +39,7 @@ each_attempt P t q p e true false ds look own all = (own refl, all)
 each_attempt P t q p e false true ds look own all = (look refl, all)
 each_attempt P t q p e false false ds look own all = all
 
+-- with its look, if it has one, there are as many draws more
 look_length : (t q : ℕ) (c : Bool) (ds : List Draw) → length (with_look c t q ds) ≡ length ds + (if c then 1 else 0)
 look_length t q true ds = omega arith
 look_length t q false ds = omega arith

@@ -32,13 +32,16 @@ use Rattle.gl_lines.proofs.TraceSound.{sound_traced}
 abbrev pub over_of : ℕ → Traced → Traced
 over_of t s = record { tracing = with_over t s.tracing; history = s.history; draws = s.draws }
 
+-- thread t, if it has begun, makes its End, if it has not, and its list is over
 abbrev pub ending_of : ℕ → Traced → Traced
 ending_of t s = if is_empty (s.tracing.lists t) then s else over_of t (if s.tracing.ended t then s else with_last t s)
 
+-- so do the threads below n, by rising number
 abbrev pub endings_of : ℕ → Traced → Traced
 endings_of zero s = s
 endings_of (suc n) s = ending_of n (endings_of n s)
 
+-- with Over at the end of a list all belongs together still
 over_recorded : (s : Traced) (now : State) (t : ℕ) → IsRecorded s now → IsRecorded (over_of t s) now
 over_recorded s now t r = record {
   allowed = r.allowed;
@@ -237,6 +240,7 @@ ending_tracing t s = outer (is_empty (s.tracing.lists t)) (s.tracing.ended t)
     outer false true = refl
     outer false false = refl
 
+-- the record that these leave is the record with its endings
 endings_tracing : (n : ℕ) (s : Traced) → (endings_of n s).tracing ≡ with_endings n s.tracing
 endings_tracing zero s = refl
 endings_tracing (suc n) s = ending_tracing n (endings_of n s) ∙ ap (with_ending n) (endings_tracing n s)

@@ -37,6 +37,7 @@ pub fits_holds : (h : List Stamp) (x : ℕ) (d : Draw) (ds : List Draw) → Draw
     → DrawHolds h x d ds
 fits_holds h x d ds f r = record { placed = f.placed; rises = f.rises; agrees = f.agrees; named = f.named; right = r }
 
+-- what holds of each draw, whatever was said of it, holds with more events
 pub fits_grow : (h more : List Stamp) (x : ℕ) (ds : List Draw) → EachDraw (DrawFits h x) ds → EachDraw (DrawFits (h ++ more) x) ds
 fits_grow h more x ds all = each_map (DrawFits h x) (DrawFits (h ++ more) x)
     (λ d es f. record { placed = placed_grows h more d f.placed; rises = f.rises; agrees = f.agrees; named = f.named }) ds all
@@ -52,6 +53,7 @@ abbrev pub RunsZero : Setting → State → List Stamp → State → Type 0
 RunsZero setting old [] new = new ≡ old
 RunsZero setting old (s ∷ rest) new = (mid : State) × Step setting old s (pos 0) mid × RunsZero setting mid rest new
 
+-- a run with values 0 and one step more with value 0 is such a run
 pub zero_push : (setting : Setting) (old mid new : State) (l : List Stamp) (s : Stamp) → Step setting mid s (pos 0) new
     → RunsZero setting old l mid → RunsZero setting old (l ++ s ∷ []) new
 zero_push setting old mid new [] s step r = (new, subst (λ k. Step setting k s (pos 0) new) r step, refl)
@@ -78,9 +80,11 @@ pub record IsRecorded (s : Traced) (now : State) : Type 0 where
 pub entry_own : (R : Lists) (t : ℕ) (e : Entry) → with_entry R t e t ≡ R t ++ e ∷ []
 entry_own R t e = let b : (t == t) ≡ true = eq-eqb t t refl in rw b refl
 
+-- the lists of the other threads stay as they were
 pub entry_else : (R : Lists) (t w : ℕ) (e : Entry) → w ≢ t → with_entry R t e w ≡ R w
 entry_else R t w e other = let b : (w == t) ≡ false = ne_eqb w t other in rw b refl
 
+-- what holds of the longer list and of all others holds of each list
 pub each_list : (P : ℕ → List Entry → Type 0) (R : Lists) (t : ℕ) (e : Entry) → P t (R t ++ e ∷ []) → ((w : ℕ) → w ≢ t → P w (R w))
     → (w : ℕ) → P w (with_entry R t e w)
 each_list P R t e own others w = elim (ℕ_discrete w t) [

@@ -43,6 +43,7 @@ act_tracing t Print s = refl
 act_tracing t Input s = refl
 act_tracing t (Fail c) s = refl
 
+-- a line leaves the record that it leaves by itself
 item_tracing : (t : ℕ) (item : Item) (judged : Judged) (s : Traced) → (after_item t item judged s).tracing
     ≡ with_item t item judged s.tracing
 item_tracing t (Acts act) judged s = act_tracing t act s
@@ -53,10 +54,12 @@ item_tracing t (CommitsOn reads writes) NoAccess s = refl
 item_tracing t (CommitsOn reads writes) Performed s = refl
 item_tracing t (CommitsOn reads writes) (Raised var) s = refl
 
+-- lines leave the record that they leave by themselves
 pub each_tracing : (lines : List Line) (s : Traced) → (after_each lines s).tracing ≡ after_lines lines s.tracing
 each_tracing [] s = refl
 each_tracing (l ∷ lines) s = each_tracing lines (after_line l s) ∙ ap (after_lines lines) (item_tracing l.thread l.item l.judged s)
 
+-- the lists that are followed are those of the record after the lines
 pub lists_are : (lines : List Line) → (traced lines).tracing.lists ≡ lists_behind lines
 lists_are lines = ap (λ (t : Tracing). t.lists) (each_tracing lines at_first)
 
@@ -66,6 +69,7 @@ get_front [] ys k x e = absurd (cc)
 get_front (z ∷ xs) ys zero x e = e
 get_front (z ∷ xs) ys (suc k) x e = get_front xs ys k x e
 
+-- the new member stands at the end
 pub get_last : {A : Type 0} (xs : List A) (x : A) → slice_get (xs ++ x ∷ []) (length xs) ≡ Some x
 get_last [] x = refl
 get_last (z ∷ xs) x = get_last xs x
@@ -111,6 +115,7 @@ module _ (lines : List Line) (l : Line) (sound : AreSound (lines ++ l ∷ [])) w
 abbrev pub JudgedThere : List Line → Line → Type 0
 JudgedThere lines l = IsJudgedRightly (lists_behind lines) (last_place (lists_behind lines) l.thread) l.item l.judged
 
+-- verdicts and one more that is right in its record are verdicts
 pub verdicts_push : (lines : List Line) (l : Line) → AreVerdicts lines → JudgedThere (lines ++ l ∷ []) l → AreVerdicts (lines ++ l ∷ [])
 verdicts_push lines l all last k m e = elim (cases_lt k (length lines)) [
   | inl near ↦
@@ -134,12 +139,15 @@ verdicts_push lines l all last k m e = elim (cases_lt k (length lines)) [
       subst (λ ls. JudgedThere ls m) (sym whole) (subst (λ (z : Line). JudgedThere (lines ++ l ∷ []) z) same last))
 ]
 
+-- the machine allows the events of a sound trace, and its state is as the steps leave it
 pub allowed_law : TraceIsAllowed
 allowed_law lines sound = let t = sound_traced lines sound in (t.0, t.1.recorded.allowed, t.1.state)
 
+-- a thread runs in that state exactly where the steps say so
 pub runs_law : RunsAsSaid
 runs_law lines now k t = (λ r. runs_back (steps_of lines) now k t r, λ r. runs (steps_of lines) now k t r)
 
+-- the lists of a sound trace are those of its events and draws, without a repeat
 pub tied_law : TraceIsTied
 tied_law lines sound = let t = sound_traced lines sound in made t.0 t.1
   where
@@ -181,6 +189,7 @@ module _ (lines : List Line) (sound : AreSound lines) (right : AreVerdicts lines
     | inr c ↦ absurd (let m = c.0 in omega arith)
   ]
 
+-- where the verdicts are right, what they say of each draw holds
 pub hold_law : VerdictsHold
 hold_law lines sound right = subst (λ ls. (x : ℕ) → DrawsHold (history ls) x (draws_of ls x)) (take_all (length lines) lines (omega arith))
     (holds_to lines sound right (length lines) (omega arith))

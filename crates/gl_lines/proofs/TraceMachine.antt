@@ -16,10 +16,12 @@ use Rattle.gl_model.specs.Machine.{Running, MonitorState, Free, Owned, State, St
 use Rattle.gl_model.specs.TraceSteps.{Step as Said, Hold, act_forks, item_forks, act_joins, item_joins, is_started, is_ended, is_running, entered, left, act_leaves, item_leaves, holder, is_held_by, act_fault}
 use Rattle.gl_lines.specs.TraceStates.{thread_of, monitor_of, IsStateOf}
 
+-- a test or one that fails is the test
 pub or_false : (b : Bool) → (b || false) ≡ b
 or_false true = refl
 or_false false = refl
 
+-- of three tests, which two are asked first does not matter
 or_assoc : (a b c : Bool) → (a || (b || c)) ≡ ((a || b) || c)
 or_assoc true b c = refl
 or_assoc false b c = refl
@@ -32,11 +34,13 @@ started_push steps s u =
     ∙ ap (λ b. list_any (λ (r : Said). item_forks u r.1) steps || b) one)
     ∙ or_assoc (u == 0) (list_any (λ (r : Said). item_forks u r.1) steps) (item_forks u s.1)
 
+-- with a step more a thread has ended where it had, or where the step joins it
 pub ended_push : (steps : List Said) (s : Said) (u : ℕ) → is_ended (steps ++ s ∷ []) u ≡ (is_ended steps u || item_joins u s.1)
 ended_push steps s u =
     let one : list_any (λ (r : Said). item_joins u r.1) (s ∷ []) ≡ item_joins u s.1 = or_false (item_joins u s.1) in
     list_any-append (λ (r : Said). item_joins u r.1) steps (s ∷ []) ∙ ap (λ b. list_any (λ (r : Said). item_joins u r.1) steps || b) one
 
+-- with a step more a monitor is held as the step leaves it
 pub holder_push : (steps : List Said) (s : Said) (m : ℕ) → holder m (steps ++ s ∷ []) ≡ item_leaves m s.0 s.1 (holder m steps)
 holder_push steps s m = fold-append (λ held (r : Said). item_leaves m r.0 r.1 held) None steps (s ∷ [])
 
@@ -45,6 +49,7 @@ record IsQuiet (s : Said) : Type 0 where
   forks : (u : ℕ) → item_forks u s.1 ≡ false
   joins : (u : ℕ) → item_joins u s.1 ≡ false
 
+-- a step that forks and joins no thread leaves each thread as it was
 threads_push : (steps : List Said) (s : Said) → IsQuiet s → (u : ℕ)
     → thread_of (is_started (steps ++ s ∷ []) u) (is_ended (steps ++ s ∷ []) u) ≡ thread_of (is_started steps u) (is_ended steps u)
 threads_push steps s q u =
@@ -59,6 +64,7 @@ pub record AreKept (steps : List Said) : Type 0 where
   pub started : (u : ℕ) → is_ended steps u ≡ true → is_started steps u ≡ true
   pub entered_once : (m owner depth : ℕ) → holder m steps ≡ Some (owner, depth) → 0 < depth
 
+-- no steps keep to all that
 pub none_kept : AreKept []
 none_kept = record { started = λ u e. absurd (cc); entered_once = λ m o d e. absurd (cc) }
 
@@ -69,6 +75,7 @@ clean_parts true r o e = absurd (cc)
 clean_parts false true o e = (refl, refl, e)
 clean_parts false false o e = absurd (cc)
 
+-- who runs was started and has not ended
 pub running_parts : (a b : Bool) → (a && not b) ≡ true → (a ≡ true) × (b ≡ false)
 running_parts true true e = absurd (cc)
 running_parts true false e = (refl, refl)
@@ -80,11 +87,13 @@ runs steps now k t r =
     let p = running_parts (is_started steps t) (is_ended steps t) r in
     k.threads t ∙ ap (λ z. thread_of z (is_ended steps t)) p.0 ∙ ap (thread_of true) p.1
 
+-- a thread whose state is running was started and has not ended
 running_only : (a b : Bool) → thread_of a b ≡ Running → (a && not b) ≡ true
 running_only a true e = absurd (cc)
 running_only true false e = refl
 running_only false false e = absurd (cc)
 
+-- a thread that runs in the state runs by the steps
 pub runs_back : (steps : List Said) (now : State) → IsStateOf steps now → (t : ℕ) → now.threads t ≡ Running → is_running steps t ≡ true
 runs_back steps now k t r = running_only (is_started steps t) (is_ended steps t) (sym (k.threads t) ∙ r)
 
@@ -111,10 +120,12 @@ kept_quiet steps s k joins leaves = record {
         ∙ or_false (is_ended steps u)) ∙ e in
         started_push steps s u ∙ ap (λ b. b || item_forks u s.1) (k.started u was)
 
+-- a step that joins none and leaves monitors as they are keeps to it
 pub quiet_kept : (steps : List Said) (s : Said) → AreKept steps → ((u : ℕ) → item_joins u s.1 ≡ false)
     → ((m : ℕ) (held : Hold) → item_leaves m s.0 s.1 held ≡ held) → AreKept (steps ++ s ∷ [])
 quiet_kept = kept_quiet
 
+-- a state with the same threads and monitors is that after a step that changes neither
 pub quiet_state : (steps : List Said) (s : Said) (now new : State) → IsStateOf steps now → ((u : ℕ) → item_forks u s.1 ≡ false)
     → ((u : ℕ) → item_joins u s.1 ≡ false) → ((m : ℕ) (held : Hold) → item_leaves m s.0 s.1 held ≡ held) →
     ((u : ℕ) → new.threads u ≡ now.threads u) → ((m : ℕ) → new.monitors m ≡ now.monitors m) → IsStateOf (steps ++ s ∷ []) new
@@ -123,9 +134,11 @@ quiet_state steps s now new k forks joins leaves threads monitors = record {
   monitors = λ m. monitors m ∙ k.monitors m ∙ ap monitor_of (sym (holder_push steps s m ∙ leaves m (holder m steps)));
 }
 
+-- a monitor that its owner has entered so many times
 abbrev owned_by : ℕ → ℕ → Hold
 owned_by owner depth = Some (owner, depth)
 
+-- equal holds are of one depth
 same_depth : (o d p e : ℕ) → owned_by o d ≡ owned_by p e → d ≡ e
 same_depth o d p e h = let pair : ◌≡◌ {A = ℕ × ℕ} (o, d) (p, e) = cc in ap (λ (z : ℕ × ℕ). z.1) pair
 
@@ -139,21 +152,26 @@ enter_parts t (Some (owner, depth)) e = inr (depth, here (t == owner) refl e)
     here true is e = ap (λ (o : ℕ). owned_by o depth) (sym (eqb-true t owner is))
     here false is e = absurd (cc)
 
+-- a monitor that t holds is held by t at some depth
 leave_parts : (t : ℕ) (held : Hold) → is_held_by t held ≡ true → (depth : ℕ) × (held ≡ Some (t, depth))
 leave_parts t None e = absurd (cc)
 leave_parts t (Some (owner, depth)) e = (depth, ap (λ (o : ℕ). owned_by o depth) (sym (eqb-true t owner e)))
 
+-- where the test gives no fault, it fails
 pub if_none : (b : Bool) (f : StepFault) → (if b then Some f else None) ≡ None → b ≡ false
 if_none true f e = absurd (cc)
 if_none false f e = refl
 
+-- where its other branch gives no fault, the test holds
 else_none : (b : Bool) (f : StepFault) → (if b then None else Some f) ≡ None → b ≡ true
 else_none true f e = refl
 else_none false f e = absurd (cc)
 
+-- at the place that was changed stands the new value
 pub with_at-here : {A : Type 0} (f : ℕ → A) (k : ℕ) (a : A) → with_at f k a k ≡ a
 with_at-here f k a = let b : (k == k) ≡ true = eq-eqb k k refl in rw b refl
 
+-- at any other place stands what stood there
 pub with_at-else : {A : Type 0} (f : ℕ → A) (k j : ℕ) (a : A) → j ≢ k → with_at f k a j ≡ f j
 with_at-else f k j a other = let b : (j == k) ≡ false = ne_eqb j k other in rw b refl
 

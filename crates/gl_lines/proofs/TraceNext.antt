@@ -47,15 +47,18 @@ use Rattle.gl_lines.proofs.TraceRaces.{racy_alike}
 abbrev pub end_place : Lists → ℕ → Place
 end_place R t = record { thread = t; index = length (R t) }
 
+-- the last place of the longer list is its end
 pub last_is : (R : Lists) (t : ℕ) (e : Entry) → last_place (with_entry R t e) t ≡ end_place R t
 last_is R t e =
     let n : length (with_entry R t e t) ≡ length (R t) + 1 = ap length (entry_own R t e) ∙ length-append (R t) (e ∷ []) in
     let m : length (with_entry R t e t) - 1 ≡ length (R t) = omega arith in
     λ i. record { thread = t; index = m i }
 
+-- there stands the new entry
 pub there : (R : Lists) (t : ℕ) (e : Entry) → EntryAt (with_entry R t e) (end_place R t) e
 there R t e = subst (λ es. Rattle.std.specs.Prelude.slice_get es (length (R t)) ≡ Some e) (sym (entry_own R t e)) (at_new (R t) e)
 
+-- the list is one longer
 ends : (R : Lists) (t : ℕ) (e : Entry) → length (with_entry R t e t) ≡ length (R t) + 1
 ends R t e = ap length (entry_own R t e) ∙ length-append (R t) (e ∷ [])
 
@@ -69,6 +72,7 @@ commit_entry_of (Commit at tx) ys e = (
 commit_entry_of (Sync at act value) ys e = absurd (cc)
 commit_entry_of _ ys e = absurd (cc)
 
+-- each variable of a transaction has a number of its own
 number_of : (tx : _) → NumbersName tx (variables_of tx) → (x : ℕ) → Contains (variables_of tx) x → (k : ℕ)
     × Contains tx.numbers (record { var = x; nth = k })
 number_of tx names x c =
@@ -76,6 +80,7 @@ number_of tx names x c =
     let same : m.0 ≡ record { var = x; nth = m.0.nth } = (λ i. record { var = m.2 i; nth = m.0.nth }) in
     (m.0.nth, subst (Contains tx.numbers) same m.1)
 
+-- a number of its own is on a variable of the transaction
 variable_of : (tx : _) → NumbersName tx (variables_of tx) → (x k : ℕ) → Contains tx.numbers (record { var = x; nth = k })
     → Contains (variables_of tx) x
 variable_of tx names x k c = subst (λ vs. Contains vs x) names.variables

@@ -38,9 +38,11 @@ act_so_far t act s k = record {
       (λ x m n. absurd n) k.races tt;
 }
 
+-- with a thread's End the record so far obeys the race law still
 end_so_far : (t : ℕ) (s : Tracing) → IsSoFar s → IsSoFar (with_end t s)
 end_so_far t s k = let m = act_so_far t End s k in record { below = m.below; races = m.races }
 
+-- with the events of a line that is no access it does too
 line_so_far : (t : ℕ) (act : Act) (s : Tracing) → IsSoFar s → IsSoFar (with_line t act s)
 line_so_far t (Begin f) s k = act_so_far t (Begin f) s k
 line_so_far t End s k = act_so_far t End s k
@@ -137,6 +139,7 @@ module _ (t : ℕ) (reads writes : List ℕ) (s : Tracing) (k : IsSoFar s) where
 moved : (P : Place → Type 0) (R : Lists) (t : ℕ) (e : Entry) → P (last_place (with_entry R t e) t) → P (end_place R t)
 moved P R t e p = subst P (last_is R t e) p
 
+-- with a line that is judged rightly it does too
 item_so_far : (t : ℕ) (item : Item) (judged : Judged) (s : Tracing) → IsSoFar s
     → IsJudgedRightly (with_item t item judged s).lists (last_place (with_item t item judged s).lists t) item judged
     → IsSoFar (with_item t item judged s)
@@ -169,6 +172,7 @@ over_so_far t s k = record {
   races = races_push s.lists s.next s.numbers k.below t (Over Halt) (λ p z. absurd (cc)) (λ x m n. absurd n) k.races tt;
 }
 
+-- with the ending of a thread it does too
 ending_so_far : (t : ℕ) (s : Tracing) → IsSoFar s → IsSoFar (with_ending t s)
 ending_so_far t s k = outer (is_empty (s.lists t))
   where
@@ -180,10 +184,12 @@ ending_so_far t s k = outer (is_empty (s.lists t))
     outer true = k
     outer false = over_so_far t (if s.ended t then s else with_end t s) (inner (s.ended t))
 
+-- with the endings of the threads below n it does too
 endings_so_far : (n : ℕ) (s : Tracing) → IsSoFar s → IsSoFar (with_endings n s)
 endings_so_far zero s k = k
 endings_so_far (suc n) s k = ending_so_far n (with_endings n s) (endings_so_far n s k)
 
+-- before the first line it does
 first_so_far : IsSoFar before_lines
 first_so_far = act_so_far 0 (Begin 0) (record { lists = λ _. []; next = 0; numbers = λ _. 0; ended = λ _. false })
     (record {
@@ -191,11 +197,13 @@ first_so_far = act_so_far 0 (Begin 0) (record { lists = λ _. []; next = 0; numb
       races = λ c e there. absurd (cc);
     })
 
+-- the record after a line more is that with the line's entries
 after_push : (lines : List Line) (l : Line) (s : Tracing) → after_lines (lines ++ l ∷ []) s
     ≡ with_item l.thread l.item l.judged (after_lines lines s)
 after_push [] l s = refl
 after_push (m ∷ lines) l s = after_push lines l (with_item m.thread m.item m.judged s)
 
+-- after each number of lines with right verdicts it does
 lines_so_far : (lines : List Line) → AreVerdicts lines → (k : ℕ) → k ≤ length lines → IsSoFar (after_lines (take k lines) before_lines)
 lines_so_far lines right zero le = first_so_far
 lines_so_far lines right (suc k) le = elim ((slice_get_cases lines k).1) [
@@ -217,6 +225,7 @@ lines_so_far lines right (suc k) le = elim ((slice_get_cases lines k).1) [
   | inr c ↦ absurd (let m = c.0 in omega arith)
 ]
 
+-- where the verdicts are right, the record of the trace obeys the race law
 pub record_races : RecordRaces
 record_races lines right =
     let k : IsSoFar (after_lines lines before_lines) =

@@ -23,18 +23,22 @@ pub record IsShaped (over : Bool) (es : List Entry) : Type 0 where
 abbrev IsUsual : Entry → Type 0
 IsUsual e = (IsTrim e → ⊥) × (IsOver e → ⊥) × (IsEnd e → ⊥)
 
+-- a list that is not empty has an entry
 long : (es : List Entry) → is_empty es ≡ false → 0 < length es
 long [] e = absurd (cc)
 long (x ∷ es) e = omega arith
 
+-- a list with an entry more is not empty
 empty_push : (es : List Entry) (e : Entry) → is_empty (es ++ e ∷ []) ≡ false
 empty_push [] e = refl
 empty_push (x ∷ es) e = refl
 
+-- a list that is empty by the test is the empty one
 pub empty_is : (es : List Entry) → is_empty es ≡ true → es ≡ []
 empty_is [] e = refl
 empty_is (x ∷ es) e = absurd (cc)
 
+-- a list of a thread that goes on keeps its shape with a usual entry
 pub shaped_push : (es : List Entry) (e : Entry) → IsShaped false es → is_empty es ≡ false → IsUsual e → IsShaped false (es ++ e ∷ [])
 shaped_push es e k some usual = record {
   first = λ f a. elim (at_cases es e f 0 a) [
@@ -50,6 +54,7 @@ shaped_push es e k some usual = record {
   last_end = λ z. absurd (let u : false ≡ true = z in cc);
 }
 
+-- with End it has the shape of a thread that has ended
 pub shaped_end : (es : List Entry) (p : ℕ) → IsShaped false es → is_empty es ≡ false → IsShaped true (es ++ Sync p End (pos 0) ∷ [])
 shaped_end es p k some = record {
   first = λ f a. elim (at_cases es (Sync p End (pos 0)) f 0 a) [
@@ -74,6 +79,7 @@ shaped_end es p k some = record {
   ];
 }
 
+-- Begin alone has the shape of a thread that goes on
 shaped_begin : (p f : ℕ) → IsShaped false (Sync p (Begin f) (pos 0) ∷ [])
 shaped_begin p f = record {
   first = λ e a. let same : Sync p (Begin f) (pos 0) ≡ e = cc in subst IsBegin same tt;
@@ -87,6 +93,7 @@ shaped_begin p f = record {
     only zero e a = cc
     only (suc i) e a = absurd (cc)
 
+-- an empty list has the shape of a thread that goes on
 pub shaped_none : (b : Bool) → b ≡ false → IsShaped b []
 shaped_none b is = record {
   first = λ e a. absurd (cc);

@@ -21,10 +21,12 @@ nothing = record { tracing = record { lists = λ _. []; next = 0; numbers = λ _
 abbrev pub first_state : State
 first_state = record (start trace_setting) { threads = with_at (start trace_setting).threads 0 Running }
 
+-- at the start no thread runs
 none_runs : (b : Bool) → (if b then Forked 0 (pos 0) else NeverForked) ≡ Running → ⊥
 none_runs true e = cc
 none_runs false e = cc
 
+-- where nothing was made all belongs together
 nothing_recorded : IsRecorded nothing (start trace_setting)
 nothing_recorded = record {
   allowed = refl;
@@ -51,9 +53,11 @@ nothing_recorded = record {
   zero_run = refl;
 }
 
+-- the begin of thread 0 is a step from the start
 begins : Step trace_setting (start trace_setting) (record { thread = 0; event = Does (Begin 0) }) (pos 0) first_state
 begins = record { may = refl; effect = refl }
 
+-- before the first line all belongs together
 first_recorded : IsRecorded at_first first_state
 first_recorded = event_recorded nothing (start trace_setting) nothing_recorded 0 (Begin 0) first_state begins (λ v. refl) (λ r e. cc) others
   where
@@ -65,6 +69,7 @@ first_recorded = event_recorded nothing (start trace_setting) nothing_recorded 0
         here true e i = absurd (other (Rattle.std.proofs.lemmas.Bool.eqb-true w 0 e))
         here false e i = absurd (cc)
 
+-- what is there before the first line belongs to no steps
 pub first_traced : IsTraced [] at_first first_state
 first_traced = record {
   recorded = first_recorded;
@@ -82,12 +87,15 @@ pub each_push : (lines : List Line) (l : Line) (s : Traced) → after_each (line
 each_push [] l s = refl
 each_push (k ∷ lines) l s = each_push lines l (after_line k s)
 
+-- what the lines leave with one more is what that leaves after them
 pub traced_push : (lines : List Line) (l : Line) → traced (lines ++ l ∷ []) ≡ after_line l (traced lines)
 traced_push lines l = each_push lines l at_first
 
+-- the steps with one line more are those and its own
 pub steps_push : (lines : List Line) (l : Line) → steps_of (lines ++ l ∷ []) ≡ steps_of lines ++ (l.thread, l.item) ∷ []
 steps_push lines l = map-append (λ (k : Line). (k.thread, k.item)) lines (l ∷ [])
 
+-- the first k + 1 are the first k, and then the one at k
 pub take_one : {A : Type 0} (xs : List A) (k : ℕ) (x : A) → slice_get xs k ≡ Some x → take (suc k) xs ≡ take k xs ++ x ∷ []
 take_one [] k x e = absurd (cc)
 take_one (y ∷ xs) zero x e = let same : y ≡ x = cc in rw same refl

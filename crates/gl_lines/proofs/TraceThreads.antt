@@ -16,10 +16,12 @@ use Rattle.gl_lines.proofs.TraceMachine.{AreKept, started_push, ended_push, hold
 zero_started : (steps : List Said) (u : ℕ) → is_started steps u ≡ false → u ≢ 0
 zero_started steps u e zero' = let b : (u == 0) ≡ true = eq-eqb u 0 zero' in let s : is_started steps u ≡ true = rw b refl in cc
 
+-- a test or one that holds holds
 or_true : (b : Bool) → (b || true) ≡ true
 or_true true = refl
 or_true false = refl
 
+-- a join that is no fault is by a thread that runs, and of another
 pub join_parts : (a b : Bool) → (if not a then Some NotRunning else if b then Some JoinSelf else None) ≡ None → (a ≡ true) × (b ≡ false)
 join_parts true true e = absurd (cc)
 join_parts true false e = (refl, refl)

@@ -59,6 +59,7 @@ among_next h x ds t q f r upto = record {
       reached = k.1.3;
     })
 
+-- a next plain access that is racy is racy among the draws, in any block
 pub next_among : (h : List Stamp) (x : ℕ) (ds : List Draw) (t q : ℕ) (f : Entry) → IsRacyNext h x ds t None f → IsRacyAmong h x ds t q f
 next_among h x ds t q f r = record {
   earlier = r.earlier;

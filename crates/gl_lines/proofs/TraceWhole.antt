@@ -24,6 +24,7 @@ use Rattle.gl_lines.proofs.TraceEvents.{IsRecorded, RunsZero}
 use Rattle.gl_lines.proofs.TraceRaces.{tied_of}
 use Rattle.gl_lines.proofs.TraceShapes.{IsShaped, empty_is}
 
+-- a Begin is no trim
 begin_no_trim : (e : Entry) → IsBegin e → IsTrim e → ⊥
 begin_no_trim (Trim low) b t = b
 begin_no_trim _ b t = t
@@ -74,6 +75,7 @@ module _ (t : ℕ) (before : List Entry) (k : IsShaped true before) (some : is_e
     | inr new ↦ (let z = new.1 in cc)
   ]
 
+-- a list whose entries, positions and numbers are in order, without a repeat, and that has ended is well formed
 pub list_form : (t : ℕ) (es : List Entry) → ((i : ℕ) (e : Entry) → At es i e → EntryForm t e)
     → ((i j p q : ℕ) (e f : Entry) → At es i e → At es j f → i < j → position_of e ≡ Some p → position_of f ≡ Some q → p < q) →
     ((x k m i j : ℕ) (e f : Entry) → At es i e → At es j f → i < j → Draws e x k → Draws f x m → k < m)
@@ -115,15 +117,18 @@ record ZeroTrail (setting : Setting) (old : State) (h : List Stamp) (now : State
   last : at (length h) ≡ now
   steps : (p : ℕ) (s : Stamp) → EventAt h p s → Step setting (at p) s (pos 0) (at (suc p))
 
+-- a first state, and then these
 behind : State → (ℕ → State) → ℕ → State
 behind old at zero = old
 behind old at (suc p) = at p
 
+-- a step to a state is a step by an equal event to an equal state
 first_step : (setting : Setting) (old mid next : State) (x s : Stamp) → Step setting old x (pos 0) mid → x ≡ s → mid ≡ next
     → Step setting old s (pos 0) next
 first_step setting old mid next x s step e f =
     subst (λ z. Step setting old s (pos 0) z) f (subst (λ z. Step setting old z (pos 0) mid) e step)
 
+-- a run with values 0 has a state for each number of its events
 zero_trail : (setting : Setting) (h : List Stamp) (old now : State) → RunsZero setting old h now → ZeroTrail setting old h now
 unfolding behind
 zero_trail setting [] old now r = record { at = λ p. old; first = refl; last = sym r; steps = λ p s e. absurd (cc) }
@@ -222,6 +227,7 @@ module _ (started : ℕ → Bool) (main : started 0 ≡ true) (s : Traced) (now 
     made = machine;
   }
 
+-- the record of a sound trace is well formed, numbered, and a run of the machine
 pub whole_law : RecordIsWhole
 whole_law lines sound =
     let c = all_closed lines sound in

@@ -33,9 +33,11 @@ use Rattle.gl_lines.proofs.TracePlain.{block_here}
 use Rattle.gl_lines.proofs.TraceVerdicts.{among_next, next_among}
 use Rattle.gl_lines.proofs.TraceSound.{traced_push, sound_traced}
 
+-- each variable of a commit is touched by it
 touched : (reads writes : List ℕ) (y : ℕ) → Contains (with_all writes reads) y → touches reads writes y ≡ true
 touched reads writes y c = sym (is_in-touches reads writes y) ∙ contains-is_in y (with_all writes reads) c
 
+-- what a commit touches is a variable of it
 touched_back : (reads writes : List ℕ) (y : ℕ) → touches reads writes y ≡ true → Contains (with_all writes reads) y
 touched_back reads writes y i = is_in-contains y (with_all writes reads) (is_in-touches reads writes y ∙ i)
 
@@ -58,6 +60,7 @@ one_access P Q A to back v u a p none b q no_other = elim (cases_lt v u) [
   | inr over ↦ elim (cases_lt u v) [ inl above ↦ absurd (none u above b (back u b q)) | inr same ↦ omega arith ]
 ]
 
+-- where the variables that fail are the same, one thing is said of a line
 one_said : (P Q : ℕ → Type 0) (item : Item) (a b : Judged) → ((y : ℕ) → Accesses item y → P y → Q y)
     → ((y : ℕ) → Accesses item y → Q y → P y) → IsJudgedBy P item a → IsJudgedBy Q item b → a ≡ b
 one_said P Q (Acts act) a b to back i j = i ∙ sym j
@@ -304,9 +307,11 @@ module _ (s : Traced) (now : State) (r : IsRecorded s now) (t : ℕ) (running : 
       (λ y a. fails_next all item judged y a (rows y) (stand y a) (questions y) (ask y a))
       (λ y a. passes_next all item judged y a (rows y) (stand y a) (questions y) (ask y a)) j)
 
+-- the lists after a line more are those that the line leaves
 behind : (lines : List Line) (l : Line) → lists_behind (lines ++ l ∷ []) ≡ (after_line l (traced lines)).tracing.lists
 behind lines l = sym (lists_are (lines ++ l ∷ [])) ∙ ap (λ (z : Traced). z.tracing.lists) (traced_push lines l)
 
+-- the last line's entry is racy exactly where it is so as the next access before it
 pub racy_law : LastIsRacy
 racy_law lines l sound f at y a =
     let k = sound_traced lines (sound_front lines l sound) in
@@ -317,6 +322,7 @@ racy_law lines l sound f at y a =
     subst (λ (R : Lists). IsRacy R (last_place R l.thread) y ↔ IsRacyNext (history lines) y (draws_of lines y) l.thread (commit_of l.item)
     f) (sym is) (item_alike (traced lines) k.0 k.1.recorded l.thread running l.item l.judged f at' y a)
 
+-- a line that is judged by the variables on which it is racy is judged rightly
 pub races_law : RacesAreVerdicts
 races_law lines l sound right judged =
     let k = sound_traced lines (sound_front lines l sound) in
@@ -324,6 +330,7 @@ races_law lines l sound right judged =
     let j = races_judged (traced lines) k.0 k.1.recorded l.thread running l.item l.judged judged in
     verdicts_push lines l right (subst (λ (R : Lists). IsJudgedRightly R (last_place R l.thread) l.item l.judged) (sym (behind lines l)) j)
 
+-- of verdicts the last is right in its record
 last_right : (lines : List Line) (l : Line) → AreVerdicts (lines ++ l ∷ [])
     → IsJudgedRightly (after_line l (traced lines)).tracing.lists (last_place (after_line l (traced lines)).tracing.lists l.thread) l.item
     l.judged
@@ -333,6 +340,7 @@ last_right lines l right =
     subst (λ (R : Lists). IsJudgedRightly R (last_place R l.thread) l.item l.judged) (ap lists_behind whole ∙ behind lines l)
     (right (length lines) l (get_last lines l))
 
+-- what is rightly said of a line is settled by what was before
 pub settled_law : LastIsSettled
 settled_law lines t item a b sound one other =
     let l : Line = record { thread = t; item = item; judged = a } in
@@ -341,6 +349,7 @@ settled_law lines t item a b sound one other =
     let running = runs (steps_of lines) k.0 k.1.state t (last_runs lines l sound) in
     item_settled (traced lines) k.0 k.1.recorded t running item a b (last_right lines l one) (last_right lines m other)
 
+-- a line that is judged by rows that stand is judged rightly
 pub grow_law : VerdictsGrow
 grow_law lines l sound right rows questions stand ask judged =
     let front = sound_front lines l sound in
@@ -350,6 +359,7 @@ grow_law lines l sound right rows questions stand ask judged =
     ask judged in
     verdicts_push lines l right (subst (λ (R : Lists). IsJudgedRightly R (last_place R l.thread) l.item l.judged) (sym (behind lines l)) j)
 
+-- a next plain access is racy exactly where it is so among the draws, in its thread's block
 pub among_law : NextIsAmong
 among_law lines l sound f y =
     let k = sound_traced lines (sound_front lines l sound) in

@@ -13,6 +13,7 @@ use Rattle.gl_model.specs.Records.{Place}
 use Rattle.gl_places.specs.Uses.{Use}
 use Rattle.gl_listing.specs.Looking.{IsAdded}
 
+-- a number with the place of its entry
 abbrev pub use_of : Place → ℕ → Use
 use_of c k = (c, k)
 
@@ -101,6 +102,7 @@ none_next f [] new empty none (suc x) = refl
 none_next f (v ∷ items) new empty none zero = none 0
 none_next f (v ∷ items) new empty none (suc x) = none_next f items new empty (λ y. none (suc y)) x
 
+-- a list with a new member that has no uses has none where it had none
 pub none_more :
     {V : Type 0} (f : V → List Use) (items grown : List V) (new : V) → grown ≡ items ++ new ∷ [] → f new ≡ [] →
     ((x : ℕ) → get_or (map f items) x [] ≡ []) → (x : ℕ) → get_or (map f grown) x [] ≡ []

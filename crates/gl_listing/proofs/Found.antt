@@ -18,10 +18,12 @@ pub uses_in_order : (f : Entry → List ℕ) (made : List (ℕ × List Entry)) �
 uses_in_order f made rises = λ j k u v less at also before. in_order (uses_of f made) j k u v (record_ordered f made rises) less at also
     before
 
+-- no place is before itself
 before_itself : (c : Place) → Before c c → ⊥
 before_itself c (inl less) = omega arith
 before_itself c (inr both) = (let less = both.1 in omega arith)
 
+-- the place of a use, if there is one, and else c
 abbrev use_place : Place → Option Use → Place
 use_place c None = c
 use_place c (Some u) = u.0
@@ -49,6 +51,7 @@ module _ (us : List Use) where
 
 -- ## What is found of several lists of uses
 
+-- nothing is found and no place fails, or the first place that fails is
 abbrev pub IsFound : (Place → Type 0) → Option StoredPlace → Type 0
 IsFound Fails found = MatchOption found ((c : Place) → Fails c → ⊥) (λ c. IsFirstBy Before Fails (seen c))
 
@@ -66,6 +69,7 @@ pub found_or :
 found_or P F holds None is = holds is
 found_or P F holds (Some d) is = is
 
+-- what is before c is before each place that is not before c
 before_through : (c d e : Place) → Before e c → (Before d c → ⊥) → Before e d
 before_through c d e less other = by_threads (cases_order d.thread c.thread) where
   by_indices : d.thread ≡ c.thread → (e.thread < c.thread) ⊎ ((e.thread ≡ c.thread) × (e.index < c.index)) → Before e d
@@ -84,6 +88,7 @@ before_through c d e less other = by_threads (cases_order d.thread c.thread) whe
   by_threads (inr (inl lt)) = absurd (other (inl lt))
   by_threads (inr (inr gt)) = above gt less
 
+-- of three places what is before one that is before the third is before the third
 before_after : (c d e : Place) → Before e d → Before d c → Before e c
 before_after c d e (inl less) (inl more) = inl (omega arith)
 before_after c d e (inl less) (inr both) = (let same = both.0 in inl (omega arith))
@@ -132,6 +137,7 @@ module _ (F H N : Place → Type 0) (either : (c : Place) → N c → F c ⊎ H 
 abbrev pub FailsBelow : List (List Use) → ℕ → Place → Type 0
 FailsBelow uses i c = (x : ℕ) × (x < i) × UseFailsAt (slice_index_or uses x []) c
 
+-- of no variables nothing is found
 pub found_none : (uses : List (List Use)) → IsFound (FailsBelow uses 0) None
 found_none uses = λ c fails. (let less = fails.1 in omega arith)
 

@@ -18,16 +18,19 @@ pub record HasMet (ns : List ℕ) (k : ℕ) (met : List Bool) : Type 0 where
   pub each : (i j : ℕ) → j < k → slice_get ns j ≡ Some i → slice_get met i ≡ Some true
   pub right : (j : ℕ) → j < k → IsWrongAt ns j → ⊥
 
+-- a list in which one is set is as long as before
 set_length : (bs : List Bool) (i : ℕ) (b : Bool) → length (slice_set bs i b) ≡ length bs
 set_length [] i b = refl
 set_length (x ∷ bs) zero b = refl
 set_length (x ∷ bs) (suc i) b = (let more = set_length bs i b in omega arith)
 
+-- what was set stands there, where something stood
 set_same : (bs : List Bool) (i : ℕ) (b c : Bool) → slice_get bs i ≡ Some c → slice_get (slice_set bs i b) i ≡ Some b
 set_same [] i b c there = cc
 set_same (x ∷ bs) zero b c there = refl
 set_same (x ∷ bs) (suc i) b c there = set_same bs i b c there
 
+-- at any other place stands what stood there
 set_other : (bs : List Bool) (i j : ℕ) (b : Bool) → i ≢ j → slice_get (slice_set bs i b) j ≡ slice_get bs j
 set_other [] i j b other = refl
 set_other (x ∷ bs) zero zero b other = absurd (other refl)
@@ -35,11 +38,13 @@ set_other (x ∷ bs) zero (suc j) b other = refl
 set_other (x ∷ bs) (suc i) zero b other = refl
 set_other (x ∷ bs) (suc i) (suc j) b other = set_other bs i j b (λ same. other (ap suc same))
 
+-- where all are unset, none is set
 none_set : (n i : ℕ) → slice_get (replicate n false) i ≡ Some true → ⊥
 none_set zero i is = cc
 none_set (suc n) zero is = cc
 none_set (suc n) (suc i) is = none_set n i is
 
+-- n times a thing are n things
 replicate_long : (n : ℕ) → length (replicate n false) ≡ n
 replicate_long zero = refl
 replicate_long (suc n) = (let more = replicate_long n in omega arith)
@@ -59,6 +64,7 @@ not_wrong ns k n met has at fresh wrong = by_fault wrong.wrong where
       omega arith
   by_fault (inr (j, less, there)) = (let marked = has.each n j less (there ∙ ap Some same) in cc)
 
+-- a number that is marked is one more that was met
 pub met_more : (ns : List ℕ) (k n : ℕ) (met new : List Bool) → HasMet ns k met → slice_get ns k ≡ Some n → IsMarked met n new
     → HasMet ns (k + 1) new
 met_more ns k n met new has at marks = record {
@@ -100,6 +106,7 @@ met_more ns k n met new has at marks = record {
   right j less wrong (inr (inl lt)) = has.right j lt wrong
   right j less wrong (inr (inr gt)) = omega arith
 
+-- a number that is too large, or was met, is the first wrong one
 pub met_wrong : (ns : List ℕ) (k n : ℕ) (met : List Bool) → HasMet ns k met → slice_get ns k ≡ Some n → IsRefused met n → IsFirstWrong ns k
 met_wrong ns k n met has at (inl ge) =
     let long = has.long in
@@ -109,6 +116,7 @@ met_wrong ns k n met has at (inr marked) = record {
   before = λ j less wrong. has.right j less wrong;
 }
 
+-- where all were met, none is wrong
 pub met_all : (ns : List ℕ) (n : ℕ) (met : List Bool) → length ns ≤ n → HasMet ns n met → (k : ℕ) → IsWrongAt ns k → ⊥
 met_all ns n met long has k wrong =
     let within = slice_get_within ns k wrong.number wrong.there in

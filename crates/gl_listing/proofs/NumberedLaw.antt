@@ -28,6 +28,7 @@ entry_kept [] all j e at = cc
 entry_kept (x ∷ es) all zero e at = (let same : x ≡ e = cc in rw (sym same) all.0)
 entry_kept (x ∷ es) all (suc j) e at = entry_kept es all.1 j e at
 
+-- each entry of kept lists keeps to the ids that there are
 all_kept : (made : List (ℕ × List Entry)) → AllByRecursion IsListKept made → (t j : ℕ) (e : Entry) → At (lists_of made t) j e
     → IsEntryKept e
 all_kept [] all t j e at = cc
@@ -140,6 +141,7 @@ module _ (made : List (ℕ × List Entry)) (kept : IsRecord made) (form : Form (
           let d = draw_of_use k.0 p u.0 u.1 in
           (u.0, d)
 
+-- a record of the form is numbered exactly where no place fails to be
 pub numbered_exactly : (made : List (ℕ × List Entry)) → IsRecord made → Form (lists_of made)
     → Numbered (lists_of made) ↔ ((c : Place) → NumberFailsAt made c → ⊥)
 numbered_exactly made kept form = (forth, back) where

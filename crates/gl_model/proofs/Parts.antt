@@ -118,6 +118,7 @@ pub find_more : {A : Type 0} (test : A → Bool) (xs : List A) (i : ℕ) (d : A)
     → test (get_or xs i d) ≡ false → find test (take (i + 1) xs) ≡ None
 find_more test xs i d n none fails = rw (take_more xs i d n, find-append test (take i xs) (get_or xs i d ∷ []), none, fails)
 
+-- the first that passes a test is found at i, where none before it does
 pub find_here : {A : Type 0} (test : A → Bool) (xs : List A) (i : ℕ) (d : A) → i < length xs → find test (take i xs) ≡ None
     → test (get_or xs i d) ≡ true → Some (get_or xs i d) ≡ find test xs
 find_here test xs i d n none passes =
@@ -126,5 +127,6 @@ find_here test xs i d n none passes =
     let first : find test (get_or xs i d ∷ drop (suc i) xs) ≡ Some (get_or xs i d) = rw passes in
     sym (ap (find test) split ∙ find-append test (take i xs) (get_or xs i d ∷ drop (suc i) xs) ∙ rw (none, first))
 
+-- nothing is found where none passes
 pub find_none : {A : Type 0} (test : A → Bool) (xs : List A) (i : ℕ) → length xs ≤ i → find test (take i xs) ≡ None → None ≡ find test xs
 find_none test xs i n none = sym (ap (find test) (sym (take_all i xs n)) ∙ none)

@@ -46,10 +46,12 @@ module _ (t : ℕ) (e : Entry) where
         rw (with_last-below (f x) (map f xs) (below zero (omega arith)))
         (ap (λ ls. f x ∷ ls) (started xs i new (omega arith) (λ k l. below (suc k) (omega arith)) (λ l. above (omega arith)) is))
 
+-- where all entries are kept, so are they with one more that is
 All-last : (xs : List Entry) (e : Entry) → AllByRecursion IsEntryKept xs → IsEntryKept e → AllByRecursion IsEntryKept (xs ++ e ∷ [])
 All-last [] e all kept = (kept, tt)
 All-last (x ∷ xs) e all kept = (all.0, All-last xs e all.1 kept)
 
+-- a list with an entry more has an entry
 some-last : (xs : List Entry) (e : Entry) → 0 < length (xs ++ e ∷ [])
 some-last [] e = omega arith
 some-last (x ∷ xs) e = omega arith
@@ -66,10 +68,12 @@ All-with_last P t e (l ∷ ls) p all = elim (cases_lt t l.0) [
   ]
 ]
 
+-- what holds of all holds of all in a weaker form
 weaker : (P Q : ℕ → Type 0) → ((y : ℕ) → P y → Q y) → (xs : List ℕ) → AllByRecursion P xs → AllByRecursion Q xs
 weaker P Q f [] all = tt
 weaker P Q f (x ∷ xs) all = (f x all.0, weaker P Q f xs all.1)
 
+-- the threads of a record rise with one entry more
 Rises-with_last : (t : ℕ) (e : Entry) (ls : List (ℕ × List Entry)) → Rises (map (λ l. l.0) ls) → Rises (map (λ l. l.0) (with_last t e ls))
 Rises-with_last t e [] rises = (tt, tt)
 Rises-with_last t e (l ∷ ls) rises = elim (cases_lt t l.0) [
@@ -81,6 +85,7 @@ Rises-with_last t e (l ∷ ls) rises = elim (cases_lt t l.0) [
   ]
 ]
 
+-- the lists of a record are kept with one entry more that is
 kept-with_last : (t : ℕ) (e : Entry) (ls : List (ℕ × List Entry)) → t < THREADS → IsEntryKept e → AllByRecursion IsListKept ls
     → AllByRecursion IsListKept (with_last t e ls)
 kept-with_last t e [] within kept all = ((within, omega arith, (kept, tt)), tt)
@@ -92,10 +97,12 @@ kept-with_last t e (l ∷ ls) within kept all = elim (cases_lt t l.0) [
   ]
 ]
 
+-- a record is one with one entry more of a thread that there is
 pub IsRecord-with_last : (t : ℕ) (e : Entry) (ls : List (ℕ × List Entry)) → t < THREADS → IsEntryKept e → IsRecord ls
     → IsRecord (with_last t e ls)
 IsRecord-with_last t e ls within kept is = (Rises-with_last t e ls is.0, kept-with_last t e ls within kept is.1)
 
+-- what follows from what holds of a success holds of it
 pub on_ok : {T E : Type 0} (r : Result T E) (P Q : Type 0) → (P → Q) → OnOk r P → OnOk r Q
 on_ok (Ok x) P Q f p = f p
 on_ok (Err x) P Q f p = tt
@@ -129,10 +136,12 @@ above_default items i t at d n is other here =
     let le : t ≤ (get_or items i d).thread = here d n in
     omega arith
 
+-- what follows from what holds of a failure holds of it
 pub on_err : {T E : Type 0} (r : Result T E) (P Q : E → Type 0) → ((e : E) → P e → Q e) → IfErr r P → IfErr r Q
 on_err (Ok x) P Q f p = tt
 on_err (Err x) P Q f p = f x p
 
+-- a member that is replaced by one with the same image leaves all images as they were
 set_kept : {A B : Type 0} (f : A → B) (xs : List A) (i : ℕ) (new : A) → i < length xs → f new ≡ f (get_or xs i new) → map f (set xs i new)
     ≡ map f xs
 set_kept f [] i new n same = absurd (omega arith)

@@ -11,12 +11,14 @@ use Rattle.std.proofs.lemmas.List.{take_more, take_more_set, get_or-drop, drop-s
 use Rattle.std.proofs.lemmas.List.Elements.{Contains-push_cases, Contains-get_or}
 use Rattle.std.proofs.Math.Seq.{take-append-add}
 
+-- lists that are the same from j on have the same at j
 pub same_there : {A : Type 0} (ids old : List A) (j : ℕ) (d : A) → drop j ids ≡ drop j old → get_or ids j d ≡ get_or old j d
 same_there ids old j d kept =
     let zero_more : j + 0 ≡ j = omega arith in
     let e : get_or (drop j ids) 0 d ≡ get_or (drop j old) 0 d = ap (λ xs. get_or xs 0 d) kept in
     ap (λ k. get_or ids k d) (sym zero_more) ∙ sym (get_or-drop j ids 0 d) ∙ e ∙ get_or-drop j old 0 d ∙ ap (λ k. get_or old k d) zero_more
 
+-- a range that goes one further has what stands there
 range_more : {A : Type 0} (old : List A) (i j : ℕ) (d : A) → i ≤ j → j < length old → slice_range old i (j + 1) ≡ slice_range old i j
     ++ get_or old j d ∷ []
 range_more old i j d le n =
@@ -25,6 +27,7 @@ range_more old i j d le n =
     let within : j - i < length (drop i old) = omega (arith, length-drop i old) in
     rw (one_more, take_more (drop i old) (j - i) d within, get_or-drop i old (j - i) d, back)
 
+-- one member moved up: the next one is carried, and the head has the new one and those before j + 1
 pub moved_more : {A : Type 0} (ids old : List A) (i j : ℕ) (x carried next : A) → i ≤ j → j < length ids → length ids ≡ length old → next
     ≡ get_or ids j next → drop j ids ≡ drop j old → take j ids ++ carried ∷ [] ≡ take i old ++ x ∷ slice_range old i j
     → take (j + 1) (set ids j carried) ++ next ∷ [] ≡ take i old ++ x ∷ slice_range old i (j + 1)
@@ -34,6 +37,7 @@ moved_more ids old i j x carried next le n long is kept moved =
     rw (take_more_set ids j carried n, moved, range_more old i j next le n', ← there)
     (append_assoc (take i old) (x ∷ slice_range old i j) (next ∷ []))
 
+-- after a change at j the rest after it is as it was
 pub kept_more : {A : Type 0} (ids old : List A) (j : ℕ) (carried : A) → drop j ids ≡ drop j old → drop (j + 1) (set ids j carried)
     ≡ drop (j + 1) old
 kept_more ids old j carried kept =
@@ -42,15 +46,19 @@ kept_more ids old j carried kept =
 
 -- ---- with_one, by the place of x
 
+-- a head that is below x stays the head where x is put in
 pub with_one-below : (x y : ℕ) (ys : List ℕ) → y < x → with_one x (y ∷ ys) ≡ y ∷ with_one x ys
 with_one-below x y ys l = grind (arith, nat_tests)
 
+-- x comes to the head of what is above it
 pub with_one-above : (x y : ℕ) (ys : List ℕ) → x < y → with_one x (y ∷ ys) ≡ x ∷ (y ∷ ys)
 with_one-above x y ys l = grind (arith, nat_tests)
 
+-- x is not put in where it is the head
 pub with_one-same : (x y : ℕ) (ys : List ℕ) → y ≡ x → with_one x (y ∷ ys) ≡ y ∷ ys
 with_one-same x y ys e = grind (arith, nat_tests)
 
+-- x comes to the place where those before are below it and the one there is above it
 pub with_one-at : (xs : List ℕ) (x i : ℕ) → i ≤ length xs → ((k : ℕ) → k < i → get_or xs k 0 < x) → (i < length xs → x < get_or xs i 0)
     → with_one x xs ≡ take i xs ++ x ∷ drop i xs
 with_one-at [] x i le below here = let none : i ≡ zero = omega arith in rw none
@@ -59,6 +67,7 @@ with_one-at (y ∷ ys) x (suc i) le below here =
     rw (with_one-below x y ys (below zero (omega arith)))
     (ap (λ zs. y ∷ zs) (with_one-at ys x i (omega arith) (λ k l. below (suc k) (omega arith)) (λ l. here (omega arith))))
 
+-- what has x stays as it is
 pub with_one-there : (xs : List ℕ) (x i : ℕ) → i < length xs → ((k : ℕ) → k < i → get_or xs k 0 < x) → get_or xs i 0 ≡ x → with_one x xs
     ≡ xs
 with_one-there [] x i n below here = absurd (omega arith)
@@ -69,6 +78,7 @@ with_one-there (y ∷ ys) x (suc i) n below here =
 
 -- ---- what holds of each number holds after x is put among them
 
+-- what holds of x and of all in the list holds of all with x
 pub All-with_one : (P : ℕ → Type 0) (x : ℕ) (xs : List ℕ) → P x → AllByRecursion P xs → AllByRecursion P (with_one x xs)
 All-with_one P x [] p all = (p, tt)
 All-with_one P x (y ∷ ys) p all = elim (cases_lt x y) [
@@ -79,10 +89,12 @@ All-with_one P x (y ∷ ys) p all = elim (cases_lt x y) [
   ]
 ]
 
+-- what holds of all holds of all in a weaker form
 pub weaker : (P Q : ℕ → Type 0) → ((y : ℕ) → P y → Q y) → (xs : List ℕ) → AllByRecursion P xs → AllByRecursion Q xs
 weaker P Q f [] all = tt
 weaker P Q f (x ∷ xs) all = (f x all.0, weaker P Q f xs all.1)
 
+-- a list that rises does so with one more
 pub Rises-with_one : (x : ℕ) (xs : List ℕ) → Rises xs → Rises (with_one x xs)
 Rises-with_one x [] rises = (tt, tt)
 Rises-with_one x (y ∷ ys) rises = elim (cases_lt x y) [
@@ -99,6 +111,7 @@ above-all x [] all k n = absurd (omega arith)
 above-all x (y ∷ ys) all zero n = all.0
 above-all x (y ∷ ys) all (suc k) n = above-all x ys all.1 k (omega arith)
 
+-- where x would come before a larger one, the list does not have it
 pub not_there : (xs : List ℕ) (x i : ℕ) → Rises xs → ((k : ℕ) → k < i → get_or xs k 0 < x) → (i < length xs → x < get_or xs i 0) → (k : ℕ)
     → k < length xs → get_or xs k 0 ≢ x
 not_there [] x i rises below here k n e = omega arith
@@ -166,6 +179,7 @@ All-take P zero xs all = tt
 All-take P (suc n) [] all = tt
 All-take P (suc n) (x ∷ xs) all = (all.0, All-take P n xs all.1)
 
+-- the head of a list that rises does so too
 pub Rises-take : (n : ℕ) (xs : List ℕ) → Rises xs → Rises (take n xs)
 Rises-take zero xs rises = tt
 Rises-take (suc n) [] rises = tt
@@ -183,10 +197,12 @@ pub meet_more : (xs ys : List ℕ) (i : ℕ) → i < length xs → ((x : ℕ) �
 meet_more xs ys i n none not_this x = rw (take_more xs i 0 n)
     (λ c d. elim (Contains-push_cases (take i xs) (get_or xs i 0) x c) [ inl before ↦ none x before d | inr same ↦ not_this (rw same d) ])
 
+-- lists that have nothing in common up to the end of the first do not meet
 pub meet_none : (xs ys : List ℕ) (i : ℕ) → length xs ≤ i → ((x : ℕ) → Contains (take i xs) x → Contains ys x → ⊥)
     → IsTrue false ↔ ((x : ℕ) × Contains xs x × Contains ys x)
 meet_none xs ys i n none = (λ f. absurd (cc), λ w. absurd (none w.0 (rw (take_all i xs n) w.1) w.2))
 
+-- lists meet where the one has what stands in the other
 pub meet_here : (xs ys : List ℕ) (i : ℕ) → i < length xs → Contains ys (get_or xs i 0)
     → IsTrue true ↔ ((x : ℕ) × Contains xs x × Contains ys x)
 meet_here xs ys i n c = (λ _. (get_or xs i 0, Contains-get_or xs i 0 n, c), λ _. refl)

@@ -23,16 +23,19 @@ pub record ArePut (us : List Use) (k : ℕ) (cs : List Place) : Type 0 where
   pub long : length cs ≡ length us
   pub each : (j p : ℕ) (c : Place) → j < k → slice_get us j ≡ Some (c, p) → slice_get cs p ≡ Some c
 
+-- a list in which one place is put is as long as before
 set_length : (cs : List Place) (i : ℕ) (c : Place) → length (slice_set cs i c) ≡ length cs
 set_length [] i c = refl
 set_length (x ∷ cs) zero c = refl
 set_length (x ∷ cs) (suc i) c = (let more = set_length cs i c in omega arith)
 
+-- what was put at i stands there, where i is within the list
 set_same : (cs : List Place) (i : ℕ) (c : Place) → i < length cs → slice_get (slice_set cs i c) i ≡ Some c
 set_same [] i c less = absurd (omega arith)
 set_same (x ∷ cs) zero c less = refl
 set_same (x ∷ cs) (suc i) c less = set_same cs i c (omega arith)
 
+-- anywhere else stands what stood there
 set_other : (cs : List Place) (i j : ℕ) (c : Place) → i ≢ j → slice_get (slice_set cs i c) j ≡ slice_get cs j
 set_other [] i j c other = refl
 set_other (x ∷ cs) zero zero c other = absurd (other refl)

@@ -5,14 +5,17 @@ use Rattle.std.proofs.lemmas.Bool.{cases_order}
 use Rattle.gl_model.specs.Records.{Place}
 use Rattle.gl_places.specs.Places.{Before, IsFirstBy}
 
+-- the place of a thread with an index
 abbrev at_place : ℕ → ℕ → Place
 at_place t i = record { thread = t; index = i }
 
+-- places with one thread and one index are one place
 same_place : (c d : Place) → c.thread ≡ d.thread → c.index ≡ d.index → c ≡ d
 same_place c d threads indices = together c.thread d.thread c.index d.index threads indices where
   together : (t u i j : ℕ) → t ≡ u → i ≡ j → at_place t i ≡ at_place u j
   together t u i j one other = rw (one, other) refl
 
+-- there is at most one first place where something fails
 pub first_once : (Fails : Place → Type 0) (c d : Place) → IsFirstBy Before Fails c → IsFirstBy Before Fails d → c ≡ d
 first_once Fails c d one other = by_threads (cases_order c.thread d.thread) where
   by_indices : c.thread ≡ d.thread → (c.index ≡ d.index) ⊎ ((c.index < d.index) ⊎ (d.index < c.index)) → c ≡ d

@@ -23,15 +23,18 @@ use Rattle.gl_places.proofs.UsesMade.{Differ, IsAmong, is_used, not_twice, numbe
 
 -- ## The position of one entry
 
+-- the number that there is, is among it
 among_one : (o : Option ℕ) (p : ℕ) → o ≡ Some p → IsAmong (one_or_none o) p
 among_one None p is = cc
 among_one (Some q) p is = (0, is)
 
+-- what is among one number, or none, is that number
 one_among : (o : Option ℕ) (p : ℕ) → IsAmong (one_or_none o) p → o ≡ Some p
 one_among None p (k, at) = cc
 one_among (Some q) p (zero, at) = at
 one_among (Some q) p (suc k, at) = cc
 
+-- one number, or none, has each once
 one_once : (o : Option ℕ) → IsOnce (one_or_none o)
 one_once None j k p less at also = cc
 one_once (Some q) zero zero p less at also = omega arith
@@ -47,11 +50,13 @@ event_there (Abort tx why) p is = cc
 event_there (Trim low) p is = cc
 event_there (Over ending) p is = cc
 
+-- an entry with a position is an event there
 stamped : (R : Lists) (c : Place) (p : ℕ) (e : Entry) → EntryAt R c e → position_of e ≡ Some p → (s : Stamp) × IsEventAt R c p s
 stamped R c p e there is =
     let x = event_there e p is in
     (record { thread = c.thread; event = x.0 }, record { entry = e; there = there; position = is; event = x.1; own = refl })
 
+-- what stands at k of a range that begins at a is a + k, and k is below its length
 pub range_at : (a n k p : ℕ) → slice_get (range_with_len a n) k ≡ Some p → (p ≡ a + k) × (k < n)
 range_at a zero k p at = cc
 range_at a (suc n) zero p at = (let same : a ≡ p = cc in (omega arith, omega arith))
@@ -72,10 +77,12 @@ collect (suc n) Q each =
       places x h here later zero s at = (let same : x ≡ s = cc in rw (sym same) here)
       places x h here later (suc p) s at = later p s at
 
+-- the place of a use, if there is one, and else c
 abbrev pub place_or : Place → Option Use → Place
 place_or c None = c
 place_or c (Some u) = u.0
 
+-- a use, by place and number
 abbrev pub some_use : Place → ℕ → Option Use
 some_use d n = Some (d, n)
 
@@ -237,5 +244,6 @@ module _ (made : List (ℕ × List Entry)) (kept : IsRecord made) where
             | inr past ↦ (let ge = past.0 in absurd (omega arith))
           ]
 
+-- a record is listed exactly where no position fails
 pub listed_exactly : (made : List (ℕ × List Entry)) → IsRecord made → Listed (lists_of made) ↔ ((c : Place) → PositionFailsAt made c → ⊥)
 listed_exactly made kept = (fails_not made kept, listed made kept)

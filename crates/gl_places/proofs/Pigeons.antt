@@ -7,6 +7,7 @@ use Rattle.std.proofs.lemmas.Bool.{eqb-true, cases_lt}
 use Rattle.std.proofs.lemmas.Map.Steps.{length-le_from_distinct_below}
 use Rattle.gl_places.specs.Uses.{IsWrongAt}
 
+-- where the test finds no number equal to p, each differs from p
 none_equal : (p : ℕ) (ns : List ℕ) → list_any (eqb p) ns ≡ false → AllByRecursion (λ y. eqb p y ≡ false) ns
 none_equal p [] none = tt
 none_equal p (x ∷ ns) none = by_test (eqb p x) refl none (λ i. none_equal p ns i) where
@@ -17,6 +18,7 @@ none_equal p (x ∷ ns) none = by_test (eqb p x) refl none (λ i. none_equal p n
   by_test true e is more = cc
   by_test false e is more = (e, more is)
 
+-- where the test finds p, it stands somewhere
 pub found_any : (p : ℕ) (ns : List ℕ) → list_any (eqb p) ns ≡ true → (k : ℕ) × (slice_get ns k ≡ Some p)
 found_any p [] is = cc
 found_any p (x ∷ ns) is = by_test (eqb p x) refl is (λ i. found_any p ns i) where
@@ -26,6 +28,7 @@ found_any p (x ∷ ns) is = by_test (eqb p x) refl is (λ i. found_any p ns i) w
   by_test true e found more = (let same = eqb-true p x e in (0, ap Some (sym same)))
   by_test false e found more = (let later = more found in (suc later.0, later.1))
 
+-- what stands somewhere is found by the test
 pub any_found : (p k : ℕ) (ns : List ℕ) → slice_get ns k ≡ Some p → list_any (eqb p) ns ≡ true
 any_found p k [] at = cc
 any_found p zero (x ∷ ns) at = (let same : x ≡ p = cc in let e : eqb p x ≡ true = eq-eqb p x (sym same) in rw e refl)
@@ -38,6 +41,7 @@ any_found p (suc k) (x ∷ ns) at = by_test (eqb p x) refl (any_found p k ns at)
 abbrev pub IsOnce : List ℕ → Type 0
 IsOnce ns = (j k p : ℕ) → j < k → slice_get ns j ≡ Some p → slice_get ns k ≡ Some p → ⊥
 
+-- numbers that stand once each are distinct
 pub once_distinct : (ns : List ℕ) → IsOnce ns → IsDistinct eqb ns
 unfolding IsDistinct
 once_distinct [] once = tt

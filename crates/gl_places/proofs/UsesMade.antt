@@ -15,24 +15,30 @@ use Rattle.gl_places.specs.Places.{Before}
 use Rattle.gl_places.specs.declared.uses.Use.{Use as StoredUse}
 use Rattle.gl_places.specs.Uses.{Use, numbers_in, use_seen, uses_from, uses_of}
 
+-- the place of a thread with an index
 abbrev pub place_at : ℕ → ℕ → Place
 place_at t i = record { thread = t; index = i }
 
+-- a number with the place of its entry
 abbrev pub use_at : ℕ → ℕ → ℕ → Use
 use_at t i p = (place_at t i, p)
 
+-- the use is one of these
 abbrev pub IsIn : List Use → Use → Type 0
 IsIn us u = (k : ℕ) × (slice_get us k ≡ Some u)
 
+-- a use of the first list is in both together
 pub in_front : (xs ys : List Use) (u : Use) → IsIn xs u → IsIn (xs ++ ys) u
 in_front [] ys u (k, at) = cc
 in_front (x ∷ xs) ys u (zero, at) = (0, at)
 in_front (x ∷ xs) ys u (suc k, at) = (let more = in_front xs ys u (k, at) in (suc more.0, more.1))
 
+-- a use of the second list is in both together
 pub in_back : (xs ys : List Use) (u : Use) → IsIn ys u → IsIn (xs ++ ys) u
 in_back [] ys u is = is
 in_back (x ∷ xs) ys u is = (let more = in_back xs ys u is in (suc more.0, more.1))
 
+-- a use of both together is in one of them
 pub in_either : (xs ys : List Use) (u : Use) → IsIn (xs ++ ys) u → IsIn xs u ⊎ IsIn ys u
 in_either [] ys u is = inr is
 in_either (x ∷ xs) ys u (zero, at) = inl (0, at)
@@ -43,9 +49,11 @@ in_either (x ∷ xs) ys u (suc k, at) = elim (in_either xs ys u (k, at)) [
 
 -- ## The numbers of uses
 
+-- the number of the use at k stands at k
 pub number_of : (us : List Use) (k : ℕ) (u : Use) → slice_get us k ≡ Some u → slice_get (numbers_in us) k ≡ Some u.1
 number_of us k u at = slice_get-map (λ (v : Use). v.1) us k ∙ ap (option_map (λ (v : Use). v.1)) at
 
+-- the number at k is that of a use at k
 pub use_of_number : (us : List Use) (k p : ℕ) → slice_get (numbers_in us) k ≡ Some p → (c : Place) × (slice_get us k ≡ Some (c, p))
 use_of_number us k p at = by_use (slice_get us k) refl where
   by_use : (o : Option Use) → slice_get us k ≡ o → (c : Place) × (slice_get us k ≡ Some (c, p))
@@ -70,9 +78,11 @@ seen_at items us k d are less =
 abbrev pub IsAmong : List ℕ → ℕ → Type 0
 IsAmong ns p = (k : ℕ) × (slice_get ns k ≡ Some p)
 
+-- the uses of one entry: these numbers at its place
 abbrev here : ℕ → ℕ → List ℕ → List Use
 here t i ns = map (λ k. use_at t i k) ns
 
+-- each of its numbers is a use of it
 in_here : (t i p : ℕ) (ns : List ℕ) → IsAmong ns p → IsIn (here t i ns) (use_at t i p)
 in_here t i p [] (k, at) = cc
 in_here t i p (n ∷ ns) (zero, at) = (let same : n ≡ p = cc in (0, ap (λ m. Some (use_at t i m)) same))
@@ -82,6 +92,7 @@ record IsHere (t i : ℕ) (ns : List ℕ) (u : Use) : Type 0 where
   among : IsAmong ns u.1
   is : u.0 ≡ place_at t i
 
+-- each use of it is one of its numbers at its place
 here_is : (t i : ℕ) (ns : List ℕ) (u : Use) → IsIn (here t i ns) u → IsHere t i ns u
 here_is t i [] u (k, at) = cc
 here_is t i (n ∷ ns) u (zero, at) =
@@ -98,6 +109,7 @@ record IsUse (f : Entry → List ℕ) (t i : ℕ) (es : List Entry) (u : Use) : 
   among : IsAmong (f entry) u.1
   is : u.0 ≡ place_at t (i + place)
 
+-- a number of an entry of a list is a use of the list, at that entry's place
 used : (f : Entry → List ℕ) (t i j p : ℕ) (es : List Entry) (e : Entry) → At es j e → IsAmong (f e) p
     → IsIn (uses_from f t i es) (use_at t (i + j) p)
 used f t i j p [] e there among = cc
@@ -111,6 +123,7 @@ used f t i (suc j) p (x ∷ es) e there among =
     let at_place : IsIn (uses_from f t (i + 1) es) (use_at t (i + suc j) p) = rw (sym place) (used f t (i + 1) j p es e there among) in
     in_back (here t i (f x)) (uses_from f t (i + 1) es) (use_at t (i + suc j) p) at_place
 
+-- a use of a list is a number of an entry of it
 use_of : (f : Entry → List ℕ) (t i : ℕ) (es : List Entry) (u : Use) → IsIn (uses_from f t i es) u → IsUse f t i es u
 use_of f t i [] u (k, at) = cc
 use_of f t i (x ∷ es) u is = elim (in_either (here t i (f x)) (uses_from f t (i + 1) es) u is) [
@@ -126,6 +139,7 @@ use_of f t i (x ∷ es) u is = elim (in_either (here t i (f x)) (uses_from f t (
 
 -- ## A record
 
+-- a number of an entry of a record is a use of the record
 pub is_used : (f : Entry → List ℕ) (made : List (ℕ × List Entry)) (t j p : ℕ) (e : Entry) → At (lists_of made t) j e → IsAmong (f e) p
     → IsIn (uses_of f made) (use_at t j p)
 is_used f [] t j p e there among = cc
@@ -150,6 +164,7 @@ pub record IsUseOf (f : Entry → List ℕ) (made : List (ℕ × List Entry)) (u
   pub there : EntryAt (lists_of made) u.0 entry
   pub among : IsAmong (f entry) u.1
 
+-- where all threads are above t, so are those of the uses
 above_used : (f : Entry → List ℕ) (t : ℕ) (ls : List (ℕ × List Entry)) → AllByRecursion (λ s. t < s) (map (λ l. l.0) ls) → (u : Use)
     → IsIn (uses_of f ls) u → t < u.0.thread
 above_used f t [] above u (k, at) = cc
@@ -158,6 +173,7 @@ above_used f t (l ∷ ls) above u is = elim (in_either (uses_from f l.0 0 l.1) (
   | inr back ↦ above_used f t ls above.1 u back
 ]
 
+-- a use of a record is a number of an entry of it
 pub use_is : (f : Entry → List ℕ) (made : List (ℕ × List Entry)) → Rises (map (λ l. l.0) made) → (u : Use) → IsIn (uses_of f made) u
     → IsUseOf f made u
 use_is f [] rises u (k, at) = cc
@@ -181,10 +197,12 @@ use_is f (l ∷ ls) rises u is = elim (in_either (uses_from f l.0 0 l.1) (uses_o
 
 -- ## No draw stands twice
 
+-- no use stands twice
 abbrev pub Differ : List Use → Type 0
 Differ [] = Unit {0}
 Differ (u ∷ us) = (IsIn us u → ⊥) × Differ us
 
+-- two lists of which this holds, with nothing in common, are so together
 differ : (xs ys : List Use) → Differ xs → Differ ys → ((u : Use) → IsIn xs u → IsIn ys u → ⊥) → Differ (xs ++ ys)
 differ [] ys one other across = other
 differ (x ∷ xs) ys one other across = (
@@ -192,6 +210,7 @@ differ (x ∷ xs) ys one other across = (
   differ xs ys one.1 other (λ u in_xs in_ys. across u (suc in_xs.0, in_xs.1) in_ys),
 )
 
+-- an entry with each number once has no use twice
 here_differ : (t i : ℕ) (ns : List ℕ) → IsOnce ns → Differ (here t i ns)
 here_differ t i [] once = tt
 here_differ t i (n ∷ ns) once = (
@@ -199,6 +218,7 @@ here_differ t i (n ∷ ns) once = (
   here_differ t i ns (λ j k p less at also. once (suc j) (suc k) p (omega arith) at also),
 )
 
+-- so has a list of such entries
 list_differ : (f : Entry → List ℕ) (t i : ℕ) (es : List Entry) → ((j : ℕ) (e : Entry) → At es j e → IsOnce (f e))
     → Differ (uses_from f t i es)
 list_differ f t i [] once = tt
@@ -220,6 +240,7 @@ none_above t (l ∷ ls) above =
     let different : l.0 ≢ t = λ same. let s : l.0 ≡ t = same in omega arith in
     rw (other_false l.0 t different) (none_above t ls above.1)
 
+-- what stands in a later list stands in the record with the first one too
 pub later_list : (l : ℕ × List Entry) (ls : List (ℕ × List Entry)) (t j : ℕ) (e : Entry)
     → AllByRecursion (λ s. l.0 < s) (map (λ m. m.0) ls) → At (lists_of ls t) j e → At (lists_of (l ∷ ls) t) j e
 later_list l ls t j e above there = by_test (l.0 == t) refl where
@@ -232,9 +253,11 @@ later_list l ls t j e above there = by_test (l.0 == t) refl where
       cc
   by_test false other = rw other there
 
+-- what stands in the first list stands in the record
 pub first_list : (l : ℕ × List Entry) (ls : List (ℕ × List Entry)) (j : ℕ) (e : Entry) → At l.1 j e → At (lists_of (l ∷ ls) l.0) j e
 first_list l ls j e there = (let same : (l.0 == l.0) ≡ true = eq-eqb l.0 l.0 refl in rw same there)
 
+-- a record whose entries have each number once has no use twice
 pub record_differ : (f : Entry → List ℕ) (made : List (ℕ × List Entry)) → Rises (map (λ l. l.0) made)
     → ((t j : ℕ) (e : Entry) → At (lists_of made t) j e → IsOnce (f e)) → Differ (uses_of f made)
 record_differ f [] rises once = tt
@@ -248,6 +271,7 @@ record_differ f (l ∷ ls) rises once = differ (uses_from f l.0 0 l.1) (uses_of 
           let other = above_used f l.0 ls rises.0 u back in
           omega arith
 
+-- where no use stands twice, one does not stand at two places
 pub not_twice : (us : List Use) (j k : ℕ) (u : Use) → Differ us → j < k → slice_get us j ≡ Some u → slice_get us k ≡ Some u → ⊥
 not_twice [] j k u differs less at also = cc
 not_twice (x ∷ us) zero zero u differs less at also = omega arith
@@ -262,6 +286,7 @@ abbrev pub InOrder : List Use → Type 0
 InOrder [] = Unit {0}
 InOrder (u ∷ us) = ((v : Use) → IsIn us v → Before v.0 u.0 → ⊥) × InOrder us
 
+-- two lists in order, with none of the second before one of the first, are in order together
 ordered : (xs ys : List Use) → InOrder xs → InOrder ys → ((u v : Use) → IsIn xs u → IsIn ys v → Before v.0 u.0 → ⊥) → InOrder (xs ++ ys)
 ordered [] ys one other across = other
 ordered (x ∷ xs) ys one other across = (
@@ -274,10 +299,12 @@ not_later : (c d : Place) → c.thread ≡ d.thread → d.index ≤ c.index → 
 not_later c d same le (inl less) = omega arith
 not_later c d same le (inr both) = (let less = both.1 in omega arith)
 
+-- a place of a greater thread is not before one of a lesser
 not_above : (c d : Place) → d.thread < c.thread → Before c d → ⊥
 not_above c d less (inl other) = omega arith
 not_above c d less (inr both) = (let same = both.0 in omega arith)
 
+-- the uses of one entry are in order
 here_ordered : (t i : ℕ) (ns : List ℕ) → InOrder (here t i ns)
 here_ordered t i [] = tt
 here_ordered t i (n ∷ ns) = (later, here_ordered t i ns) where
@@ -288,6 +315,7 @@ here_ordered t i (n ∷ ns) = (later, here_ordered t i ns) where
       let index : v.0.index ≡ i = ap (λ (c : Place). c.index) h.is in
       not_later v.0 (place_at t i) thread (omega arith)
 
+-- so are those of a list
 list_ordered : (f : Entry → List ℕ) (t i : ℕ) (es : List Entry) → InOrder (uses_from f t i es)
 list_ordered f t i [] = tt
 list_ordered f t i (x ∷ es) = ordered (here t i (f x)) (uses_from f t (i + 1) es) (here_ordered t i (f x)) (list_ordered f t (i + 1) es)
@@ -301,6 +329,7 @@ list_ordered f t i (x ∷ es) = ordered (here t i (f x)) (uses_from f t (i + 1) 
           let other : v.0.index ≡ (i + 1) + b.place = ap (λ (c : Place). c.index) b.is in
           not_later v.0 u.0 threads (omega arith)
 
+-- so are those of a record
 pub record_ordered : (f : Entry → List ℕ) (made : List (ℕ × List Entry)) → Rises (map (λ l. l.0) made) → InOrder (uses_of f made)
 record_ordered f [] rises = tt
 record_ordered f (l ∷ ls) rises = ordered (uses_from f l.0 0 l.1) (uses_of f ls) (list_ordered f l.0 0 l.1) (record_ordered f ls rises.1)
@@ -312,6 +341,7 @@ record_ordered f (l ∷ ls) rises = ordered (uses_from f l.0 0 l.1) (uses_of f l
           let other = above_used f l.0 ls rises.0 v back in
           not_above v.0 u.0 (omega arith)
 
+-- where uses are in order, a later one is not before an earlier one
 pub in_order : (us : List Use) (j k : ℕ) (u v : Use) → InOrder us → j < k → slice_get us j ≡ Some u → slice_get us k ≡ Some v
     → Before v.0 u.0 → ⊥
 in_order [] j k u v up less at also before = cc

@@ -19,13 +19,16 @@ plain_of (Plain var nth cached write value raised) p none = tt
 plain_of (Commit at tx) p none = absurd (cc)
 plain_of _ p none = absurd p
 
+-- a plain access has no variables of a commit
 none_of : (e : Entry) → IsPlain e → variables_in (Entered e) ≡ None
 none_of (Plain var nth cached write value raised) p = refl
 none_of _ p = absurd p
 
+-- a performed access has the variables of the draw that it is for
 variables_are : (x : ℕ) (d : Draw) (p : Performed) (k : IsDrawnFor x d p) → p.access.variables ≡ variables_in (Entered k.entry)
 variables_are x d p k = ap (λ (a : Access). a.variables) k.access ∙ ap variables_in k.made
 
+-- and its thread
 thread_is : (x : ℕ) (d : Draw) (p : Performed) → IsDrawnFor x d p → p.access.thread ≡ d.thread
 thread_is x d p k = ap (λ (a : Access). a.thread) k.access
 

@@ -7,6 +7,7 @@ use Rattle.gl_reference.specs.declared.races.Next.{Next}
 use Rattle.gl_reference.specs.Races.{IsPartOf, IsRacyNext, IsRacyPart, IsFirstRacy}
 use Rattle.gl_reference.proofs.Marks.{slice_get_within}
 
+-- two tests of one fact are equal
 same_truth : (a b : Bool) (P : Type 0) → (a ≡ true) ↔ P → (b ≡ true) ↔ P → a ≡ b
 same_truth true b P p q = sym (q.1 (p.0 refl))
 same_truth false true P p q = p.1 (q.0 refl)

@@ -139,9 +139,11 @@ module _ (t q p : ℕ) (e : Entry) (ds : List Draw) where
   attempt_news false true d (inr old) = inl old
   attempt_news false false d old = inl old
 
+-- a draw for a look has no entry
 looked_not : (t q : ℕ) (d : Draw) (e : Entry) → d ≡ draw t q (Looked (pos 0)) → d.what ≡ Entered e → ⊥
 looked_not t q d e is what = let same : Looked (pos 0) ≡ Entered e = sym (ap (λ (z : Draw). z.what) is) ∙ what in cc
 
+-- a draw that was made for an entry is for no other
 entry_is : (t q : ℕ) (d : Draw) (e f : Entry) → d ≡ draw t q (Entered f) → d.what ≡ Entered e → f ≡ e
 entry_is t q d e f is what = let same : Entered f ≡ Entered e = sym (ap (λ (z : Draw). z.what) is) ∙ what in cc
 

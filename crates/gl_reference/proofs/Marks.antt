@@ -10,28 +10,34 @@ use Rattle.gl_reference.proofs.Truths.{either}
 use Rattle.gl_model.specs.Next.{IsCommitOn, ReachesThread, HappensBeforeNext, Reaches, own_later, commit_edge, thread_on, edge_on}
 use Rattle.gl_reference.specs.Steps.{Starts, Leads, IsMarked, HasMarked, IsCommitWith, AreMarks}
 
+-- one position of a list has one event
 same_event : (h : List Stamp) (q : ℕ) (s r : Stamp) → EventAt h q s → EventAt h q r → r ≡ s
 same_event h q s r here there = cc
 
+-- what stands in a list stands below its length
 pub slice_get_within : {A : Type 0} (xs : List A) (p : ℕ) (x : A) → slice_get xs p ≡ Some x → p < length xs
 slice_get_within [] p x is = absurd (cc)
 slice_get_within (y ∷ ys) zero x is = omega arith
 slice_get_within (y ∷ ys) (suc p) x is = let l : p < length ys = slice_get_within ys p x is in omega arith
 
+-- below the length, a list with one more has what it had
 slice_get-old : {A : Type 0} (xs : List A) (y : A) (p : ℕ) → p < length xs → slice_get (xs ++ y ∷ []) p ≡ slice_get xs p
 slice_get-old [] y p l = absurd (omega arith)
 slice_get-old (x ∷ xs) y zero l = refl
 slice_get-old (x ∷ xs) y (suc p) l = slice_get-old xs y p (omega arith)
 
+-- at the length it has the new one
 slice_get-new : {A : Type 0} (xs : List A) (y : A) → slice_get (xs ++ y ∷ []) (length xs) ≡ Some y
 slice_get-new [] y = refl
 slice_get-new (x ∷ xs) y = slice_get-new xs y
 
+-- at each place below the length something stands
 slice_get_there : {A : Type 0} (xs : List A) (p : ℕ) → p < length xs → (x : A) × (slice_get xs p ≡ Some x)
 slice_get_there [] p l = absurd (omega arith)
 slice_get_there (x ∷ xs) zero l = (x, refl)
 slice_get_there (x ∷ xs) (suc p) l = slice_get_there xs p (omega arith)
 
+-- what is at most p is below p, or is p
 below_or_last : (k p : ℕ) → k ≤ p → (k < p) ⊎ (k ≡ p)
 below_or_last k p le = elim (eq-or-lt_of_le le) [ inl same ↦ inr same | inr l ↦ inl l ]
 
@@ -169,6 +175,7 @@ none_of_more xs P i x here not_this none k p l there w = elim (below_or_last k i
   | inr last ↦ (let again : slice_get xs i ≡ Some p = rw last at there in let e : p ≡ x = cc in not_this (rw e at w))
 ]
 
+-- where no place is left and P held at none, it holds at none
 pub none_of_all : {A : Type 0} (xs : List A) (P : A → Type 0) (n : ℕ) → length xs ≤ n
     → ((k : ℕ) (p : A) → k < n → slice_get xs k ≡ Some p → P p → ⊥) → IsTrue false ↔ ((i : ℕ) × ((p : A) × (slice_get xs i ≡ Some p) × P p))
 none_of_all xs P n le none = (

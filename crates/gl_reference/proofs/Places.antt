@@ -8,21 +8,25 @@ use Rattle.gl_model.specs.declared.event.Stamp.{Stamp}
 use Rattle.gl_model.specs.Edges.{EventAt}
 use Rattle.gl_model.specs.Rising.{Rises}
 
+-- what stood in a list stands there in a longer one
 pub get_kept : {A : Type 0} (xs more : List A) (i : ℕ) (x : A) → slice_get xs i ≡ Some x → slice_get (xs ++ more) i ≡ Some x
 get_kept [] more i x e = absurd (cc)
 get_kept (y ∷ xs) more zero x e = e
 get_kept (y ∷ xs) more (suc i) x e = get_kept xs more i x e
 
+-- what stands at j of a second list stands that far after the first
 pub get_more : {A : Type 0} (xs more : List A) (j : ℕ) (x : A) → slice_get more j ≡ Some x → slice_get (xs ++ more) (length xs + j) ≡ Some x
 get_more [] more j x e = let here : 0 + j ≡ j = omega arith in rw here e
 get_more (y ∷ xs) more j x e = let here : suc (length xs) + j ≡ suc (length xs + j) = omega arith in rw here (get_more xs more j x e)
 
+-- what stands in two lists after one another stands in one of them
 pub get_cases : {A : Type 0} (xs more : List A) (i : ℕ) (x : A) → slice_get (xs ++ more) i ≡ Some x → (slice_get xs i ≡ Some x)
     ⊎ ((j : ℕ) × (slice_get more j ≡ Some x))
 get_cases [] more i x e = inr (i, e)
 get_cases (y ∷ xs) more zero x e = inl e
 get_cases (y ∷ xs) more (suc i) x e = get_cases xs more i x e
 
+-- the image in an option comes from what is in it
 mapped : {A B : Type 0} (f : A → B) (o : Option A) (b : B) → option_map f o ≡ Some b → (a : A) × (o ≡ Some a) × (f a ≡ b)
 mapped f None b e = absurd (cc)
 mapped f (Some a) b e = (a, refl, let same : Some (f a) ≡ Some b = e in cc)
@@ -32,6 +36,7 @@ pub map_cases : {A B : Type 0} (f : A → B) (xs : List A) (i : ℕ) (b : B) →
     × (slice_get xs i ≡ Some a) × (f a ≡ b)
 map_cases f xs i b e = mapped f (slice_get xs i) b (sym (slice_get-map f xs i) ∙ e)
 
+-- the image of a member stands where the member does
 pub map_there : {A B : Type 0} (f : A → B) (xs : List A) (i : ℕ) (a : A) → slice_get xs i ≡ Some a → slice_get (map f xs) i ≡ Some (f a)
 map_there f xs i a e = slice_get-map f xs i ∙ ap (option_map f) e
 
@@ -39,14 +44,17 @@ map_there f xs i a e = slice_get-map f xs i ∙ ap (option_map f) e
 pub place_of : (xs : List ℕ) (y : ℕ) → Contains xs y → (k : ℕ) × (slice_get xs k ≡ Some y)
 place_of xs y c = (c.0, slice_get-get_or xs c.0 y c.1 ∙ ap Some c.2)
 
+-- what stands at a place is in the list
 pub contains_at : (xs : List ℕ) (k y : ℕ) → slice_get xs k ≡ Some y → Contains xs y
 contains_at xs k y e = (k, slice_get_within xs k y e, get_or_from_slice_get xs k y y e)
 
+-- what holds of all holds of what stands at a place
 all_at : (P : ℕ → Type 0) (xs : List ℕ) (k y : ℕ) → AllByRecursion P xs → slice_get xs k ≡ Some y → P y
 all_at P [] k y all e = absurd (cc)
 all_at P (x ∷ xs) zero y all e = let same : x ≡ y = cc in subst P same all.0
 all_at P (x ∷ xs) (suc k) y all e = all_at P xs k y all.1 e
 
+-- in a list that rises what stands earlier is less
 rises_at : (xs : List ℕ) (i k a b : ℕ) → Rises xs → i < k → slice_get xs i ≡ Some a → slice_get xs k ≡ Some b → a < b
 rises_at [] i k a b rising less e f = absurd (cc)
 rises_at (x ∷ xs) i zero a b rising less e f = absurd (omega arith)

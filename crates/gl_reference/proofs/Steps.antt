@@ -40,13 +40,16 @@ use Rattle.gl_reference.proofs.Bridge.{racy_draw, racy_kept}
 use Rattle.gl_reference.proofs.Growth.{raised_kept, plain_kept, refused_kept, commit_kept}
 use Rattle.gl_reference.proofs.Places.{place_of, contains_at, less_before}
 
+-- what follows from what holds of a success holds of it
 pub if_ok_map : {A B : Type 0} (r : Result A B) (P Q : A → Type 0) → IfOk r P → ((a : A) → P a → Q a) → IfOk r Q
 if_ok_map (Ok a) P Q k f = f a k
 if_ok_map (Err e) P Q k f = tt
 
+-- a line, by thread, item and what was said of it
 abbrev pub line : ℕ → Item → Judged → Line
 line t item judged = record { thread = t; item = item; judged = judged }
 
+-- after sound lines that the judge follows, the next one is judged rightly and followed
 abbrev pub Stepped : ℕ → Item → Judged → List Stamp → List Performed → List Bool → List Stamp → List Performed → List Bool → Type 0
 Stepped t item judged h ps over h' ps' over' =
     (lines : List Line) → AreSound (lines ++ line t item judged ∷ []) → AreVerdicts lines → AreFollowed lines h ps over →
@@ -63,6 +66,7 @@ followed_push lines l h ps over e performed ended = record {
   ended = λ u. ended u ∙ sym (ended_push (steps_of lines) (l.thread, l.item) u) ∙ ap (λ ss. is_ended ss u) (sym (steps_push lines l));
 }
 
+-- a line that is no access is followed where its events and who has ended are
 pub stepped_act : (t : ℕ) (act : Act) (h h' : List Stamp) (ps ps' : List Performed) (over over' : List Bool) (joined : Bool) → ps' ≡ ps
     → ((u : ℕ) → act ≡ Join u → joined ≡ slice_index_or over u false) →
     ((s : Traced) → s.history ≡ h → ((u : ℕ) → act ≡ Join u → joined ≡ s.tracing.ended u) → h' ≡ (traced_act t act s).history)
@@ -87,6 +91,7 @@ plain_history t x write NoAccess s = refl
 plain_history t x write WasPerformed s = refl
 plain_history t x write (Raised var) s = refl
 
+-- a plain access that is raised exactly where it races is judged by its variable
 plain_judged : (s : Traced) (ps ps' : List Performed) (t x : ℕ) (write : Bool) (judged : Judged) → ArePerformed s.draws ps
     → PlainDone s.history ps t x write judged ps'
     → IsJudgedBy (λ y. IsRacyNext s.history y (s.draws y) t None (entered (Access x write) judged s)) (Access x write) judged
@@ -103,6 +108,7 @@ plain_judged s ps ps' t x write (Raised var) are d = (
   λ y less a racy. let e = d.0 in omega arith,
 )
 
+-- the accesses that the judge keeps are the performed ones after a plain line too
 plain_performed : (s : Traced) (ps ps' : List Performed) (t x : ℕ) (write : Bool) (judged : Judged) → IsLastOf s.history t (block_of t s)
     → ArePerformed s.draws ps → PlainDone s.history ps t x write judged ps'
     → ArePerformed (after_item t (Access x write) judged s).draws ps'
@@ -110,6 +116,7 @@ plain_performed s ps ps' t x write NoAccess last are d = absurd d
 plain_performed s ps ps' t x write WasPerformed last are d = plain_kept s t x write ps ps' d.1.0 (d.1.1 (block_of t s) last) d.1.2 are
 plain_performed s ps ps' t x write (Raised var) last are d = raised_kept s t x write ps ps' d.2 are
 
+-- a plain line that is raised exactly where it races, and else kept, is followed
 pub stepped_plain : (t x : ℕ) (write : Bool) (judged : Judged) (h h' : List Stamp) (ps ps' : List Performed) (over over' : List Bool) → h'
     ≡ h → over' ≡ over → PlainDone h ps t x write judged ps' → Stepped t (Access x write) judged h ps over h' ps' over'
 stepped_plain t x write judged h h' ps ps' over over' same_events same_over done lines sound right f =
@@ -195,6 +202,7 @@ module _ (s : Traced) (now : State) (r : IsRecorded s now) (t : ℕ) (running : 
   commit_history h' ps' WasPerformed d = d.1
   commit_history h' ps' (Raised var) d = d.1
 
+-- a commit line that is refused for its first race, and else kept, is followed
 pub stepped_commit : (t : ℕ) (reads writes : List ℕ) (judged : Judged) (h h' : List Stamp) (ps ps' : List Performed)
     (over over' : List Bool) → over' ≡ over →
     ((variables : List ℕ) × Rises variables × (length (with_all writes reads) ≤ TX_VARIABLES → variables ≡ with_all writes reads)

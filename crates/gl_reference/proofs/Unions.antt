@@ -7,17 +7,21 @@ use Rattle.std.proofs.lemmas.List.Elements.{Contains-get_or, Contains-append_rig
 use Rattle.gl_model.specs.declared.limits.TheConstants.{TX_VARIABLES}
 use Rattle.gl_model.specs.Rising.{with_one, with_all}
 
+-- two tests that hold alike are equal
 pub same_bool : (a b : Bool) → (a ≡ true) ↔ (b ≡ true) → a ≡ b
 same_bool true b e = sym (e.0 refl)
 same_bool false true e = e.1 refl
 same_bool false false e = refl
 
+-- a list has its head
 contains_front : (y : ℕ) (ys : List ℕ) → Contains (y ∷ ys) y
 contains_front y ys = Contains-get_or (y ∷ ys) 0 0 (omega arith)
 
+-- what the tail has the list has
 contains_behind : (y x : ℕ) (ys : List ℕ) → Contains ys x → Contains (y ∷ ys) x
 contains_behind y x ys c = Contains-append_right (y ∷ []) ys x c
 
+-- a list that does not have x is one longer with it
 pub longer : (x : ℕ) (ys : List ℕ) → (Contains ys x → ⊥) → length (with_one x ys) ≡ length ys + 1
 longer x [] none = refl
 longer x (y ∷ ys) none = by_same (x == y) refl (λ c. longer x ys c)
@@ -32,6 +36,7 @@ longer x (y ∷ ys) none = by_same (x == y) refl (λ c. longer x ys c)
     by_same true e rest = absurd (none (subst (Contains (y ∷ ys)) (sym (eqb-true x y e)) (contains_front y ys)))
     by_same false e rest = by_less (nat_lt x y) rest
 
+-- with x a list is no shorter
 one_length : (x : ℕ) (ys : List ℕ) → length ys ≤ length (with_one x ys)
 one_length x [] = omega arith
 one_length x (y ∷ ys) = by_same (x == y) (one_length x ys)
@@ -45,6 +50,7 @@ one_length x (y ∷ ys) = by_same (x == y) (one_length x ys)
     by_same true rest = omega arith
     by_same false rest = by_less (nat_lt x y) rest
 
+-- two lists put together have no fewer than the second
 pub all_length : (xs ys : List ℕ) → length ys ≤ length (with_all xs ys)
 all_length [] ys = omega arith
 all_length (x ∷ xs) ys = omega (arith, one_length x ys, all_length xs (with_one x ys))

@@ -22,6 +22,7 @@ first_split bs front back n found f b =
     ∙ ap (λ l. l ∷ slice_split is_comma (after_first is_comma bs)) same_front
     ∙ ap (λ l. front ∷ slice_split is_comma l) same_back
 
+-- bytes without a comma are one piece
 pub last_split : (bs : List ℕ) → position is_comma bs ≡ None → slice_split is_comma bs ≡ bs ∷ []
 last_split bs none = split_none is_comma bs (place_none is_comma bs none)
 
@@ -34,6 +35,7 @@ below_of xs n x none =
       | inr e ↦ (leb-false n x e, sym (rw e refl) ∙ none)
     ]
 
+-- a list that rises does so with a number above all at the end
 rises_push : (xs : List ℕ) (n : ℕ) → rises xs ≡ true → list_any (λ x. nat_le n x) xs ≡ false → rises (xs ++ n ∷ []) ≡ true
 rises_push [] n r none = refl
 rises_push (x ∷ xs) n r none =
@@ -44,6 +46,7 @@ rises_push (x ∷ xs) n r none =
     ∙ and_from (list_all (λ y. nat_lt x y) xs) (nat_lt x n && true) first (rw (lt-ltb x n below) refl))
     (rises_push xs n others rest)
 
+-- with a number at the end that is not above all it does not
 falls_push : (xs : List ℕ) (n : ℕ) → list_any (λ x. nat_le n x) xs ≡ true → rises (xs ++ n ∷ []) ≡ false
 falls_push [] n some = sym some
 falls_push (x ∷ xs) n some =
@@ -69,9 +72,11 @@ goes_last (x ∷ xs) n none =
 pub falls : (xs : List ℕ) (n : ℕ) → list_any (λ x. nat_le n x) xs ≡ true → None ≡ as_set (xs ++ n ∷ [])
 falls xs n some = rw (and_left (rises (xs ++ n ∷ [])) (nat_le (length (xs ++ n ∷ [])) TX_VARIABLES) (falls_push xs n some)) refl
 
+-- a number above all of a list is not in it
 holds_any : (xs : List ℕ) (n : ℕ) → list_any (λ x. nat_le n x) xs ≡ false → Contains xs n → ⊥
 holds_any xs n none h = true≢false (sym (list_any-from_Any (λ x. nat_le n x) xs (h.0, n, h.1, h.2, le-leb n n (omega arith))) ∙ none)
 
+-- a set with room, and a number above all put in: the number stands at its end
 pub grows : (xs ys : List ℕ) (n : ℕ) → is_set xs ≡ true → list_any (λ x. nat_le n x) xs ≡ false
     → ((length xs ≡ TX_VARIABLES) × (Contains xs n → ⊥) → ⊥)
     → ys ≡ with_one n xs → Some ys ≡ as_set (xs ++ n ∷ [])
@@ -117,6 +122,7 @@ abbrev pub put_rest : Option (List ℕ) → List (List ℕ) → Result (Option (
 put_rest kept [] = Ok kept
 put_rest kept (w ∷ ws) = operand_of (VARIABLES - 1) w >>= (λ n. put_rest (with_last kept n) ws)
 
+-- a list that does not rise does not with more
 stays_fallen : (xs : List ℕ) (n : ℕ) → rises xs ≡ false → rises (xs ++ n ∷ []) ≡ false
 stays_fallen [] n e = absurd (true≢false e)
 stays_fallen (x ∷ xs) n e =
@@ -127,6 +133,7 @@ stays_fallen (x ∷ xs) n e =
       | inr rest ↦ and_right (list_all (λ y. nat_lt x y) (xs ++ n ∷ [])) (rises (xs ++ n ∷ [])) (stays_fallen xs n rest)
     ]
 
+-- what is no set is none with more
 stays_none : (xs : List ℕ) (n : ℕ) → is_set xs ≡ false → is_set (xs ++ n ∷ []) ≡ false
 stays_none xs n e =
     elim (and_cases (rises xs) (nat_le (length xs) TX_VARIABLES) e) [
@@ -137,6 +144,7 @@ stays_none xs n e =
           (lt-leb (length (xs ++ n ∷ [])) TX_VARIABLES (omega (arith, length-append xs (n ∷ []))))
     ]
 
+-- one number more, if a set is kept, is the set with it at the end, if that is one
 one_more : (xs : List ℕ) (n : ℕ) → with_last (as_set xs) n ≡ as_set (xs ++ n ∷ [])
 one_more xs n =
     elim (cases_Bool (is_set xs)) [
@@ -144,23 +152,28 @@ one_more xs n =
       | inr e ↦ rw (e, stays_none xs n e) refl
     ]
 
+-- these numbers, and then those that were read, if they were
 abbrev pub after : List ℕ → Result (List ℕ) ℕ → Result (List ℕ) ℕ
 after xs (Ok ys) = Ok (xs ++ ys)
 after xs (Err kind) = Err kind
 
+-- a number at the end of the first is as one at the front of the rest
 after_first_one : (xs : List ℕ) (n : ℕ) (rest : Result (List ℕ) ℕ) → after (xs ++ n ∷ []) rest ≡ after xs (with_first (Ok n) rest)
 after_first_one xs n (Ok ys) = ap Ok (append_assoc xs (n ∷ []) ys)
 after_first_one xs n (Err kind) = refl
 
+-- a word that is read before others is put in before them
 put_word : (xs : List ℕ) (ws : List (List ℕ)) (r : Result ℕ ℕ) → ((ys : List ℕ) → put_rest (as_set ys) ws ≡ kept_set (after ys (ids_of ws)))
     → (r >>= (λ n. put_rest (with_last (as_set xs) n) ws)) ≡ kept_set (after xs (with_first r (ids_of ws)))
 put_word xs ws (Err kind) next = refl
 put_word xs ws (Ok n) next = ap (λ k. put_rest k ws) (one_more xs n) ∙ next (xs ++ n ∷ []) ∙ ap kept_set (after_first_one xs n (ids_of ws))
 
+-- words put in one after another leave the set of what they name, if it is one
 put_all : (xs : List ℕ) (ws : List (List ℕ)) → put_rest (as_set xs) ws ≡ kept_set (after xs (ids_of ws))
 put_all xs [] = ap (λ l. kept_set (Ok l)) (sym (append-nil xs))
 put_all xs (w ∷ ws) = put_word xs ws (operand_of (VARIABLES - 1) w) (λ ys. put_all ys ws)
 
+-- numbers after none are those
 after_none : (r : Result (List ℕ) ℕ) → after [] r ≡ r
 after_none (Ok ys) = refl
 after_none (Err kind) = refl

@@ -20,6 +20,7 @@ use Rattle.gl_trace.specs.Trace.{line_fault}
 use Rattle.gl_trace.specs.declared.limits.TheConstants.{TRACE_LINES}
 use Rattle.gl_trace.specs.Quick.{is_end, IsWord, Begins, IsFirstLine}
 
+-- where neither of two tests holds, both fail
 or_none : (a b : Bool) → (a || b) ≡ false → (a ≡ false) × (b ≡ false)
 or_none true b e = absurd (cc)
 or_none false b e = (refl, e)
@@ -36,6 +37,7 @@ hash_behind (x ∷ xs) rest e =
     let more : position_or_len is_hash ((x ∷ xs) ++ 32 ∷ rest) ≡ suc (position_or_len is_hash (xs ++ 32 ∷ rest)) = rw here (omega arith) in
     ap (λ k. take k ((x ∷ xs) ++ 32 ∷ rest)) more ∙ ap (λ zs. x ∷ zs) (hash_behind xs rest both.1)
 
+-- a word has nothing after a hash
 hash_none : (w : List ℕ) → list_any is_end w ≡ false → before_first is_hash w ≡ w
 hash_none [] e = refl
 hash_none (x ∷ xs) e =
@@ -44,6 +46,7 @@ hash_none (x ∷ xs) e =
     let more : position_or_len is_hash (x ∷ xs) ≡ suc (position_or_len is_hash xs) = rw here (omega arith) in
     ap (λ k. take k (x ∷ xs)) more ∙ ap (λ zs. x ∷ zs) (hash_none xs both.1)
 
+-- a word, a blank and more are split at the blank
 split_behind : (w rest : List ℕ) → list_any is_end w ≡ false → slice_split is_blank (w ++ 32 ∷ rest) ≡ w ∷ slice_split is_blank rest
 split_behind [] rest e = slice_split-cons_yes is_blank 32 rest refl
 split_behind (x ∷ xs) rest e =
@@ -51,12 +54,14 @@ split_behind (x ∷ xs) rest e =
     slice_split-cons_no is_blank x (xs ++ 32 ∷ rest) (or_none (is_blank x) (is_special x) both.0).0
     ∙ ap (onto_first x) (split_behind xs rest both.1)
 
+-- a word has no blank to be split at
 split_none : (w : List ℕ) → list_any is_end w ≡ false → slice_split is_blank w ≡ w ∷ []
 split_none [] e = refl
 split_none (x ∷ xs) e =
     let both = or_none (is_end x) (list_any is_end xs) e in
     slice_split-cons_no is_blank x xs (or_none (is_blank x) (is_special x) both.0).0 ∙ ap (onto_first x) (split_none xs both.1)
 
+-- a word with something in it is kept
 front : (w : List ℕ) (ws : List (List ℕ)) → is_some_word w ≡ true → filter is_some_word (w ∷ ws) ≡ w ∷ filter is_some_word ws
 front [] ws e = absurd (cc)
 front (x ∷ xs) ws e = refl
@@ -73,6 +78,7 @@ words_last word is = ap parts (hash_none word is.1) ∙ ap (filter is_some_word)
 
 -- ---- a plain line and its line feed
 
+-- what is in neither of two lists is not in them together
 pub none_in_both : (p : ℕ → Bool) (xs ys : List ℕ) → list_any p xs ≡ false → list_any p ys ≡ false → list_any p (xs ++ ys) ≡ false
 none_in_both p [] ys e f = f
 none_in_both p (x ∷ xs) ys e f = let both = or_none (p x) (list_any p xs) e in rw (both.0, none_in_both p xs ys both.1 f) refl
@@ -81,9 +87,11 @@ none_in_both p (x ∷ xs) ys e f = let both = or_none (p x) (list_any p xs) e in
 pub word_plain : (word : List ℕ) → IsWord word → IsPlain word
 word_plain word is = fewer_pass is_end is_special (λ x f. (or_none (is_blank x) (is_special x) f).1) word is.1
 
+-- a word, a blank and a plain line are a plain line
 pub spaced_plain : (word rest : List ℕ) → IsWord word → IsPlain rest → IsPlain (word ++ 32 ∷ rest)
 spaced_plain word rest is plain = none_in_both is_special word (32 ∷ rest) (word_plain word is) plain
 
+-- the first special byte of a plain line with a line feed after it is the line feed
 feed_at : (line rest : List ℕ) → IsPlain line → position_or_len is_special (line ++ 10 ∷ rest) ≡ length line
 feed_at [] rest e = refl
 feed_at (x ∷ xs) rest e =
@@ -92,26 +100,32 @@ feed_at (x ∷ xs) rest e =
     ≡ suc (position_or_len is_special (xs ++ 10 ∷ rest)) = rw both.0 (omega arith) in
     more ∙ ap suc (feed_at xs rest both.1)
 
+-- after the line stands the line feed
 at_feed : (line rest : List ℕ) → get_or (line ++ 10 ∷ rest) (length line) 0 ≡ 10
 at_feed [] rest = refl
 at_feed (x ∷ xs) rest = at_feed xs rest
 
+-- the line is what stands before it
 front_of : (line rest : List ℕ) → line ≡ take (length line) (line ++ 10 ∷ rest)
 front_of [] rest = refl
 front_of (x ∷ xs) rest = ap (λ zs. x ∷ zs) (front_of xs rest)
 
+-- the rest is what stands after it
 back_of : (line rest : List ℕ) → rest ≡ drop (length line + 1) (line ++ 10 ∷ rest)
 back_of [] rest = refl
 back_of (x ∷ xs) rest = let e : length (x ∷ xs) + 1 ≡ suc (length xs + 1) = omega arith in rw e (back_of xs rest)
 
+-- the line is shorter than the text
 feed_behind : (line rest : List ℕ) → length line < length (line ++ 10 ∷ rest)
 feed_behind [] rest = omega arith
 feed_behind (x ∷ xs) rest = let l = feed_behind xs rest in omega arith
 
+-- so is the rest
 rest_shorter : (line rest : List ℕ) → length rest < length (line ++ 10 ∷ rest)
 rest_shorter [] rest = omega arith
 rest_shorter (x ∷ xs) rest = let l = rest_shorter xs rest in omega arith
 
+-- a plain line before a line feed is the first line of the text
 pub plain_line : (text line rest : List ℕ) → IsPlain line → text ≡ line ++ 10 ∷ rest → IsFirstLine text line rest
 plain_line text line rest plain is = subst (λ t. IsFirstLine t line rest) (sym is) (record {
   here = plain_first (line ++ 10 ∷ rest) line rest (length line) found (at_feed line rest) (front_of line rest) (back_of line rest);
@@ -124,6 +138,7 @@ plain_line text line rest plain is = subst (λ t. IsFirstLine t line rest) (sym 
 
 -- ---- what three words say
 
+-- a thread, a word of a form with one operand, and a number in range say that step
 usual : (t v n : List ℕ) (thread k : ℕ) (verb : Verb) → operand_of (THREADS - 1) t ≡ Ok thread → form_of v ≡ Ok (One verb)
     → operand_of (most_of verb) n ≡ Ok k
     → said (t ∷ (v ∷ (n ∷ []))) ≡ Ok (Some (thread, item_of verb k))
@@ -163,6 +178,7 @@ digit_word b e =
           (λ z. omega arith),
     )
 
+-- digits have no byte that ends a word
 digits_word : (ds : List ℕ) → list_all is_ascii_digit ds ≡ true → list_any is_end ds ≡ false
 digits_word [] e = refl
 digits_word (b ∷ bs) e =
@@ -195,11 +211,13 @@ digits_front text count value most some few within all is le =
 pub stop_behind : (text rest : List ℕ) (count stop : ℕ) → drop count text ≡ stop ∷ rest → text ≡ take count text ++ stop ∷ rest
 stop_behind text rest count stop e = sym (take-append-drop count text) ∙ ap (λ zs. take count text ++ zs) e
 
+-- what is left after a stop is shorter than the text
 pub stop_shorter : (text rest : List ℕ) (count stop : ℕ) → drop count text ≡ stop ∷ rest → length rest < length text
 stop_shorter text rest count stop e = omega (arith, ap length e, length-drop count text)
 
 -- ---- a line that was read has no fault
 
+-- a line that is not bad, in time, and says a step that is clean has no fault
 pub quick_clean : (before : List Step) (m : ℕ) (line : List ℕ) (s : Step) → is_bad line ≡ false → m ≤ TRACE_LINES → said (words line)
     ≡ Ok (Some s) → step_fault before s.0 s.1 ≡ None → line_fault before m line ≡ None
 quick_clean before m line s good few says none = rw (good, le-ltb TRACE_LINES m few, says, none) refl

@@ -25,12 +25,15 @@ module _ (p : ℕ → Bool) (none : (b : ℕ) → 48 ≤ b → b ≤ 57 → p b 
       let range = and_parts (nat_le 48 b) (nat_le b 57) both.0 in
       rw (none b (leb-true 48 b range.0) (leb-true b 57 range.1), digits_none bs both.1) refl
 
+-- digits have no comma
 comma_free : (ds : List ℕ) → list_all is_ascii_digit ds ≡ true → list_any is_comma ds ≡ false
 comma_free = digits_none is_comma (λ b l h. ne_eqb b 44 (λ e. omega arith))
 
+-- there is a minus among these bytes
 abbrev has_minus : List ℕ → Bool
 has_minus bs = list_any (λ b. b == 45) bs
 
+-- digits have no minus
 minus_free : (ds : List ℕ) → list_all is_ascii_digit ds ≡ true → has_minus ds ≡ false
 minus_free = digits_none (λ b. b == 45) (λ b l h. ne_eqb b 45 (λ e. omega arith))
 
@@ -45,16 +48,19 @@ not_minus (b ∷ bs) e = by (b == 45) refl e
 
 -- ---- parts between commas
 
+-- where neither of two tests holds, both fail
 or_none : (a b : Bool) → (a || b) ≡ false → (a ≡ false) × (b ≡ false)
 or_none true b e = absurd (cc)
 or_none false b e = (refl, e)
 
+-- a word, a comma and more are split at the comma
 comma_behind : (w rest : List ℕ) → list_any is_comma w ≡ false → slice_split is_comma (w ++ 44 ∷ rest) ≡ w ∷ slice_split is_comma rest
 comma_behind [] rest e = slice_split-cons_yes is_comma 44 rest refl
 comma_behind (x ∷ xs) rest e =
     let both = or_none (is_comma x) (list_any is_comma xs) e in
     slice_split-cons_no is_comma x (xs ++ 44 ∷ rest) both.0 ∙ ap (onto_first x) (comma_behind xs rest both.1)
 
+-- a word without a comma is one piece
 comma_none : (w : List ℕ) → list_any is_comma w ≡ false → slice_split is_comma w ≡ w ∷ []
 comma_none [] e = refl
 comma_none (x ∷ xs) e =
@@ -63,10 +69,12 @@ comma_none (x ∷ xs) e =
 
 -- ---- the numbers so far
 
+-- a number at the front of the rest is as one at the end of the first
 after_one : (xs : List ℕ) (n : ℕ) (r : Result (List ℕ) ℕ) → after xs (with_first (Ok n) r) ≡ after (xs ++ n ∷ []) r
 after_one xs n (Ok ys) = ap Ok (sym (append_assoc xs (n ∷ []) ys))
 after_one xs n (Err kind) = refl
 
+-- what is a set as it is kept is that list, and a set
 set_new : (new xs : List ℕ) → Some new ≡ as_set xs → (new ≡ xs) × (is_set xs ≡ true)
 set_new new xs e = by (is_set xs) refl e
   where
@@ -129,15 +137,18 @@ module _ (text kept rest w : List ℕ) (stop : ℕ) (more' : List ℕ) (id : ℕ
 
 -- ---- a line of a commit
 
+-- a thread and a commit's words, with two sets, say that commit
 said_commit : (t a b : List ℕ) (thread : ℕ) (reads writes : List ℕ) → operand_of (THREADS - 1) t ≡ Ok thread → set_of a ≡ Ok (Some reads)
     → set_of b ≡ Ok (Some writes)
     → said (t ∷ (codes "commit" ∷ (codes "r" ∷ (a ∷ (codes "w" ∷ (b ∷ [])))))) ≡ Ok (Some (thread, Commits reads writes))
 unfolding step_said commit_said lists_of
 said_commit t a b thread reads writes x y z = rw (x, y, z) refl
 
+-- a word, a blank and a line are a line
 spaced_whole : (text w r line rest : List ℕ) → Begins text w 32 r → r ≡ line ++ 10 ∷ rest → text ≡ (w ++ 32 ∷ line) ++ 10 ∷ rest
 spaced_whole text w r line rest b e = b.whole ∙ ap (λ l. w ++ 32 ∷ l) e ∙ sym (append_assoc w (32 ∷ line) (10 ∷ rest))
 
+-- a text that begins with the words of a commit has that commit as its first line
 pub commit_line : (text r1 r2 r3 r4 r5 rest t a b : List ℕ) (thread : ℕ) (reads writes : List ℕ) → Begins text t 32 r1 → r1
     ≡ codes "commit" ++ 32 ∷ r2 → r2 ≡ codes "r" ++ 32 ∷ r3 → Begins r3 a 32 r4 → r4 ≡ codes "w" ++ 32 ∷ r5 → Begins r5 b 10 rest
     → operand_of (THREADS - 1) t ≡ Ok thread → set_of a ≡ Ok (Some reads) → set_of b ≡ Ok (Some writes) → (line : List ℕ)

@@ -27,6 +27,7 @@ pub record IsNext (ls : List (List ℕ)) (n : ℕ) (line : List ℕ) (rest : Lis
   pub after : drop (n + 1) ls ≡ rest
   pub taken : take (n + 1) ls ≡ take n ls ++ line ∷ []
 
+-- the first of the lines that are left from n on stands at n
 pub next_of : (ls : List (List ℕ)) (n : ℕ) (line : List ℕ) (rest : List (List ℕ)) → drop n ls ≡ line ∷ rest → IsNext ls n line rest
 next_of ls n line rest e =
     let there : n < length ls = omega (arith, length-drop n ls, ap length e) in
@@ -39,6 +40,7 @@ next_of ls n line rest e =
       taken = take_more ls n [] there ∙ ap (λ x. take n ls ++ x ∷ []) here;
     }
 
+-- what the lines say with one more is what they say, and then what that says
 pub lines_from-push : (k : ℕ) (ls : List (List ℕ)) (line : List ℕ)
     → lines_from k (ls ++ line ∷ []) ≡ lines_from k ls ++ made (k + length ls) (said (words line))
 lines_from-push k [] line = append-nil (made k (said (words line))) ∙ ap (λ n. made n (said (words line))) (sym (add-zero k))
@@ -47,10 +49,12 @@ lines_from-push k (x ∷ xs) line =
     ∙ sym (append_assoc (made k (said (words x))) (lines_from (k + 1) xs) (made (k + 1 + length xs) (said (words line))))
     ∙ ap (λ n. (made k (said (words x)) ++ lines_from (k + 1) xs) ++ made n (said (words line))) (omega arith)
 
+-- a depth from 1 to a is so up to b, where that is more
 within_some : (o : Option (ℕ × ℕ)) (a b : ℕ) → a ≤ b → IfSome o (λ h. (0 < h.1) × (h.1 ≤ a)) → IfSome o (λ h. (0 < h.1) × (h.1 ≤ b))
 within_some None a b le h = tt
 within_some (Some x) a b le (pos, top) = (pos, omega arith)
 
+-- depths within n are within n + 1
 within_more : (standing : Standing) (n : ℕ) → IsWithin n standing → IsWithin (n + 1) standing
 within_more standing n h = λ m below. within_some _ n (n + 1) (omega arith) (h m below)
 
@@ -60,6 +64,7 @@ pub record IsRead (text : List ℕ) (n : ℕ) (rest : List (List ℕ)) (new : Li
   pub said : new ≡ lines_from 1 (take (n + 1) (lines text))
   pub clean : (i : ℕ) → i < n + 1 → fault_at (lines text) i ≡ None
 
+-- a line without a fault is read: what it says is said, and the rest is left
 read_on : (text line : List ℕ) (n : ℕ) (rest : List (List ℕ)) (old new : List TraceLine) (before : Standing) (o : Option Step)
     → Reads text n (line ∷ rest) old before → said (words line) ≡ Ok o → line_fault (steps_of old) (n + 1) line ≡ None
     → new ≡ old ++ made (n + 1) (Ok o) → IsRead text n rest new
@@ -100,25 +105,30 @@ read_silent text line n rest old standing reads few says clean =
       well = reads.well;
     }
 
+-- a step without the kind of a fault has no fault
 none_back : (o : Option StepFault) → option_map kind_of o ≡ None → o ≡ None
 none_back None e = refl
 none_back (Some fault) e = absurd (true≢false (ap is_some e))
 
+-- a line without a fault that says a step says one without a fault
 pub chosen : (before : List Step) (b c : Bool) (j k : ℕ) (r : Result (Option Step) ℕ) (s : Step) → r ≡ Ok (Some s)
     → (if b then Some j else (if c then Some k else said_fault before r)) ≡ None → step_fault before s.0 s.1 ≡ None
 chosen before true c j k r s says e = absurd (true≢false (ap is_some e))
 chosen before false true j k r s says e = absurd (true≢false (ap is_some e))
 chosen before false false j k r s says e = none_back (step_fault before s.0 s.1) (sym (ap (said_fault before) says) ∙ e)
 
+-- below its length, a list has what a longer one has
 get_front : (xs ys : List Step) (k : ℕ) → k < length xs → slice_get (xs ++ ys) k ≡ slice_get xs k
 get_front [] ys k h = absurd (omega arith)
 get_front (x ∷ xs) ys zero h = refl
 get_front (x ∷ xs) ys (suc k) h = get_front xs ys k (omega arith)
 
+-- the new step stands at the end
 get_seam : (xs : List Step) (y : Step) → slice_get (xs ++ y ∷ []) (length xs) ≡ Some y
 get_seam [] y = refl
 get_seam (x ∷ xs) y = get_seam xs y
 
+-- clean steps and one more that is clean are clean
 pub clean_push : (steps : List Step) (s : Step) → AreClean steps → step_fault steps s.0 s.1 ≡ None → AreClean (steps ++ s ∷ [])
 clean_push steps s clean none = λ k r e.
     elim (cases_lt k (length steps)) [
@@ -148,6 +158,7 @@ well_more old new m s well few range kept none adds =
       clean = subst AreClean (sym steps) (clean_push (steps_of old) s well.clean none);
     }
 
+-- a line that says a step, and has no fault, is read: the step is put to those that were read
 pub read_step : (text line : List ℕ) (n : ℕ) (rest : List (List ℕ)) (old new : List TraceLine) (before after : Standing) (s : Step)
     → Reads text n (line ∷ rest) old before → n + 1 ≤ TRACE_LINES → said (words line) ≡ Ok (Some s)
     → line_fault (steps_of old) (n + 1) line ≡ None
@@ -203,6 +214,7 @@ numbered_step text line n m given rest old before after s next same reads few sa
     (read_step text line n rest old (old ++ (n + 1, s.0, s.1) ∷ []) before after s reads (rw next at few) says (rw next at clean) refl
     tracks (rw next at within) range kept)
 
+-- a line that says nothing is read, and leaves all as it was
 pub numbered_silent : (text line : List ℕ) (n m given : ℕ) (rest : List (List ℕ)) (old : List TraceLine) (standing : Standing)
     → m ≡ n + 1 → given ≡ m → Reads text n (line ∷ rest) old standing → m ≤ TRACE_LINES → said (words line) ≡ Ok None
     → line_fault (steps_of old) m line ≡ None
@@ -210,6 +222,7 @@ pub numbered_silent : (text line : List ℕ) (n m given : ℕ) (rest : List (Lis
 numbered_silent text line n m given rest old standing next same reads few says clean =
     rw (same, next) (read_silent text line n rest old standing reads (rw next at few) says (rw next at clean))
 
+-- a line with a fault, after lines without one, is the first with one
 pub numbered_fault : (text line : List ℕ) (n m kind : ℕ) (rest : List (List ℕ)) (old : List TraceLine) (standing : Standing)
     → m ≡ n + 1 → length text ≤ TRACE_BYTES → Reads text n (line ∷ rest) old standing → line_fault (steps_of old) m line ≡ Some kind
     → IsFirstFault text m kind

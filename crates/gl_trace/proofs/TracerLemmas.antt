@@ -40,6 +40,7 @@ pub weaker : (a b : ℕ) → a < b → (xs : List ℕ) → AllByRecursion (λ y.
 weaker a b h [] all = tt
 weaker a b h (x ∷ xs) all = (omega (arith, all.0), weaker a b h xs all.1)
 
+-- one entry more of a thread is at the end of its list, and no other list changes
 pub one_entry : (t : ℕ) (e : Entry) (ls : List (ℕ × List Entry)) → Rises (map (λ l. l.0) ls) → (u : ℕ) → lists_of (with_last t e ls) u
     ≡ with_entry (lists_of ls) t e u
 one_entry t e [] rises u =
@@ -80,6 +81,7 @@ one_entry t e (l ∷ ls) rises u =
 
 -- ---- parts of a transaction
 
+-- in a list that rises those before the one at k are less
 before : (xs : List ℕ) (k : ℕ) → Rises xs → k < length xs → AllByRecursion (λ x. x < get_or xs k 0) (take k xs)
 before [] k rises h = absurd (omega arith)
 before (x ∷ xs) zero rises h = tt
@@ -90,6 +92,7 @@ before (x ∷ xs) (suc k) rises h = (above xs k rises.0 (omega arith), before xs
     above (y ∷ ys) zero all i = all.0
     above (y ∷ ys) (suc j) all i = above ys j all.1 (omega arith)
 
+-- a part with a greater variable than all comes to the end
 part_last : {A : Type 0} (key : A → ℕ) (f : ℕ → A) → ((x : ℕ) → key (f x) ≡ x) → (n : ℕ) (xs : List ℕ) → AllByRecursion (λ x. x < n) xs
     → with_part key (f n) (map f xs) ≡ map f (xs ++ n ∷ [])
 part_last key f tells n [] all = refl
@@ -98,6 +101,7 @@ part_last key f tells n (x ∷ xs) all =
     let over : nat_lt (key (f n)) (key (f x)) ≡ false = le-ltb (key (f n)) (key (f x)) (omega (arith, all.0, tells n, tells x)) in
     rw (apart, over) (ap (λ l. f x ∷ l) (part_last key f tells n xs all.1))
 
+-- the next part of a list that rises comes to the end of those before it
 pub part_next : {A : Type 0} (key : A → ℕ) (f : ℕ → A) → ((x : ℕ) → key (f x) ≡ x) → (items ids : List ℕ) (k : ℕ) → items ≡ ids → Rises ids
     → k < length items
     → with_part key (f (get_or items k 0)) (map f (take k ids)) ≡ map f (take (k + 1) ids)
@@ -108,6 +112,7 @@ part_next key f tells items ids k same rises h =
     ∙ part_last key f tells (get_or ids k 0) (take k ids) (before ids k rises there)
     ∙ ap (map f) (sym (take_more ids k 0 there))
 
+-- two functions that agree on variables map variables alike
 pub map_same : {A : Type 0} (f g : ℕ → A) (xs : List ℕ) → AllByRecursion (λ x. x < VARIABLES) xs → ((x : ℕ) → x < VARIABLES → f x ≡ g x)
     → map f xs ≡ map g xs
 map_same f g [] all same = refl
@@ -115,10 +120,12 @@ map_same f g (x ∷ xs) all same = ap (λ y. y ∷ map f xs) (same x all.0) ∙ 
 
 -- ---- the numbers that are drawn
 
+-- what is above all is not in the list
 not_in : (n : ℕ) (xs : List ℕ) → AllByRecursion (λ x. x < n) xs → is_in n xs ≡ false
 not_in n [] all = refl
 not_in n (x ∷ xs) all = let apart : n == x ≡ false = ne_eqb n x (λ h. omega (arith, all.0)) in rw apart (not_in n xs all.1)
 
+-- in the longer list is what was in it, and the new one
 in_push : (x y : ℕ) (xs : List ℕ) → is_in x (xs ++ y ∷ []) ≡ (is_in x xs || (x == y))
 in_push x y [] = elim (cases_Bool (x == y)) [ inl e ↦ rw e refl | inr e ↦ rw e refl ]
 in_push x y (z ∷ zs) = elim (cases_Bool (x == z)) [ inl e ↦ rw e refl | inr e ↦ rw e (in_push x y zs) ]
@@ -132,6 +139,7 @@ drawn_none items ids k same rises h =
     ∙ not_in (get_or ids k 0) (take k ids) (before ids k rises there) in
     rw none refl
 
+-- how many look numbers are drawn, with the next read: one on its variable, and the others as before
 pub drawn_next : (items ids : List ℕ) (k x : ℕ) → items ≡ ids → Rises ids → k < length items
     → look_count (take (k + 1) ids) x ≡ (if x == get_or items k 0 then 1 else look_count (take k ids) x)
 drawn_next items ids k x same rises h =
@@ -170,6 +178,7 @@ one_drawn numbers old items ids k same rises h room inv v is x below =
           get_or-set_other numbers v x (get_or numbers v 0 + 1) 0 (λ e. apart (e ∙ is)) ∙ inv x below ∙ ap (λ n. old x + n) (sym same_count)
     ]
 
+-- in a set with y more are y and what was in it
 in_one : (x y : ℕ) (ys : List ℕ) → is_in x (with_one y ys) ≡ ((x == y) || is_in x ys)
 in_one x y [] = elim (cases_Bool (x == y)) [ inl e ↦ rw e refl | inr e ↦ rw e refl ]
 in_one x y (z ∷ zs) =
@@ -191,6 +200,7 @@ in_one x y (z ∷ zs) =
           ]
     ]
 
+-- in the reads and writes together is what is in either
 own_all : (rs ws : List ℕ) (x : ℕ) → is_in x (with_all ws rs) ≡ (is_in x rs || is_in x ws)
 own_all rs [] x = elim (cases_Bool (is_in x rs)) [ inl e ↦ rw e refl | inr e ↦ rw e refl ]
 own_all rs (w ∷ ws) x =
@@ -201,6 +211,7 @@ own_all rs (w ∷ ws) x =
       | inr e ↦ elim (cases_Bool (is_in x rs)) [ inl f ↦ rw (e, f) refl | inr f ↦ rw (e, f) refl ]
     ]
 
+-- a commit draws a number of its own on each variable that it reads or writes
 pub own_is_all : (rs ws : List ℕ) (x : ℕ) → look_count (with_all ws rs) x ≡ own_count rs ws x
 own_is_all rs ws x =
     ap (λ b. if b then 1 else 0) (own_all rs ws x)
@@ -232,15 +243,19 @@ ended_mark xs t u v f is there was =
 
 -- ---- a line, and the end
 
+-- a join of a thread that has not ended is its End and then the join
 pub join_late : (t u : ℕ) (s : Tracing) → s.ended u ≡ false → with_line t (Join u) s ≡ with_act t (Join u) (with_end u s)
 join_late t u s e = rw e refl
 
+-- the ending of a thread that has ended is Over alone
 pub ending_over : (t : ℕ) (s : Tracing) → is_empty (s.lists t) ≡ false → s.ended t ≡ true → with_ending t s ≡ with_over t s
 ending_over t s some over = rw (some, over) refl
 
+-- the ending of a thread that has begun and not ended is its End, and Over
 pub ending_end : (t : ℕ) (s : Tracing) → is_empty (s.lists t) ≡ false → s.ended t ≡ false → with_ending t s ≡ with_over t (with_end t s)
 ending_end t s some on = rw (some, on) refl
 
+-- the list of a thread, where it has one, has entries
 some_list : (ls : List (ℕ × List Entry)) (t : ℕ) (es : List Entry) → AllByRecursion IsListKept ls → list_of ls t ≡ Some es → 0 < length es
 some_list [] t es all e = absurd (true≢false (sym (ap is_some e)))
 some_list (l ∷ ls) t es all e =
@@ -256,15 +271,18 @@ some_list (l ∷ ls) t es all e =
           some_list ls t es all.1 rest
     ]
 
+-- a list with entries is not empty, as a test
 not_empty : (es : List Entry) → 0 < length es → not (is_empty es) ≡ true
 not_empty [] h = absurd (omega arith)
 not_empty (e ∷ es) h = refl
 
+-- a thread has a list exactly where its entries are some
 pub begun : {B : Type 0} (ls : List (ℕ × List Entry)) (t : ℕ) (o : Option B) (view : B → List Entry) → IsRecord ls
     → MatchOption o (list_of ls t ≡ None) (λ es. list_of ls t ≡ Some (view es)) → is_some o ≡ not (is_empty (lists_of ls t))
 begun ls t None view is e = rw e refl
 begun ls t (Some es) view is e = rw e (sym (not_empty (view es) (some_list ls t (view es) is.1 e)))
 
+-- a step without a fault names no more variables than it may
 too_wide_not : (steps : List Step) (t : ℕ) (item : Item) → step_fault steps t item ≡ None → is_too_wide item ≡ false
 too_wide_not steps t item e =
     elim (cases_Bool (is_too_wide item)) [
@@ -279,6 +297,7 @@ pub record IsLineAt (l : TraceLine) (j : Judged) : Type 0 where
   pub few : is_too_wide l.2 ≡ false
   pub suits : Suits l.2 j
 
+-- each line is in range and names few, and what is said of it suits it
 pub line_at : (ls : List TraceLine) (js : List Judged) → AreLines ls → AreJudged ls js → (k : ℕ) (dl : TraceLine) (dj : Judged)
     → k < length ls
     → IsLineAt (get_or ls k dl) (get_or js k dj)
@@ -306,10 +325,12 @@ lines_left ls js count k dl dj h =
     ∙ ap (λ n. judged_lines (get_or ls k dl ∷ drop (suc k) ls) n) (drop-cons js k dj below)
     ∙ ap (λ n. (get_or ls k dl, get_or js k dj) ∷ judged_lines (drop n ls) (drop n js)) (sym (add-one k))
 
+-- what holds anyway holds of a success
 pub on_any : {T E P : Type 0} (r : Result T E) → P → OnOk r P
 on_any (Ok x) p = p
 on_any (Err e) p = tt
 
+-- what is at most a is at most b, where that is more
 pub up_more : (tracer : Tracer) (a b : ℕ) → a ≤ b → IsUpTo a tracer → IsUpTo b tracer
 up_more tracer a b le up = record {
   next = omega (arith, up.next);
@@ -318,10 +339,12 @@ up_more tracer a b le up = record {
 
 -- ## What was recorded is kept
 
+-- a list that has grown twice has grown
 pub grown_more : {A : Type 0} (before between now : List A) → IsGrown before between → IsGrown between now → IsGrown before now
 grown_more before between now first second =
     (first.0 ++ second.0, second.1 ∙ ap (λ l. l ++ second.0) first.1 ∙ append_assoc before first.0 second.0)
 
+-- with an entry more each list is as it was or has grown
 pub entry_kept : (R : Lists) (thread : ℕ) (e : Entry) (t : ℕ) → IsGrown (R t) (with_entry R thread e t)
 entry_kept R thread e t = elim (t == thread) as (λ b. IsGrown (R t) (if b then R t ++ e ∷ [] else R t)) [
   | true ↦ (e ∷ [], refl)
