@@ -214,7 +214,7 @@ module _ (setting : Setting) (R : Lists) (h : List Stamp) (now : State) (rows : 
             let j = filtered_there w.asked stands o.0 o.1.0 q.0 o.1.1 o.1.3 in
             subst (Contains places) o.1.2
             (map_contains (λ (s : Stand). s.place) (races_among w.asked stands) o.1.0
-                (of_list (races_among w.asked stands) j.0 o.1.0 j.1))),
+            (of_list (races_among w.asked stands) j.0 o.1.0 j.1))),
       );
       rising = λ i j b c e' f lt.
           (let r = at_mapped (races_among w.asked stands) i b e' in

@@ -74,19 +74,19 @@ module _ (depths : List ℕ) where
       → AreOwnedBelow depths (n + 1) monitors
   not_owned n monitors test o = let least = ltb-false 0 (slice_index_or depths n 0) test
       in let held : slice_index_or depths n 0 ≡ 0 = omega arith in record {
-    rises = o.rises;
-    each = λ m. (
-      λ c. (let w = (o.each m).0 c in let l = w.0 in (omega arith, w.1)),
-      λ w. (let l = w.0 in elim (cases_lt m n) [
-        | inl below ↦ (o.each m).1 (below, w.1)
-        | inr over ↦
-            (let same : m ≡ n = omega arith in
-            let P : ℕ → Type 0 = λ z. slice_index_or depths z 0 ≡ 0 in
-            let none' = subst P (sym same) held in
-            let held' = w.1 in absurd (omega arith))
-      ]),
-    );
-  }
+        rises = o.rises;
+        each = λ m. (
+          λ c. (let w = (o.each m).0 c in let l = w.0 in (omega arith, w.1)),
+          λ w. (let l = w.0 in elim (cases_lt m n) [
+            | inl below ↦ (o.each m).1 (below, w.1)
+            | inr over ↦
+                (let same : m ≡ n = omega arith in
+                let P : ℕ → Type 0 = λ z. slice_index_or depths z 0 ≡ 0 in
+                let none' = subst P (sym same) held in
+                let held' = w.1 in absurd (omega arith))
+          ]),
+        );
+      }
 
 -- before the first entry no monitor is entered
 pub none_entered : AreDepths [] (replicate MONITORS 0)

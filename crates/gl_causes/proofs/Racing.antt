@@ -218,7 +218,7 @@ module _ (setting : Setting) (R : Lists) (h : List Stamp) (now : State) (rows : 
       (subst (λ z. Conflict w.earlier z r.var) second w.conflict) in
       let order = told s is done.kind conflict.1 apart in
       let unknown : at a.known s.place.thread ≤ tick_in s.block s.entry = elim
-          (cases_lt (tick_in s.block s.entry) (at a.known s.place.thread)) [
+      (cases_lt (tick_in s.block s.entry) (at a.known s.place.thread)) [
         | inl lt ↦ absurd (w.unordered (subst (λ z. HappensBefore R z sd.place) v.1.2 (order.0 lt)))
         | inr ge ↦ ge
       ] in

@@ -190,7 +190,7 @@ module _ (setting : Setting) (R : Lists) (h : List Stamp) (now : State) (rows : 
         let goes = goes_on R L.form d f here access q block in
         let m = block_told setting R h now L.is_list rise L.allowed c a stands_for d q block goes apart in
         let there : EventAt h q block.event = L.is_list.listed
-            (record { thread = d.thread; index = block.index }) q block.event block.made in
+        (record { thread = d.thread; index = block.index }) q block.event block.made in
         let row : cell rows q c.thread ≡ clocks (take (q + 1) h) (Thread d.thread) c.thread =
         L.clocks_are.known q c.thread block.event there ∙ ap (λ t. clocks (take (q + 1) h) (Thread t) c.thread) block.made.own in
         let same : a.thread ≡ c.thread = stands_for.thread in

@@ -12,7 +12,7 @@ mod shown;
 mod small;
 mod soundness;
 
-use compare::{Outcome};
+use compare::Outcome;
 use drawn::compare_drawn;
 use shown::print_line;
 use small::{WITH_ALL, WITH_DISJOINT, compare_small};

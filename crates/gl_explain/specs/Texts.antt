@@ -23,7 +23,7 @@ monitors_text names (m ∷ ms) = codes "monitor " ++ (thing_text names Monitor m
 abbrev pub owned_text : Naming → Told → List ℕ → List ℕ
 owned_text names k monitors = codes "  in line "
     ++ (decimal k.line ++ (codes " thread " ++
-        (thing_text names Thread k.thread ++ (codes " owns " ++ (monitors_text names monitors ++ codes "\n")))))
+    (thing_text names Thread k.thread ++ (codes " owns " ++ (monitors_text names monitors ++ codes "\n")))))
 
 -- what was done in the line k
 abbrev pub did_text : Naming → Told → List ℕ
@@ -53,7 +53,7 @@ abbrev pub facts_text : Naming → Explanation → List ℕ
 facts_text names e =
     others_text e.others ++ (owned_text names e.at e.owned.items
     ++ (owned_text names e.other e.other_owned.items
-        ++ (handed_text names e.other e.handed ++ learnt_text names e.other.thread e.at e.learnt)))
+    ++ (handed_text names e.other e.handed ++ learnt_text names e.other.thread e.at e.learnt)))
 
 abbrev pub explanation_text : Naming → Explanation → List ℕ
 explanation_text names e = lines_text names e ++ facts_text names e

@@ -368,7 +368,7 @@ parts_are_tx : (tx : Tx) → IsTxBack tx → tx_of (map part_of_look tx.looks) (
     ≡ Ok tx
 parts_are_tx tx back =
     rw (back.looks_set, back.writes_set, back.numbers_set, back.named)
-        (rw (same_looks tx.looks, same_pairs tx.writes, same_numbers tx.numbers) refl)
+    (rw (same_looks tx.looks, same_pairs tx.writes, same_numbers tx.numbers) refl)
 
 -- the words of a transaction are read as it
 pub tx_back : (tx : Tx) → IsTxKept tx → IsTxTyped tx → IsTxStamped tx → TxNamesFew tx → tx_in (tx_words tx) ≡ Ok tx

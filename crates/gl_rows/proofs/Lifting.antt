@@ -63,15 +63,18 @@ raise_step q x to row h e at =
     ∷ without g.object l) q.reads (moved 1 q.moves) in
     ap (λ (l : List Held). G (held_at (x + 1) l) l) e ∙ ap (λ (g : Held). G g (h ∷ [])) (head_held x h at)
     ∙ ap (λ (l : List Held). holding q (record h { taken = slot.Row row; tails = q.seen ∷ []; floor = Some to } ∷ l) q.reads
-        (moved 1 q.moves))
+    (moved 1 q.moves))
     (none_left h.object h refl)
 
 -- the row is put back
 put_step : (q : PassView) (x : ℕ) (h : Held) → q.own.held ≡ h ∷ [] → h.object ≡ suc x → after q (left (view_of q) (suc x) false)
     ≡ holding q [] q.reads (moved 2 q.moves)
 put_step q x h e at =
-    ap (λ b. record (holding q (without (suc x) q.own.held) q.reads (moved 2 q.moves)) { quiet = q.quiet || false; stored =
-        (if b then [] else q.stored) })
+    ap (λ b. record (holding q (without (suc x) q.own.held) q.reads (moved 2 q.moves)) {
+      quiet = q.quiet || false;
+      stored =
+          (if b then [] else q.stored);
+    })
     (ne_eqb (suc x) 0 (λ z. omega arith))
     ∙ ap (λ b. record (holding q (without (suc x) q.own.held) q.reads (moved 2 q.moves)) { quiet = b }) (or_false q.quiet)
     ∙ ap (λ (l : List Held). holding q (without (suc x) l) q.reads (moved 2 q.moves)) e
@@ -153,7 +156,7 @@ module _ (p : PassView) (x : ℕ) (row : Row) (before : ℕ) where
 
   pub within_lifted : (u v : PassView) (tail : ℕ) → u ≡ floor_pass
       → ((h : Held) (r : Row) → Contains u.own.held h → h.taken ≡ slot.Row r → IsWithin r tail)
-          → v ≡ lifted tail p.known p.loaded (moved 1 floor_moves)
+      → v ≡ lifted tail p.known p.loaded (moved 1 floor_moves)
       → IsWithin row v.seen
   within_lifted u v tail was within is =
       let has = subst (λ (z : PassView). Contains z.own.held floored) (sym was) (0, omega arith, refl) in
@@ -163,8 +166,12 @@ module _ (p : PassView) (x : ℕ) (row : Row) (before : ℕ) where
       ≡ lifted tail w.known w.loaded w.moves
   lifted_is v w to tail is walk =
       let known = ap (λ (z : PassView). z.known) walk.is in
-      walk.is ∙ ap (λ (l : List (ℕ × Stamp)). record v { known = l; loaded = w.loaded; moves = with_loads
-          (5 * length walk.events) v.moves })
+      walk.is ∙ ap (λ (l : List (ℕ × Stamp)). record v {
+        known = l;
+        loaded = w.loaded;
+        moves = with_loads
+            (5 * length walk.events) v.moves;
+      })
       (sym known)
       ∙ ap (λ (m : Moves). record v { known = w.known; loaded = w.loaded; moves = m }) (sym (ap (λ (z : PassView). z.moves) walk.is))
       ∙ ap (λ (z : PassView). record z { known = w.known; loaded = w.loaded; moves = w.moves }) is

@@ -52,7 +52,7 @@ knows_none n p = ap (λ (known : List (ℕ × Stamp)). record p { known = known 
 -- a pass that loaded one event more
 pub knows_next : (n m : ℕ) (xs : List Stamp) (x : Stamp) (p q r : PassView) → n + length xs ≡ m → KnowsFrom n xs p q → r
     ≡ record q { known = r.known; loaded = r.loaded; moves = with_loads 5 q.moves } → r.known ≡ q.known ++ (m, x) ∷ []
-        → KnowsFrom n (xs ++ x ∷ []) p r
+    → KnowsFrom n (xs ++ x ∷ []) p r
 knows_next n m xs x p q r at is more known =
     let k : r.known ≡ p.known ++ placed_from n (xs ++ x ∷ []) =
     known ∙ ap (λ (z : PassView). z.known ++ (m, x) ∷ []) is ∙ append_assoc p.known (placed_from n xs) ((m, x) ∷ [])

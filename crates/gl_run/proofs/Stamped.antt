@@ -64,5 +64,5 @@ is_stamped options ls are is bounded = record {
   most = are.steps;
   stamped = lists_all IsEntryStamped ls is
       (λ t some. each_at IsEntryStamped (lists_of ls t)
-          (λ i e here. entry_stamped (lists_of ls) bounded (record { thread = t; index = i }) e here));
+      (λ i e here. entry_stamped (lists_of ls) bounded (record { thread = t; index = i }) e here));
 }

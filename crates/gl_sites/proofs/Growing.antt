@@ -162,7 +162,7 @@ pub record ComesAt (D : Draft) (adding : List Addition) (f i : ℕ) : Type 0 whe
 -- an instruction was there before all additions, or is added by one
 pub comes_from : (D : Draft) (adding : List Addition) (f i : ℕ) (x : Instr)
     → slice_get (code_at (fold added D adding).functions f) i ≡ Some x
-        → (slice_get (code_at D.functions f) i ≡ Some x) ⊎ ComesAt D adding f i
+    → (slice_get (code_at D.functions f) i ≡ Some x) ⊎ ComesAt D adding f i
 comes_from D [] f i x is = inl is
 comes_from D (a ∷ adding) f i x is =
     elim (comes_from (added D a) adding f i x is) [

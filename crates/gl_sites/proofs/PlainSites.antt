@@ -60,7 +60,7 @@ module _ (P : Bytecode) (steps t : ℕ) (list : List Entry) (n : ℕ) (text : Li
   from_answer p is =
       let same : is.entry ≡ Plain x nth cached write value raised = (let a = is.there in let b = there in cc) in
       let told_it = told_of P (Made (Plain x nth cached write value raised)) p is.next
-          (ap (λ e. told_one P (Made e) p) (sym same) ∙ is.answered) in
+      (ap (λ e. told_one P (Made e) p) (sym same) ∙ is.answered) in
       let asked = asked_by p.config.stage (is_none p.config.attempt) x write value raised told_it.reply told_it.gives in
       let orderly = orderly_along P is.along.exchanges (outset P t steps) p (orderly_fresh P t steps) is.along.reached in
       let waits : WaitsRightly P p.config asked.0 = subst (StageIsOrderly P p.config) asked.1 orderly.stage in

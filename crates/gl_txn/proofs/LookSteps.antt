@@ -123,6 +123,6 @@ after_look p x row n value held q r is put =
     }) s0
     ∙ ap (λ (l : List Held). record p { own = record p.own { held = l; drawn = drawn }; reads = reads; quiet = p.quiet || false; moves = moved 2 (moved 1 (moved 2 p.moves)) }) h1
     ∙ ap (λ b. record p { own = record p.own { drawn = drawn }; reads = reads; quiet = b; moves = moved 2 (moved 1 (moved 2 p.moves)) })
-        (or_no p.quiet)
+    (or_no p.quiet)
     ∙ ap (λ (m : Moves). record p { own = record p.own { drawn = drawn }; reads = reads; moves = m })
     (five_steps p.moves)

@@ -81,8 +81,12 @@ taken_more p q r ys rows y w row t are is = record {
               ++ Taken (suc y) (slot.Row row) ∷ [];
           moves = r.moves;
         }) t.is
-        ∙ ap (λ (l : List Held). record p { own = record p.own { held = l }; reads = q.reads
-            ++ Taken (suc y) (slot.Row row) ∷ []; moves = r.moves })
+        ∙ ap (λ (l : List Held). record p {
+          own = record p.own { held = l };
+          reads = q.reads
+              ++ Taken (suc y) (slot.Row row) ∷ [];
+          moves = r.moves;
+        })
         (sym held_is)
         ∙ ap (λ (l : List Read). record p { own = record p.own { held = r.own.held }; reads = l; moves = r.moves }) reads_are
 
@@ -98,8 +102,12 @@ were_busy p q r s ids i by rows none near t few other is put = record {
   rest = drop (suc i) ids;
   of = sym (take-append-drop i ids) ∙ ap (λ l. l ++ drop i ids) (sym t.of) ∙ ap (λ l. vars_of rows ++ l) (drop-cons ids i 0 near);
   is = put ∙ ap (λ (z : PassView). record z { own = record z.own { held = [] }; moves = s.moves }) is
-      ∙ ap (λ (z : PassView). record z { own = record z.own { held = [] }; reads = z.reads
-          ++ Busy (suc (get_or ids i 0)) by ∷ []; moves = s.moves }) t.is
+      ∙ ap (λ (z : PassView). record z {
+        own = record z.own { held = [] };
+        reads = z.reads
+            ++ Busy (suc (get_or ids i 0)) by ∷ [];
+        moves = s.moves;
+      }) t.is
       ∙ ap (λ (h : List Held). record p {
         own = record p.own { held = h };
         reads = (p.reads ++ takes rows)

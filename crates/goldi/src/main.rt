@@ -5,7 +5,7 @@ use gl_io::{ReaderSource, WriterSink};
 use gl_run::goldi_without_trace;
 use gl_shortcut::{Cuts, ShortCut, Sure, both_commits, same_thread, shared_monitor, two_threads};
 use gl_threads::Open;
-use std::alloc::{AllocError};
+use std::alloc::AllocError;
 use std::env::FillError;
 use std::process::ExitCode;
 use std::rt::Env;

@@ -43,5 +43,5 @@ returns c =
     let stands = c.args.stands.now in
     let i = c.loop-place.place-index in
     let long : length (map stand_seen stands) ≤ i =
-        (let n = length-map stands stand_seen in let a = c.loop-place-test.false in omega arith) in
+    (let n = length-map stands stand_seen in let a = c.loop-place-test.false in omega arith) in
     learned_all c.args.rows.now (map stand_seen stands) c.args.later.now i long c.loop-place.known c.args.known.now c.loop-place.invariant

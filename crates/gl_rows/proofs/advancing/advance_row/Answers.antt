@@ -38,7 +38,7 @@ lift_row-requires-clause-held c =
     let floored = floor_is p x row n c.take_row.new.pass c.floor_of-before.new.pass took c.floor_of-before.ensures.pass in
     let seen = tail_is p x row n c.floor_of-before.new.pass c.tail-tail.new.pass c.tail-tail.result floored c.tail-tail.ensures.pass in
     subst (HoldsRow c.tail-tail.new.pass) (sym c.row_mut.ensures.value)
-        (holds_lifted p x row n c.tail-tail.new.pass c.tail-tail.result seen)
+    (holds_lifted p x row n c.tail-tail.new.pass c.tail-tail.result seen)
 
 pub lift_row-requires-clause-within : goal.lift_row-requires-clause-within
 lift_row-requires-clause-within c =

@@ -12,7 +12,7 @@ returns-in-Err-clause-written g c =
     let faults = g.K.Sink.faults in
     let written = g.K.Sink.written in
     written_of Record (command_of (map string_bytes c.args.words.now)) (g.S.Source.left c.args.source.now) count count
-        (faults c.args.sink.now)
+    (faults c.args.sink.now)
     (faults c.finish.new.sink) (written c.args.sink.now) (written c.finish.new.sink) (Err Memory) c.finish.result refl tt c.finish.ensures
 
 pub returns-clause-left : goal.returns-clause-left

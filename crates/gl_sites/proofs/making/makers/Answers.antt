@@ -68,7 +68,7 @@ loop-maker-smaller c =
     let falls = turn_falls P c.args.steps c.args.thread es c.loop-maker.replay c.go_on.new.replay n 1 c.loop-maker.invariant.at
     (inr (refl, passes.first)) in
     let longer : length c.push.new.self.items ≡ n + 1 = ap length c.in_ok-push-in-By.ensures.items
-        ∙ one_longer c.loop-maker.makers.items c.in-By.maker in
+    ∙ one_longer c.loop-maker.makers.items c.in-By.maker in
     omega (arith, falls, longer)
 
 pub returns-in-NoFurther : goal.returns-in-NoFurther

@@ -110,7 +110,7 @@ returns c =
           ∙ ap (λ ws. pass_of z id mine' (published (filled (caught_up c.pass.inside.seat.me.0 id mine) ws) id mine (Commit n tx) n
           (commit_stamp id tx) (slot.List c.args.state.now) (drew_commit (variables_of tx) (draw id n (Entered (Commit n tx))))) old) words
           ∙ ap (λ l. pass_of z id l (published (filled (caught_up c.pass.inside.seat.me.0 id mine)
-              (packed (commit_stamp id tx))) id mine (Commit n tx) n (commit_stamp id tx)
+          (packed (commit_stamp id tx))) id mine (Commit n tx) n (commit_stamp id tx)
           (slot.List c.args.state.now) (drew_commit (variables_of tx) (draw id n (Entered (Commit n tx))))) old) more
           ∙ ap (λ (p : PassView). published_tx p tx n c.args.state.now) c.pass.view_is;
       here = subst (λ (p : PassView). n ≡ p.seen) c.pass.view_is (sym (at_tail m.held m.may.tail m.may.held m.may.list m.may.saw) ∙ m.tail);

@@ -7,6 +7,6 @@ use Rattle.gl_txn.proofs.taken.put_rows.Given as goal
 abbrev pub invariant-loop : goal.invariant-loop
 invariant-loop l =
     (l.pass ≡ record l.fn.pass { own = record l.fn.pass.own { held = l.pass.own.held }; moves = l.pass.moves })
-        × AreUnused l.pass.own.held l.rows.items
+    × AreUnused l.pass.own.held l.rows.items
     × (vec_len l.rows + l.counter ≡ vec_len l.fn.rows) × (vec_capacity l.rows ≡ vec_capacity l.fn.rows)
     × EndCosts 0 (2 * l.counter) l.fn.pass l.pass

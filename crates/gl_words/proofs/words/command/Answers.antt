@@ -15,5 +15,5 @@ returns c =
     let four = c.in_ok-arg-4.ensures.shape c.number_argument-4.ensures.local ∙ ap₂ with_rule three c.number_argument-4.ensures.rule in
     let five = c.in_ok-arg-5.ensures.shape c.number_argument-5.ensures.local ∙ ap₂ with_rule four c.number_argument-5.ensures.rule in
     IfOk-weaker c.arg-6.result _ _ (λ r adds. adds.shape c.journal_argument.ensures.local
-        ∙ ap₂ with_rule five c.journal_argument.ensures.rule)
+    ∙ ap₂ with_rule five c.journal_argument.ensures.rule)
     c.arg-6.ensures

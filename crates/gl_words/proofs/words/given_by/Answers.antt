@@ -19,13 +19,13 @@ pub returns-then-has_dashes-clause-value : goal.returns-then-has_dashes-clause-v
 returns-then-has_dashes-clause-value c =
     let words = map string_bytes c.args.words.now in
     sym (dashes_say_nothing words nothing_given
-        (sym (list_any-map is_dashes string_bytes c.args.words.now) ∙ sym c.has_dashes.ensures ∙ c.if-has_dashes.true))
+    (sym (list_any-map is_dashes string_bytes c.args.words.now) ∙ sym c.has_dashes.ensures ∙ c.if-has_dashes.true))
 
 pub returns-in-Ok-clause-value : goal.returns-in-Ok-clause-value
 returns-in-Ok-clause-value c =
     let words = map string_bytes c.args.words.now in
     let none : has_dashes words ≡ false = sym (list_any-map is_dashes string_bytes c.args.words.now) ∙ sym c.has_dashes.ensures
-        ∙ c.if-has_dashes.false in
+    ∙ c.if-has_dashes.false in
     let keeps = kept words none c.in-Ok.ensures.exact in
     let rows : rows_of (found_of c.in-Ok.matches) ≡ matches_of options_app words = (c.in-Ok.ensures.matches simple).0 in
     c.given.ensures.value keeps.0 (one_text-rows (found_of c.in-Ok.matches) _ ∙ ap (one_of _) rows ∙ keeps.1.journal)
@@ -35,7 +35,7 @@ pub returns : goal.returns
 returns c =
     let words = map string_bytes c.args.words.now in
     let none : has_dashes words ≡ false = sym (list_any-map is_dashes string_bytes c.args.words.now) ∙ sym c.has_dashes.ensures
-        ∙ c.if-has_dashes.false in
+    ∙ c.if-has_dashes.false in
     record {
       value = elim c.in-Err.ensures.exact [
         | inl memory ↦ absurd (c.in_default.not-OutOfMemory (c.kind.ensures ∙ memory))
