@@ -43,13 +43,14 @@ impl Tally {
         }
     }
 
-    /// And what was counted there.
+    /// What was counted there is counted here too.
     pub fn add(&mut self, other: &Tally) {
         self.traces = self.traces.saturating_add(other.traces);
         self.lines = self.lines.saturating_add(other.lines);
         self.raised = self.raised.saturating_add(other.raised);
     }
 
+    /// One line more, of which this is said.
     pub fn count(&mut self, judged: Judged)
         ensures { self.new ≡ one_line self.old judged }
     {
