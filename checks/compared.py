@@ -156,13 +156,16 @@ class Draws:
 
 def told(name, traces, lines, raised):
     print(f"{name}: {traces} traces, {lines} lines, {raised} raised")
+    return traces, lines, raised
 
 
 if __name__ == "__main__":
+    kinds = []
     for name, length, all_commits in (("5 lines, commits of disjoint sets", 5, False), ("4 lines, all commits", 4, True)):
         traces, raised = small(small_lines(all_commits), State(), length, 0)
-        told(name, traces, traces * length, raised)
+        kinds.append(told(name, traces, traces * length, raised))
     draws = Draws()
     drawn = [draws.trace() for _ in range(3000)]
-    told("20 to 60 lines, drawn", len(drawn), sum(n for n, _ in drawn), sum(r for _, r in drawn))
+    kinds.append(told("20 to 60 lines, drawn", len(drawn), sum(n for n, _ in drawn), sum(r for _, r in drawn)))
     print("all agree")
+    told("the rows over all of them", *map(sum, zip(*kinds)))

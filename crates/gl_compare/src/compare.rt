@@ -22,10 +22,12 @@ pub struct Tally {
     pub raised: u64,
 }
 
-/// What was compared, and the first trace of which the two say different things.
+/// What was compared, and the first trace of which two of the three say different things.
 #[derive(Drop)]
 pub struct Outcome {
     pub tally: Tally,
+    /// What the rows said.
+    pub rows: Tally,
     pub differing: Option<Vec<Line>>,
 }
 
@@ -41,7 +43,15 @@ impl Tally {
         }
     }
 
-    fn count(&mut self, judged: Judged)
+    /// What was counted there is counted here too.
+    pub fn add(&mut self, other: &Tally) {
+        self.traces = self.traces.saturating_add(other.traces);
+        self.lines = self.lines.saturating_add(other.lines);
+        self.raised = self.raised.saturating_add(other.raised);
+    }
+
+    /// One line more, of which this is said.
+    pub fn count(&mut self, judged: Judged)
         ensures { self.new ≡ one_line self.old judged }
     {
         self.lines = self.lines.saturating_add(1);

@@ -1,6 +1,7 @@
 // Longer traces, drawn by a generator with a fixed seed.
 
-use crate::compare::{Line, Outcome, Tally, agree};
+use crate::compare::{Line, Outcome, Tally};
+use crate::rows::all_agree;
 use crate::small::variables;
 use crate::soundness::is_sound;
 use gl_model::{Act, Item};
@@ -105,19 +106,22 @@ impl Draws {
 /// Compares so many traces that are drawn.
 pub fn compare_drawn(alloc: Global, count: u32) -> Result<Outcome, AllocError> {
     let mut tally = Tally::new();
+    let mut rows = Tally::new();
     let mut draws = Draws { state: 2463534242 };
     let mut trace = Vec::new(alloc);
     for _ in 0..count {
         draws.trace(&mut trace)?;
-        if !agree(alloc, &trace, &mut tally)? {
+        if !all_agree(alloc, &trace, &mut tally, &mut rows)? {
             return Ok(Outcome {
                 tally,
+                rows,
                 differing: Some(trace),
             });
         }
     }
     Ok(Outcome {
         tally,
+        rows,
         differing: None,
     })
 }

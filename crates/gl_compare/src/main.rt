@@ -1,4 +1,4 @@
-//! Compares the detector with the plain judge, line by line: over all sound small traces, and over some longer ones that are drawn.
+//! Compares the detector with the plain judge, and with rows of locksets, line by line: over all sound small traces, and over some longer ones that are drawn.
 //!
 //! The small ones are of two threads, one monitor, one volatile and two variables: those of five lines in which a commit reads or writes
 //! each variable that it has and not both, and those of four lines with all sixteen commits. A shorter trace is the front of one of
@@ -8,11 +8,12 @@
 
 mod compare;
 mod drawn;
+mod rows;
 mod shown;
 mod small;
 mod soundness;
 
-use compare::Outcome;
+use compare::{Outcome, Tally};
 use drawn::compare_drawn;
 use shown::print_line;
 use small::{WITH_ALL, WITH_DISJOINT, compare_small};
@@ -35,20 +36,31 @@ fn told(rt: &impl Print, name: &str, outcome: &Outcome) -> io::Result<bool> {
     Ok(outcome.differing.is_none())
 }
 
+// What the rows said of all of them.
+fn told_of_rows(rt: &impl Print, outcomes: [&Tally; 3]) -> io::Result<()> {
+    let mut all = Tally::new();
+    for tally in outcomes {
+        all.add(tally);
+    }
+    println!(rt;
+        "the rows over all of them: {} traces, {} lines, {} raised",
+        all.traces, all.lines, all.raised
+    )
+}
+
 fn compared(rt: &(impl Print + AllocGlobal)) -> io::Result<bool> {
     let alloc = rt.alloc();
     let disjoint = compare_small(alloc, WITH_DISJOINT, 5)?;
     let five = told(rt, "5 lines, commits of disjoint sets", &disjoint)?;
-    let four = told(
-        rt,
-        "4 lines, all commits",
-        &compare_small(alloc, WITH_ALL, 4)?,
-    )?;
-    let drawn = told(rt, "20 to 60 lines, drawn", &compare_drawn(alloc, 3000)?)?;
+    let all = compare_small(alloc, WITH_ALL, 4)?;
+    let four = told(rt, "4 lines, all commits", &all)?;
+    let longer = compare_drawn(alloc, 3000)?;
+    let drawn = told(rt, "20 to 60 lines, drawn", &longer)?;
     let agreed = five & four & drawn;
     if agreed {
         println!(rt; "all agree")?;
     }
+    told_of_rows(rt, [&disjoint.rows, &all.rows, &longer.rows])?;
     Ok(agreed)
 }
 

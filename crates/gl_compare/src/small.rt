@@ -3,7 +3,8 @@ ghost use Rattle.std.specs.Prelude.{◌<◌, ◌≤◌, All};
 ghost use Rattle.gl_model.specs.declared.limits.TheConstants.{THREADS as ALL_THREADS, TX_VARIABLES};
 ghost use Rattle.gl_model.specs.TraceSteps.{IsLineItem, IsStep};
 
-use crate::compare::{Line, Outcome, Tally, agree};
+use crate::compare::{Line, Outcome, Tally};
+use crate::rows::all_agree;
 use crate::soundness::is_sound;
 use gl_model::{Act, Item, VarSet};
 use std::alloc::{AllocError, Global};
@@ -120,17 +121,22 @@ pub fn compare_small(alloc: Global, kinds: u32, lines: u32) -> Result<Outcome, A
     requires { 0 < kinds }
 {
     let mut tally = Tally::new();
+    let mut rows = Tally::new();
     let mut trace = Vec::new(alloc);
     for number in 0..kinds.wrapping_mul(2).wrapping_pow(lines) {
-        if make(&mut trace, number, kinds, lines)? && !agree(alloc, &trace, &mut tally)? {
+        if make(&mut trace, number, kinds, lines)?
+            && !all_agree(alloc, &trace, &mut tally, &mut rows)?
+        {
             return Ok(Outcome {
                 tally,
+                rows,
                 differing: Some(trace),
             });
         }
     }
     Ok(Outcome {
         tally,
+        rows,
         differing: None,
     })
 }
