@@ -1,7 +1,8 @@
 #!/usr/bin/env bash
 # A script over the calls of the shared table: its event calls, accesses, attempts and sweeps, with values that were worked out by hand.
 # These tests are run, and not proved: their proofs did not end as one piece. The sources in checks/table become two crates beside copies of
-# those whose calls they make, below a temporary folder. Each test counts, and a table whose close is refused memory counts once more.
+# those whose calls they make, below a temporary folder. Each test counts; of a table whose close is refused memory four lines count:
+# that it was refused no time in a first run and once in a second, and the record of each.
 # The last line is 'N passed, M failed'.
 set -u
 cd "$(dirname "$0")/.." || exit 2
@@ -57,13 +58,20 @@ done
 refuse() {
     cd "$work/crates/table_refused" && rt try --fail-alloc "$1" 2>&1
 }
+# record_in OUTPUT: the entries of the record that a run printed, as one line
+record_in() {
+    grep -E '^(sync|over|another|no) ' <<<"$1" | paste -sd ,
+}
+# Thread 0 begins at position 0, prints 7 at 1, ends at 2, and is over.
+wanted="sync 0 Begin(0) 0,sync 1 Print 7,sync 2 End 0,over Halt"
 came=$(refuse 5000)
 said "a table that is closed at once" "refused closes: 0" "$came"
+said "its record" "$wanted" "$(record_in "$came")"
 behind=$(sed -n 's/^allocations behind it: //p' <<<"$came")
 if [ -n "$behind" ]; then
     again=$(refuse $((4999 - behind)))
     said "a close that is refused" "refused closes: 1" "$again"
-    said "the record then" "$(sed -n '/^sync\|^over/p' <<<"$came" | tr '\n' ' ')" "$(sed -n '/^sync\|^over/p' <<<"$again" | tr '\n' ' ')"
+    said "its record" "$wanted" "$(record_in "$again")"
 else
     failed=$((failed + 1))
     echo "failed: the number of the allocation of a close"
