@@ -40,9 +40,10 @@ IsStepped t item judged old new =
     Follows (lines ++ record { thread = t; item = item; judged = judged } ∷ []) new
 
 -- the most ticks that a line looks at or moves: of an act the clocks of two events, what it acquires, what it releases and its thread's;
--- of a plain access those of the last write or of the reads; of a commit those of each variable when it acquires, looks and releases, and
+-- of a plain access those of the last write or of the reads; of a commit what is kept of each variable that it reads and of each that it
+-- writes, the clocks of each variable when it acquires, the same when it releases or, where it is racy, what is kept of each once more, and
 -- its thread's clock
 abbrev pub most_ticks : Item → ℕ
 most_ticks (Acts act) = THREADS * 6
 most_ticks (Access x write) = if write then THREADS else 1
-most_ticks (Commits reads writes) = THREADS * (3 * length (with_all writes reads) + 1)
+most_ticks (Commits reads writes) = THREADS * (length reads + length writes + 2 * length (with_all writes reads) + 1)

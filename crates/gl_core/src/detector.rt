@@ -72,7 +72,7 @@ fn ticks_of_access(write: bool) -> u64
     if write { THREADS as u64 } else { 1 }
 }
 
-// How many ticks of what is kept of its variables a commit looks at, at most.
+// How many ticks of what is kept of these variables are looked at, where each is looked at once.
 fn ticks_of_parts(variables: &VarSet) -> u64
     ensures { result ≡ THREADS * length variables.now }
 {
@@ -228,14 +228,16 @@ impl Detector {
         ensures ready { IsReady self.new }
         ensures ended { self.new.ended ≡ self.old.ended }
         ensures rising { Rises variables.now }
-        ensures cost { self.new.ticks ≤ self.old.ticks + THREADS * (3 * length variables.now + 1) }
+        ensures cost { self.new.ticks ≤ self.old.ticks + THREADS * (length reads.now + length writes.now + 2 * length variables.now + 1) }
         ensures commit { CommitDone (taken (clocks_in self.old.tables) (record { thread = thread; event = Commits variables.now })) self.old.latests.items thread self.old.tables.next variables.now writes.now result self.new.latests.items }
         ensures clocks { ClocksDone self.old.tables thread variables.now result self.new.tables }
     {
         variables.keeps();
-        self.ticks = self.ticks.saturating_add(ticks_of_parts(variables));
+        self.ticks = self.ticks.saturating_add(ticks_of_parts(reads));
+        self.ticks = self.ticks.saturating_add(ticks_of_parts(writes));
         let known = self.tables.acquired_all(thread, variables, &mut self.ticks);
         if let Some(var) = first_race(&self.latests, &known, reads, writes, variables) {
+            self.ticks = self.ticks.saturating_add(ticks_of_parts(variables));
             return Judged::Raised { var };
         }
         let epoch = self.tables.commit_epoch(thread);
