@@ -1,4 +1,3 @@
-pub mod AllWords
 pub mod IndexLemmas
 pub mod ListedLengths
 pub mod ListedLimits

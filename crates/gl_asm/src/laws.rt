@@ -1,12 +1,10 @@
 // Laws of the definitions.
-ghost use Rattle.std.specs.Prelude.{◌≡◌, ℕ, ℤ, List, [], true, is_some};
+ghost use Rattle.std.specs.Prelude.{◌≡◌, ℕ, ℤ, List, []};
 ghost use Rattle.gl_bytecode.specs.Faults.{AllThrowInRange, IsFaultless};
 ghost use Rattle.gl_bytecode.specs.Programs.{Bytecode, draft_of};
-ghost use Rattle.gl_bytecode.specs.declared.instr.Instr.{Instr};
 ghost use Rattle.gl_asm.specs.Listable.{OperandsAreTyped};
 ghost use Rattle.gl_asm.specs.Listing.{listing};
 ghost use Rattle.gl_asm.specs.Texts.{IsFirstFault, IsText};
-ghost use Rattle.gl_asm.specs.Words.{template_of, word_of};
 
 /// A text has one meaning: a program and its inputs, or its first fault.
 pub fn one_meaning()
@@ -23,9 +21,4 @@ pub fn one_meaning()
 pub fn listing_is_text()
     ensures text { (P : Bytecode) → IsFaultless P → AllThrowInRange P.functions → OperandsAreTyped P → IsText (listing P) P [] }
     ensures only { (P : Bytecode) → IsFaultless P → AllThrowInRange P.functions → OperandsAreTyped P → (Q : Bytecode) (inputs : List ℤ) → IsText (listing P) Q inputs → (Q ≡ P) × (inputs ≡ []) }
-{}
-
-/// The table of words has a row for each instruction.
-pub fn no_word_is_left_out()
-    ensures { (i : Instr) → is_some (template_of (word_of i)) ≡ true }
 {}

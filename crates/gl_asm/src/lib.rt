@@ -16,7 +16,7 @@ mod stated;
 mod table;
 
 pub use assembling::{Assembled, assemble};
-pub use laws::{listing_is_text, no_word_is_left_out, one_meaning};
+pub use laws::{listing_is_text, one_meaning};
 pub use listing::list;
 pub use stated::{bytes_are_stated, limits_are_stated};
 

@@ -19,7 +19,7 @@ pub enum Operand {
     Class(u16),
 }
 
-/// An instruction for each word, with any operands. The law `no_word_is_left_out` says that none is left out.
+/// An instruction for each word, with any operands. None is left out, or listings would not be texts of their programs (`listing_is_text`).
 pub const INSTRUCTIONS: [Instr; 42] = [
     Instr::Push(0),
     Instr::Pop,

@@ -142,7 +142,8 @@ impl Detector {
         }
     }
 
-    /// How many ticks of clocks and of what is kept of variables were looked at or moved so far, counted up to `u64::MAX`.
+    /// How many ticks of clocks and of what is kept of variables were looked at or moved so far, counted up to `u64::MAX`. All that is
+    /// kept of one thread's accesses of a variable counts as one.
     pub fn ticks(&self) -> u64
         ensures { result ≡ self.now.ticks }
     {

@@ -122,7 +122,7 @@ fn left(shared: &Shared, pass: &mut Pass, monitor: u16) -> Option<Done>
     }
 }
 
-// One after the other; answers the position of the second event.
+// One after the other; answers the position of the second event, or nothing where leaving had a code.
 fn round(shared: &Shared, pass: &mut Pass, monitor: u16) -> Option<u64>
     requires may { MayCall call.End shared.now pass.old }
     requires few { counted pass.old.own.mine + 2 < 2 ^ 50 }
@@ -138,6 +138,9 @@ fn round(shared: &Shared, pass: &mut Pass, monitor: u16) -> Option<u64>
     let Some(done) = left(shared, pass, monitor) else {
         return None;
     };
+    if done.code != 0 {
+        return None;
+    }
     Some(done.at)
 }
 
