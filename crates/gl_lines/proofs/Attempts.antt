@@ -30,12 +30,14 @@ module _ (t q p : ℕ) (e : Entry) where
   one_of false true ds k f (inr a) = inl a
   one_of false false ds k f a = inl a
 
+  -- each draw of the list keeps its number when the look and the own draw of an attempt come on top, if it has them
   stays : (b c : Bool) (ds : List Draw) (k : ℕ) (f : Draw) → DrawAt ds k f → DrawAt (with_own b t p e (with_look c t q ds)) k f
   stays true true ds k f a = inr (inr a)
   stays true false ds k f a = inr a
   stays false true ds k f a = inr a
   stays false false ds k f a = a
 
+  -- a look that is drawn has the number that comes next, which is the count of the draws before
   look_at : (b c : Bool) (ds : List Draw) → c ≡ true
       → DrawAt (with_own b t p e (with_look c t q ds)) (length ds) (draw t q (Looked (pos 0)))
   look_at true true ds i = inr (inl (refl, refl))
@@ -43,6 +45,7 @@ module _ (t q p : ℕ) (e : Entry) where
   look_at false true ds i = inl (refl, refl)
   look_at false false ds i = absurd (cc)
 
+  -- the attempt's own draw has the number behind its look, or the next one where it has no look
   own_at : (b c : Bool) (ds : List Draw) → b ≡ true
       → DrawAt (with_own b t p e (with_look c t q ds)) (length ds + one_if c) (draw t p (Entered e))
   own_at true true ds i = inl (add-one (length ds), refl)
@@ -87,6 +90,7 @@ module _ (draws : ℕ → List Draw) (t q p : ℕ) (e : Entry) (reads writes : L
       → DrawAt (with_attempt t q p e reads writes draws y) (length (draws y) + look_count reads y) (draw t p (Entered e))
   attempt_own y i = own_at t q p e (touches reads writes y) (is_in y reads) (draws y) i
 
+  -- an attempt that reads y draws the next number of y for its look
   attempt_look : (y : ℕ) → is_in y reads ≡ true
       → DrawAt (with_attempt t q p e reads writes draws y) (length (draws y)) (draw t q (Looked (pos 0)))
   attempt_look y i = look_at t q p e (touches reads writes y) (is_in y reads) (draws y) i
@@ -109,18 +113,22 @@ module _ (draws : ℕ → List Draw) (t q p : ℕ) (e : Entry) (reads writes : L
   }
 
   module _ (es : List Entry) (k : AreDrawn draws t es []) (block : BlockAt (es ++ e ∷ []) (length es) p) where
+    -- on a variable that is read the number of the look is not the entry's own
     not_own : (y : ℕ) → NumberOn e y (length (draws y)) → is_in y reads ≡ true → ⊥
     not_own y n i =
         let o = is.own y (length (draws y)) (is.number y (length (draws y)) n) in
         let one : look_count reads y ≡ 1 = rw i refl in
         let z = o.1 in omega arith
 
+    -- the look of a variable that is read is kept in the list with the attempt's entry: it is for a look of that entry
     look_kept : (y : ℕ) → is_in y reads ≡ true → IsKept (es ++ e ∷ []) [] y (length (draws y)) look
     look_kept y i = let l = is.look_there y i in in_list (length es) e (at_new es e) (inl l.0) (l.1, λ n. not_own y n i) tt
 
+    -- the own draw on a variable that is read or written is kept in the list with the attempt's entry, and is for that entry
     own_kept : (y : ℕ) → touches reads writes y ≡ true → IsKept (es ++ e ∷ []) [] y (length (draws y) + look_count reads y) own
     own_kept y i = let o = is.own_there y i in in_list (length es) e (at_new es e) (inr o.0) (refl, o.1) block
 
+    -- each draw of thread t is kept in the list with the attempt's entry
     kept : (y n : ℕ) (f : Draw) → DrawAt (new y) n f → f.thread ≡ t → IsKept (es ++ e ∷ []) [] y n f
     kept y n f a mine = elim (attempt_cases y n f a) [
       | inl old ↦ kept_push es (e ∷ []) [] y n f (k.kept y n f old mine)
@@ -130,9 +138,11 @@ module _ (draws : ℕ → List Draw) (t q p : ℕ) (e : Entry) (reads writes : L
           (subst (λ z. IsKept (es ++ e ∷ []) [] y z own) (sym o.1) (own_kept y o.0))
     ]
 
+    -- thread t drew the number n on y, and the draw is kept in the list with the attempt's entry and is for the entry f
     Made : ℕ → ℕ → Entry → Type 0
     Made y n f = (g : Draw) × DrawAt (new y) n g × (g.thread ≡ t) × IsKept (es ++ e ∷ []) [] y n g × IsFor g.what f y n
 
+    -- each number that the attempt's entry draws was drawn by thread t, in a draw that is kept and is for this entry
     made_new : (y n : ℕ) → Draws e y n → (g : Draw) × DrawAt (new y) n g × (g.thread ≡ t) × IsKept (es ++ e ∷ []) [] y n g
         × IsFor g.what e y n
     made_new y n (inl l) =
@@ -144,6 +154,7 @@ module _ (draws : ℕ → List Draw) (t q p : ℕ) (e : Entry) (reads writes : L
         subst (λ z. (g : Draw) × DrawAt (new y) z g × (g.thread ≡ t) × IsKept (es ++ e ∷ []) [] y z g × IsFor g.what e y z) (sym i.1)
         (own, attempt_own y i.0, refl, own_kept y i.0, (refl, (is.own_there y i.0).1))
 
+    -- each number that an entry of the longer list draws was drawn by thread t, in a draw that is kept and is for that entry
     made : (y n i : ℕ) (f : Entry) → At (es ++ e ∷ []) i f → Draws f y n → (g : Draw) × DrawAt (new y) n g × (g.thread ≡ t)
         × IsKept (es ++ e ∷ []) [] y n g × IsFor g.what f y n
     made y n i f a b = elim (at_cases es e f i a) [
@@ -152,10 +163,12 @@ module _ (draws : ℕ → List Draw) (t q p : ℕ) (e : Entry) (reads writes : L
           (sym added.1) (made_new y n (subst (λ z. Draws z y n) added.1 b))
     ]
 
+    -- a number on y that the attempt's entry draws is no lower than the count of the draws that y had before
     above : (y n : ℕ) → Draws e y n → length (draws y) ≤ n
     above y n (inl l) = let i = (is.looks y n l).1 in omega arith
     above y n (inr o) = let i = (is.own y n o).1 in omega arith
 
+    -- along the list with the attempt's entry the numbers of each variable rise
     rise : (y a b i j : ℕ) (f g : Entry) → At (es ++ e ∷ []) i f → At (es ++ e ∷ []) j g → i < j → Draws f y a → Draws g y b → a < b
     rise y a b i j f g at_i at_j lt c c' = elim (at_cases es e f i at_i) [
       | inl old ↦ elim (at_cases es e g j at_j) [

@@ -14,6 +14,7 @@ pub is_in-touches : (reads writes : List ℕ) (y : ℕ) → is_in y (with_all wr
 is_in-touches reads writes y = is_in-both reads writes y
 
 module _ (reads writes : List ℕ) (numbers : ℕ → ℕ) where
+  -- the transaction of a commit line with these reads and writes, where numbers tells the next number of each variable
   tx : Tx
   tx = line_tx reads writes numbers
 

@@ -30,6 +30,7 @@ module _ (R R' : Lists) (n : Place) (e : Entry) (grows : Grows R R' n e) (above 
             | inr level ↦ (let q = level.0 in omega arith)
           ]
 
+  -- what is before an old entry in the order of a variable in the larger record is so in the smaller one
   order_back : (x : ℕ) (c d : Place) (f : Entry) → EntryAt R d f → InVariableOrder R' x c d → InVariableOrder R x c d
   order_back x c d f old b =
       let same = same_entry R' d b.second f b.here (grows.kept d f old) in
@@ -45,6 +46,7 @@ module _ (R R' : Lists) (n : Place) (e : Entry) (grows : Grows R R' n e) (above 
         order = b.order;
       }
 
+  -- two entries that are in the order of a variable are in that order in the larger record
   order_kept : (x : ℕ) (c d : Place) → InVariableOrder R x c d → InVariableOrder R' x c d
   order_kept x c d b = record {
     first = b.first;
@@ -58,6 +60,7 @@ module _ (R R' : Lists) (n : Place) (e : Entry) (grows : Grows R R' n e) (above 
     order = b.order;
   }
 
+  -- a commit's edge to an old refused attempt in the larger record is there in the smaller one
   refused_back : (c d : Place) (f : Entry) → EntryAt R d f → RefusedCommitEdge R' c d → RefusedCommitEdge R c d
   refused_back c d f old i =
       let b = order_back i.var c d f old i.before in
@@ -127,6 +130,7 @@ module _ (R : Lists) (next : ℕ) (numbers : ℕ → ℕ) (below : IsBelow R nex
   pub new_place : EntryAt (with_entry R t e) (end_place R t) e
   new_place = subst (λ es. Rattle.std.specs.Prelude.slice_get es (length (R t)) ≡ Some e) (sym (entry_own R t e)) (at_new (R t) e)
 
+  -- an entry of the larger record is an old one at its place, or the new one at the end of thread t's list
   entry_cases : (c : Place) (f : Entry) → EntryAt (with_entry R t e) c f → EntryAt R c f ⊎ ((c ≡ end_place R t) × (f ≡ e))
   entry_cases c f there = each_list (λ w es. (i : ℕ) (g : Entry) → Rattle.gl_model.specs.Form.At es i g
       → EntryAt R (record { thread = w; index = i }) g ⊎ ((record { thread = w; index = i } ≡ end_place R t) × (g ≡ e))) R t e
@@ -136,6 +140,7 @@ module _ (R : Lists) (next : ℕ) (numbers : ℕ → ℕ) (below : IsBelow R nex
       ])
       (λ w other i g at. inl at) c.thread c.index f there
 
+  -- an old entry stands at its place in the larger record
   entry_kept : (c : Place) (f : Entry) → EntryAt R c f → EntryAt (with_entry R t e) c f
   entry_kept c f there = each_list (λ w es. (i : ℕ) (g : Entry) → EntryAt R (record { thread = w; index = i }) g
       → Rattle.gl_model.specs.Form.At es i g) R t e

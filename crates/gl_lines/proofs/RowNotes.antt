@@ -88,6 +88,7 @@ raised_writes true = refl
 raised_writes false = refl
 
 module _ (s : Traced) (t : ℕ) (y : ℕ) (row : Row) (stands : RowStands trace_setting s.history y (s.draws y) row) where
+  -- a row stands on at a line that is no access
   act_stays : (act : Act) → RowStands trace_setting (after_act t act s).history y ((after_act t act s).draws y) row
   act_stays act =
       let m = act_more t act s in
@@ -95,6 +96,7 @@ module _ (s : Traced) (t : ℕ) (y : ℕ) (row : Row) (stands : RowStands trace_
       (subst (λ (d : ℕ → List Draw). RowStands trace_setting (s.history ++ m.0) y (d y) row) (sym m.2)
       (row_grows trace_setting s.history m.0 y (s.draws y) row stands))
 
+  -- a row of y stands on at a plain access of another variable, and at one of y that was raised
   plain_stays : (x : ℕ) (write raised : Bool) → (x ≡ y → raised ≡ true)
       → RowStands trace_setting s.history y ((after_plain t x write raised s).draws y) row
   plain_stays x write raised when = elim (ℕ_discrete y x) [
@@ -110,6 +112,7 @@ module _ (s : Traced) (t : ℕ) (y : ℕ) (row : Row) (stands : RowStands trace_
         (sym (with_at-else s.draws x y (draw t (block_of t s) (Entered (plain_entry x write raised s)) ∷ s.draws x) other)) stands
   ]
 
+  -- a row of y stands on at a performed commit that does not have y among its variables
   commit_stays : (reads writes : List ℕ) → (Contains (with_all writes reads) y → ⊥)
       → RowStands trace_setting (with_stamp s.history t (Commits (with_all writes reads))) y
       (with_attempt t (block_of t s) s.tracing.next (commit_entry reads writes s) reads writes s.draws y) row
@@ -140,6 +143,7 @@ stay_law lines l sound y row stands when =
 -- a row with a performed access noted
 module _ (h : List Stamp) (x : ℕ) (ds : List Draw) (old new : Row) (s : RowStands trace_setting h x ds old) (words : word_of x ds ≡ pos 0)
     (d : Draw) (near : d.thread < THREADS) (i : Info) (value : new.value ≡ old.value) where
+  -- where the draw d is a performed write of 0, the row stands with d once the Info of d is its last write and it has no reads
   note_write : is_write x d.what ≡ true → wrote x d ≡ pos 0 → InfoFor trace_setting h i (access_of d) true → new.last_write ≡ Some i
       → new.reads ≡ replicate THREADS None → RowStands trace_setting h x (d ∷ ds) new
   note_write w zero' f last reads = record {
@@ -150,6 +154,8 @@ module _ (h : List Stamp) (x : ℕ) (ds : List Draw) (old new : Row) (s : RowSta
         in rw (w, n) tt;
   }
 
+  -- where the draw d is a performed read and no write, the row stands with d once the Info of d is put in its thread's place among the
+  -- reads
   note_read : is_write x d.what ≡ false → is_read x d.what ≡ true → InfoFor trace_setting h i (access_of d) false → new.last_write
       ≡ old.last_write → new.reads ≡ slice_set old.reads d.thread (Some i) → RowStands trace_setting h x (d ∷ ds) new
   note_read w r f last reads = record {
@@ -200,9 +206,11 @@ module _ (s : Traced) (now : State) (r : IsRecorded s now) (t : ℕ) (near : t <
     abbrev own : Draw
     own = draw t s.tracing.next (Entered (Commit s.tracing.next (line_tx reads writes s.tracing.numbers)))
 
+    -- the access of the commit's own draw is in the block of the event that comes next, and has the commit's variables
     same_access : access_of own ≡ record { thread = t; block = length s.history; variables = Some (with_all writes reads) }
     same_access = λ i. record { thread = t; block = r.next i; variables = Some (its_variables reads writes s.tracing.numbers i) }
 
+    -- behind the commit's event, and with its look of y or without one, the old row stands
     looked : (c : Bool) → RowStands trace_setting log y (with_look c t (block_of t s) (s.draws y)) old
     looked true = row_stays trace_setting log y (s.draws y) old
         (row_grows trace_setting s.history (record { thread = t; event = Commits (with_all writes reads) } ∷ []) y (s.draws y) old stands)
@@ -210,13 +218,16 @@ module _ (s : Traced) (now : State) (r : IsRecorded s now) (t : ℕ) (near : t <
     looked false = row_grows trace_setting s.history (record { thread = t; event = Commits (with_all writes reads) } ∷ []) y (s.draws y)
         old stands
 
+    -- the word of y is 0, with the commit's look or without one
     word_there : (c : Bool) → word_of y (with_look c t (block_of t s) (s.draws y)) ≡ pos 0
     word_there true = r.words y
     word_there false = r.words y
 
+    -- the commit's own draw is a write of y exactly where y is among the variables that it writes
     writes_there : (w : Bool) → is_in y writes ≡ w → is_write y own.what ≡ w
     writes_there w is = ap (is_in y) (its_writes reads writes s.tracing.numbers) ∙ is
 
+    -- where y is a variable of a performed commit, the row of y with the Info of that access noted stands behind the commit
     commit_follows : (mark : Bool) → InfoFor trace_setting log i
         (record { thread = t; block = length s.history; variables = Some (with_all writes reads) }) mark
         → ((mark ≡ true) ↔ Contains writes y) → IsNotedBy t (CommitsOn reads writes) y i old new → (b : Bool) → touches reads writes y ≡ b

@@ -85,11 +85,13 @@ module _ (s : Traced) (now : State) (r : IsRecorded s now) (t : ℕ) (running : 
   abbrev q : ℕ
   q = block_of t s
 
+  -- behind an attempt the next number of each variable is the count of its draws
   numbers : (p : ℕ) (e : Entry) (y : ℕ) → with_numbers reads writes s.tracing.numbers y
       ≡ length (with_attempt t (block_of t s) p e reads writes s.draws y)
   numbers p e y = ap (λ n. n + look_count reads y + own_count reads writes y) (r.numbers y)
       ∙ sym (attempt_length t (block_of t s) p e (is_in y reads) (is_in y writes) (s.draws y))
 
+  -- on a variable that is read or written, the transaction's own number is the count of the draws with its look
   number_here : (y : ℕ) → touches reads writes y ≡ true
       → Contains (line_tx reads writes s.tracing.numbers).numbers
       (record { var = y; nth = length (with_look (is_in y reads) t (block_of t s) (s.draws y)) })
@@ -101,9 +103,11 @@ module _ (s : Traced) (now : State) (r : IsRecorded s now) (t : ℕ) (running : 
   look_placed = let b = block_here s now r t running
       in record { event = b.event; here = b.here; own = b.own; goes_on = block_goes_on s now r t running; is = tt }
 
+  -- the thread's block is the position of an event of the history
   block_near : block_of t s < length s.history
   block_near = let b = block_here s now r t running in slice_get_within s.history (block_of t s) b.event b.here
 
+  -- the block of each draw so far is the position of an event of the history
   old_near : (y : ℕ) (a : Draw) → Among (s.draws y) a → a.block < length s.history
   old_near y a among = let f = each_at (DrawFits s.history y) (s.draws y) a (r.fit y) among
       in slice_get_within s.history a.block f.1.placed.event f.1.placed.here
@@ -199,9 +203,11 @@ module _ (s : Traced) (now : State) (r : IsRecorded s now) (t : ℕ) (running : 
   abbrev e : Entry
   e = Commit s.tracing.next (line_tx reads writes s.tracing.numbers)
 
+  -- the commit's entry has the position that comes next in the history
   at : position_of e ≡ Some (length s.history)
   at = ap Some r.next
 
+  -- the commit's own draw is placed at the commit's event
   commit_placed : IsPlaced (s.history ++ x ∷ []) (draw t s.tracing.next (Entered e))
   commit_placed = record {
     event = x;
@@ -228,6 +234,7 @@ module _ (s : Traced) (now : State) (r : IsRecorded s now) (t : ℕ) (running : 
       near = among_cases (λ a. a.block < s.tracing.next) t (block_of t s) (is_in y reads) (s.draws y) (let b = block_near in let n = r.next
           in omega arith) (λ a among. let b = old_near y a among in let n = r.next in omega arith)
 
+  -- the block of the commit's entry, at the end of its thread's list, is the commit's own position
   block_new_event : BlockAt (s.tracing.lists t ++ e ∷ []) (length (s.tracing.lists t)) s.tracing.next
   block_new_event =
       let es = s.tracing.lists t in
@@ -244,6 +251,7 @@ module _ (s : Traced) (now : State) (r : IsRecorded s now) (t : ℕ) (running : 
     is = tt;
   }
 
+  -- the machine can make the commit's step, which leaves its state as it was
   step : Step trace_setting now x (pos 0) now
   step = record { may = running; effect = refl }
 

@@ -84,6 +84,7 @@ pub record IsClosing (started : ℕ → Bool) (n : ℕ) (s : Traced) (now : Stat
   pub forks : (w i p u f : ℕ) (value : ℤ) → At (s.tracing.lists w) i (Sync p (Fork u f) value) → started u ≡ true
 
 module _ (started : ℕ → Bool) (n : ℕ) (s : Traced) (now : State) (k : IsClosing started n s now) where
+  -- where each thread that a Fork names was started, so it is with one more entry of thread n that is no Fork
   kept_by : (e : Entry) → ((p u f : ℕ) (value : ℤ) → e ≡ Sync p (Fork u f) value → ⊥) → (R : Lists)
       → ((w i p u f : ℕ) (value : ℤ) → At (R w) i (Sync p (Fork u f) value) → started u ≡ true) → (w i p u f : ℕ) (value : ℤ)
       → At (with_entry R n e w) i (Sync p (Fork u f) value) → started u ≡ true
@@ -167,6 +168,7 @@ module _ (started : ℕ → Bool) (n : ℕ) (s : Traced) (now : State) (k : IsCl
       here = subst (λ b. IsClosed b (with_entry s'.tracing.lists n (Over Halt) n) new n) (sym there)
           (before, entry_own s'.tracing.lists n (Over Halt) ∙ ap (λ es. es ++ Over Halt ∷ []) is, shape, some, over)
 
+  -- where thread n was started and has made its End, its Over ends its list, so that the lists of all threads below n + 1 have ended
   ended_before : started n ≡ true → s.tracing.ended n ≡ true → (new : State) × IsClosing started (suc n) (over_of n s) new
   ended_before there over =
       let o = k.open' n (omega arith) in (
@@ -175,6 +177,8 @@ module _ (started : ℕ → Bool) (n : ℕ) (s : Traced) (now : State) (k : IsCl
             ∙ ap not there) (o.2 ∙ ap (thread_of (started n)) over) (λ u z. refl) (λ u z. refl) (λ u z. refl) k.forks,
       )
 
+  -- where thread n was started and has not made its End, its End and its Over end its list, so that the lists of all threads below n + 1
+  -- have ended
   runs_still : started n ≡ true → s.tracing.ended n ≡ false → (new : State) × IsClosing started (suc n) (over_of n (with_last n s)) new
   runs_still there alive = (
     new,
@@ -246,6 +250,7 @@ endings_tracing zero s = refl
 endings_tracing (suc n) s = ending_tracing n (endings_of n s) ∙ ap (with_ending n) (endings_tracing n s)
 
 module _ (lines : List Line) (sound : AreSound lines) where
+  -- with the endings of the threads below n, their lists have ended
   closing : (n : ℕ) → (now : State) × IsClosing (is_started (steps_of lines)) n (endings_of n (traced lines)) now
   closing zero =
       let t = sound_traced lines sound in

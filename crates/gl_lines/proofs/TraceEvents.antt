@@ -155,9 +155,11 @@ module _ (s : Traced) (now : State) (r : IsRecorded s now) (t : ℕ) (act : Act)
   abbrev e : Entry
   e = Sync s.tracing.next act (pos 0)
 
+  -- the event's entry has the position that comes next in the history
   at : position_of e ≡ Some (length s.history)
   at = ap Some r.next
 
+  -- the event's entry draws no number
   none : (y k : ℕ) → Draws e y k → ⊥
   none y k (inl d) = d
   none y k (inr d) = d

@@ -75,9 +75,11 @@ get_last [] x = refl
 get_last (z ∷ xs) x = get_last xs x
 
 module _ (lines : List Line) (l : Line) (sound : AreSound (lines ++ l ∷ [])) where
+  -- the step of the last line: its thread and its item
   said : Said
   said = (l.thread, l.item)
 
+  -- there are as many steps as lines
   count : length (steps_of lines) ≡ length lines
   count = length-map lines (λ (m : Line). (m.thread, m.item))
 
@@ -164,6 +166,7 @@ tied_law lines sound = let t = sound_traced lines sound in made t.0 t.1
     }
 
 module _ (lines : List Line) (sound : AreSound lines) (right : AreVerdicts lines) where
+  -- after the first k lines what is said of each draw so far holds
   holds_to : (k : ℕ) → k ≤ length lines → (x : ℕ)
       → DrawsHold (after_each (take k lines) at_first).history x ((after_each (take k lines) at_first).draws x)
   holds_to zero le x = tt

@@ -27,6 +27,7 @@ pub record IsTraced (steps : List Said) (s : Traced) (now : State) : Type 0 wher
   pub ended : (u : ℕ) → s.tracing.ended u ≡ is_ended steps u
 
 module _ (steps : List Said) (s : Traced) (now : State) (k : IsTraced steps s now) (t : ℕ) where
+  -- where a step joins no thread, the threads that are marked as ended are those that have ended by the steps with it
   ended_same : (item : Item) → ((u : ℕ) → item_joins u item ≡ false) → (u : ℕ) → s.tracing.ended u ≡ is_ended (steps ++ (t, item) ∷ []) u
   ended_same item none u = k.ended u ∙ sym (ended_push steps (t, item) u ∙ ap (λ b. is_ended steps u || b) (none u)
       ∙ or_false (is_ended steps u))
@@ -57,6 +58,7 @@ module _ (steps : List Said) (s : Traced) (now : State) (k : IsTraced steps s no
   )
 
   module _ (running : now.threads t ≡ Running) where
+    -- a fork, with the Begin of its thread, leaves a trace that belongs to the steps with the fork
     fork_traced : (u : ℕ) → ForkRun steps t u now k.state k.kept running 0 → (new : State)
         × IsTraced (steps ++ (t, Acts (Fork u 0)) ∷ []) (with_event u (Begin 0) (with_event t (Fork u 0) s)) new
     fork_traced u run = (
@@ -80,6 +82,7 @@ module _ (steps : List Said) (s : Traced) (now : State) (k : IsTraced steps s no
         first : IsRecorded (with_event t (Fork u 0) s) run.mid
         first = event_recorded s now k.recorded t (Fork u 0) run.mid run.forks (run.calm k.recorded.quiet) (λ r e. cc) before
 
+    -- the join of a thread that has ended leaves a trace that belongs to the steps with the join
     joined_traced : (u : ℕ) → is_ended steps u ≡ true → JoinRun steps t u now k.state k.kept running → (new : State)
         × IsTraced (steps ++ (t, Acts (Join u)) ∷ []) (with_event t (Join u) s) new
     joined_traced u over run = (
@@ -99,6 +102,7 @@ module _ (steps : List Said) (s : Traced) (now : State) (k : IsTraced steps s no
             here (yes same) = let b : is_ended steps w ≡ true = subst (λ z. is_ended steps z ≡ true) same over in rw b refl
             here (no other) = ap (λ b. is_ended steps w || b) (ne_eqb u w other) ∙ or_false (is_ended steps w)
 
+    -- the End of a thread that has not ended, with the join of it, leaves a trace that belongs to the steps with the join
     end_traced : (u : ℕ) → is_ended steps u ≡ false → EndRun steps t u now k.state k.kept running → (new : State)
         × IsTraced (steps ++ (t, Acts (Join u)) ∷ []) (with_event t (Join u) (with_last u s)) new
     end_traced u alive run = (

@@ -40,6 +40,7 @@ module _ (steps : List Said) (s : Traced) (t : ℕ) (runs : is_started steps t �
   started_is item none = λ i u. (sym (started_push steps (t, item) u ∙ ap (λ b. is_started steps u || b) (none u)
       ∙ or_false (is_started steps u))) i
 
+  -- the lists are shaped behind a step that forks no thread and leaves an entry that is no Trim, no Over, no End and no Fork
   usual : (item : Item) (e : Entry) → ((u : ℕ) → item_forks u item ≡ false)
       → ((Rattle.gl_model.specs.Form.IsTrim e → ⊥) × (Rattle.gl_model.specs.Form.IsOver e → ⊥) × (Rattle.gl_model.specs.Form.IsEnd e → ⊥))
       → ((p u f : ℕ) (value : ℤ) → e ≡ Sync p (Fork u f) value → ⊥)
@@ -47,6 +48,7 @@ module _ (steps : List Said) (s : Traced) (t : ℕ) (runs : is_started steps t �
   usual item e none is no_fork = subst (λ f. AreShaped f s.tracing.ended (with_entry s.tracing.lists t e)) (started_is item none)
       (usual_shaped (is_started steps) s.tracing.ended s.tracing.lists k t runs alive e is (λ p u f v z. absurd (no_fork p u f v z)))
 
+  -- the lists are shaped behind a line that is no access and has no fault
   shaped_act : (act : Act) → IsLineItem (Acts act) → act_fault steps t act ≡ None
       → AreShaped (is_started (steps ++ (t, Acts act) ∷ [])) (after_act t act s).tracing.ended (after_act t act s).tracing.lists
   shaped_act (Begin f) is clean = absurd is
@@ -114,6 +116,7 @@ module _ (steps : List Said) (s : Traced) (t : ℕ) (runs : is_started steps t �
   shaped_act Input is clean = absurd is
   shaped_act (Fail c) is clean = absurd is
 
+  -- the lists are shaped behind a line that has no fault
   shaped_item : (item : Item) (judged : Judged) → IsLineItem item → item_fault steps t item ≡ None
       → AreShaped (is_started (steps ++ (t, item) ∷ [])) (after_item t item judged s).tracing.ended
       (after_item t item judged s).tracing.lists
@@ -147,6 +150,7 @@ first_shaped = subst (λ g. AreShaped g (λ _. false) (with_entry (λ _. []) 0 (
     ]
 
 module _ (lines : List Line) (sound : AreSound lines) where
+  -- the lists are shaped behind the first k lines
   shaped_to : (k : ℕ) → k ≤ length lines → AreShaped (is_started (take k (steps_of lines)))
       (after_each (take k lines) at_first).tracing.ended (after_each (take k lines) at_first).tracing.lists
   shaped_to zero le = first_shaped

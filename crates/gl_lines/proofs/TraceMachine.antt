@@ -189,18 +189,23 @@ monitors_at steps t o act now m k trivial is others j = elim (ℕ_discrete j o) 
 
 module _ (steps : List Said) (t : ℕ) (now : State) (k : IsStateOf steps now) (kept : AreKept steps) (running : now.threads t ≡ Running)
   where
+    -- an acquire of the monitor o leaves each other monitor as it is held
     other_acq : (o j : ℕ) → j ≢ o → (held : Hold) → act_leaves j t (Acq o) held ≡ held
     other_acq o j other held = let b : (o == j) ≡ false = ne_eqb o j (λ e. other (sym e)) in rw b refl
 
+    -- a release of the monitor o leaves each other monitor as it is held
     other_rel : (o j : ℕ) → j ≢ o → (held : Hold) → act_leaves j t (Rel o) held ≡ held
     other_rel o j other held = let b : (o == j) ≡ false = ne_eqb o j (λ e. other (sym e)) in rw b refl
 
+    -- an acquire of the monitor o by t leaves o entered once more by t
     own_acq : (o : ℕ) (held : Hold) → act_leaves o t (Acq o) held ≡ entered t held
     own_acq o held = let b : (o == o) ≡ true = eq-eqb o o refl in rw b refl
 
+    -- a release of the monitor o leaves o left once
     own_rel : (o : ℕ) (held : Hold) → act_leaves o t (Rel o) held ≡ left held
     own_rel o held = let b : (o == o) ≡ true = eq-eqb o o refl in rw b refl
 
+    -- with the monitor o entered once more by t, the state is as the steps with the acquire of o leave it
     acq_state : (o : ℕ) (m : MonitorState) → m ≡ monitor_of (entered t (holder o steps))
         → IsStateOf (steps ++ (t, Acts (Acq o)) ∷ []) (record now { monitors = with_at now.monitors o m })
     acq_state o m is = record {
@@ -209,6 +214,7 @@ module _ (steps : List Said) (t : ℕ) (now : State) (k : IsStateOf steps now) (
           (λ j other held. other_acq o j other held);
     }
 
+    -- with the monitor o left once, the state is as the steps with the release of o leave it
     rel_state : (o : ℕ) (m : MonitorState) → m ≡ monitor_of (left (holder o steps))
         → IsStateOf (steps ++ (t, Acts (Rel o)) ∷ []) (record now { monitors = with_at now.monitors o m })
     rel_state o m is = record {
@@ -217,6 +223,7 @@ module _ (steps : List Said) (t : ℕ) (now : State) (k : IsStateOf steps now) (
           (λ j other held. other_rel o j other held);
     }
 
+    -- behind an act that joins no thread, each thread that has ended was started
     joins_none : (act : Act) → ((u : ℕ) → act_joins u act ≡ false) → (u : ℕ) → is_ended (steps ++ (t, Acts act) ∷ []) u ≡ true
         → is_started (steps ++ (t, Acts act) ∷ []) u ≡ true
     joins_none act joins u e =
@@ -224,11 +231,13 @@ module _ (steps : List Said) (t : ℕ) (now : State) (k : IsStateOf steps now) (
         ∙ or_false (is_ended steps u)) ∙ e in
         started_push steps (t, Acts act) u ∙ ap (λ b. b || act_forks u act) (kept.started u was)
 
+    -- where a monitor has a depth above 0 if it is held, it has one when t has entered it
     deep_entered : (held : Hold) → ((owner depth : ℕ) → held ≡ Some (owner, depth) → 0 < depth) → (owner depth : ℕ) → entered t held
         ≡ Some (owner, depth) → 0 < depth
     deep_entered None was o d e = let same : 1 ≡ d = same_depth t 1 o d e in omega arith
     deep_entered (Some (owner, depth)) was o d e = let same : depth + 1 ≡ d = same_depth owner (depth + 1) o d e in omega arith
 
+    -- where a monitor has a depth above 0 if it is held, it has one when it was left once, if it is still held
     deep_left : (held : Hold) → ((owner depth : ℕ) → held ≡ Some (owner, depth) → 0 < depth) → (owner depth : ℕ) → left held
         ≡ Some (owner, depth) → 0 < depth
     deep_left None was o d e = absurd (cc)
@@ -242,6 +251,8 @@ module _ (steps : List Said) (t : ℕ) (now : State) (k : IsStateOf steps now) (
             let other : depth ≢ 1 = (λ one. let b : (depth == 1) ≡ true = eq-eqb depth 1 one in let z : true ≡ false = sym b ∙ is in cc) in
             omega arith
 
+    -- where an act changes how o is held, by f, and no other monitor, and f leaves a depth above 0, each monitor that is held behind the
+    -- act has a depth above 0
     deep_at : (o : ℕ) (act : Act) (f : Hold → Hold) → ((held : Hold) → act_leaves o t act held ≡ f held)
         → ((j : ℕ) → j ≢ o → (held : Hold) → act_leaves j t act held ≡ held) →
         ((held : Hold) → ((owner depth : ℕ) → held ≡ Some (owner, depth) → 0 < depth) → (owner depth : ℕ) → f held ≡ Some (owner, depth)
@@ -253,12 +264,14 @@ module _ (steps : List Said) (t : ℕ) (now : State) (k : IsStateOf steps now) (
       | no other ↦ kept.entered_once m owner depth (sym (holder_push steps (t, Acts act) m ∙ others m other (holder m steps)) ∙ e)
     ]
 
+    -- behind an acquire, too, each thread that has ended was started, and each monitor that is held has a depth above 0
     acq_kept : (o : ℕ) → AreKept (steps ++ (t, Acts (Acq o)) ∷ [])
     acq_kept o = record {
       started = joins_none (Acq o) (λ u. refl);
       entered_once = deep_at o (Acq o) (entered t) (λ held. own_acq o held) (λ j other held. other_acq o j other held) deep_entered;
     }
 
+    -- behind a release, too, each thread that has ended was started, and each monitor that is held has a depth above 0
     rel_kept : (o : ℕ) → AreKept (steps ++ (t, Acts (Rel o)) ∷ [])
     rel_kept o = record {
       started = joins_none (Rel o) (λ u. refl);
@@ -306,6 +319,7 @@ module _ (steps : List Said) (t : ℕ) (now : State) (k : IsStateOf steps now) (
               kept = acq_kept o;
             }
 
+    -- a monitor that t owns at a depth of one more than this is, when t leaves it once, in the state that the steps leave it in
     left_owned : (depth : ℕ) → left_once t depth ≡ monitor_of (left (Some (t, depth + 1)))
     left_owned zero = refl
     left_owned (suc d) =
@@ -332,6 +346,8 @@ module _ (steps : List Said) (t : ℕ) (now : State) (k : IsStateOf steps now) (
               kept = rel_kept o;
             }
 
+    -- a step by an act that forks no thread, joins none and leaves all monitors, and that keeps the threads, the monitors and volatiles
+    -- that are 0, is a run of that act
     quiet_run : (act : Act) (new : State) → (((v : ℕ) → now.volatiles v ≡ pos 0) → (v : ℕ) → new.volatiles v ≡ pos 0)
         → ((u : ℕ) → act_forks u act ≡ false) → ((u : ℕ) → act_joins u act ≡ false)
         → ((m : ℕ) (held : Hold) → act_leaves m t act held ≡ held)

@@ -95,16 +95,20 @@ module _ (s : Traced) (now : State) (r : IsRecorded s now) (t : ℕ) (running : 
     abbrev P : Lists
     P = with_entry s.tracing.lists t (Plain x (s.tracing.numbers x) false write (pos 0) raised)
 
+    -- behind the plain access the record, the list of events and the draws belong together
     p' : IsRecorded (after_plain t x write raised s) now
     p' = plain_recorded s now r t running x write raised
 
+    -- the access's entry is plain, and the last one of its list
     next_plain : IsNextPlain P (end_place s.tracing.lists t)
     next_plain = record { entry = plain; there = there s.tracing.lists t plain; plain = tt; last = ends s.tracing.lists t plain }
 
+    -- behind the access the draws of x are the access's own and below it those before
     new_list : (k : ℕ) (o : Draw) → DrawAt (with_at s.draws x (draw t (block_of t s) (Entered plain) ∷ s.draws x) x) k o
         → DrawAt (draw t (block_of t s) (Entered plain) ∷ s.draws x) k o
     new_list k o a = subst (λ ds. DrawAt ds k o) (with_at-here s.draws x (draw t (block_of t s) (Entered plain) ∷ s.draws x)) a
 
+    -- behind the access a draw of x that has an entry, and a number below the access's, is one of those before
     old_plain : (k : ℕ) (o : Draw) (g : Entry) → DrawAt (with_at s.draws x (draw t (block_of t s) (Entered plain) ∷ s.draws x) x) k o
         → o.what ≡ Entered g → k < s.tracing.numbers x → Among (s.draws x) o
     old_plain k o g a is lt = elim (new_list k o a) [
@@ -112,6 +116,7 @@ module _ (s : Traced) (now : State) (r : IsRecorded s now) (t : ℕ) (running : 
       | inr was ↦ draw_among (s.draws x) k o was
     ]
 
+    -- each draw of x before the access has, behind it, a number below the access's
     fresh_plain : (o : Draw) → Among (s.draws x) o → (k : ℕ) × (k < s.tracing.numbers x)
         × DrawAt (with_at s.draws x (draw t (block_of t s) (Entered plain) ∷ s.draws x) x) k o
     fresh_plain o among =
@@ -134,12 +139,15 @@ module _ (s : Traced) (now : State) (r : IsRecorded s now) (t : ℕ) (running : 
         (there s.tracing.lists t plain) in (subst (λ f. NumberOn f y racy.before.later) same racy.before.also_numbered).0
 
   module _ (reads writes : List ℕ) where
+    -- a variable of the commit is touched by it
     is_true : (y : ℕ) → Contains (with_all writes reads) y → touches reads writes y ≡ true
     is_true y c = sym (is_in-touches reads writes y) ∙ contains-is_in y (with_all writes reads) c
 
+    -- what the commit touches is a variable of it
     is_there : (y : ℕ) → touches reads writes y ≡ true → Contains (with_all writes reads) y
     is_there y i = is_in-contains y (with_all writes reads) (is_in-touches reads writes y ∙ i)
 
+    -- a draw that has an entry is no look
     not_look : (o : Draw) (g : Entry) (p : ℕ) → o.what ≡ Entered g → o ≡ draw t p (Looked (pos 0)) → ⊥
     not_look o g p is look = let w : o.what ≡ Looked (pos 0) = ap (λ (z : Draw). z.what) look in cc
 
@@ -175,9 +183,11 @@ module _ (s : Traced) (now : State) (r : IsRecorded s now) (t : ℕ) (running : 
     abbrev log : List Stamp
     log = s.history ++ record { thread = t; event = Commits (with_all writes reads) } ∷ []
 
+    -- behind the commit the record, the list of events and the draws belong together
     r' : IsRecorded (after_commit t reads writes s) now
     r' = commit_recorded s now r t running reads writes
 
+    -- the commit's entry, at the end of its thread's list, is the event that comes next in the history
     here : IsEventAt R (end_place s.tracing.lists t) (length s.history) x
     here = record {
       entry = e;
@@ -187,6 +197,8 @@ module _ (s : Traced) (now : State) (r : IsRecorded s now) (t : ℕ) (running : 
       own = refl;
     }
 
+    -- an access that was placed before the commit happens before the next commit of t on these variables exactly where its entry happens
+    -- before the commit in the record with it
     alike : (o : Draw) (c : Place) → IsPlaced s.history o → StandsFor R c (access_of o)
         → HappensBeforeNext s.history (access_of o) t (Some (with_all writes reads)) ↔ HappensBefore R c (end_place s.tracing.lists t)
     alike o c placed stands = (λ hb. record'.0 (grown (list.1 hb)), λ hb. list.0 (back (record'.1 hb)))

@@ -29,6 +29,7 @@ going_push h t es e none g = record {
 }
 
 module _ (s : Traced) (now : State) (r : IsRecorded s now) (t : ℕ) (running : now.threads t ≡ Running) where
+  -- the running thread has a last event, which is no End
   g : IsGoing s.history t (s.tracing.lists t)
   g = r.going t running
 
@@ -39,6 +40,7 @@ module _ (s : Traced) (now : State) (r : IsRecorded s now) (t : ℕ) (running : 
   pub block_here : LastOwn s.history t (s.tracing.lists t) (r.events t) (block_of t s)
   block_here = last_own s.history t (s.tracing.lists t) (r.events t) (block_of t s) block_is
 
+  -- the position of the thread's last event is its block
   same_block : g.position ≡ block_of t s
   same_block = let a = g.last in let b = block_is in cc
 
@@ -70,6 +72,7 @@ module _ (s : Traced) (now : State) (r : IsRecorded s now) (t : ℕ) (running : 
       | no other ↦ subst (P y) (sym (with_at-else s.draws x y (d ∷ s.draws x) other)) (others y other)
     ]
 
+    -- behind the access the next number of each variable is the count of its draws
     numbers : (y : ℕ) → (if y == x then s.tracing.numbers x + 1 else s.tracing.numbers y) ≡ length (new y)
     numbers y = elim (ℕ_discrete y x) [
       | yes same ↦ (let b : (y == x) ≡ true = eq-eqb y x same in let n = r.numbers x in rw b (omega arith))
@@ -87,15 +90,18 @@ module _ (s : Traced) (now : State) (r : IsRecorded s now) (t : ℕ) (running : 
       named = ((refl, r.numbers x), tt);
     }
 
+    -- the draws of thread t are tied to its list with the access's entry
     drawn_here : AreDrawn new t (s.tracing.lists t ++ e ∷ []) []
     drawn_here = subst (λ n. AreDrawn (with_at s.draws x (draw t (block_of t s) (Entered (Plain x n false write (pos 0) raised))
         ∷ s.draws x)) t (s.tracing.lists t ++ Plain x n false write (pos 0) raised ∷ []) []) (sym (r.numbers x))
         (drawn_mark s.draws x t (block_of t s) (s.tracing.lists t) [] write raised (pos 0) block_is (r.drawn t))
 
+    -- the access's entry has the form of an entry of thread t, raised or not
     form : (b : Bool) → EntryForm t (Plain x (s.tracing.numbers x) false write (pos 0) b)
     form true = (refl, λ z. refl)
     form false = tt
 
+    -- the word of x is 0 whether the access wrote 0 or left it as it was
     word : (w : Bool) → (if w then pos 0 else word_of x (s.draws x)) ≡ pos 0
     word true = refl
     word false = r.words x

@@ -29,6 +29,7 @@ module _ (s s' : Traced) (now now' : State) (r : IsRecorded s now) (r' : IsRecor
     (fresh : (o : Draw) → Among (s.draws y) o → (k : ℕ) × (k < m) × DrawAt (s'.draws y) k o)
     (alike : (o : Draw) (c : Place) → IsPlaced s.history o → StandsFor s'.tracing.lists c (access_of o) → c ≢ d
     → HappensBeforeNext s.history (access_of o) d.thread v ↔ HappensBefore s'.tracing.lists c d) where
+  -- s' has the record and the draws of s with the entry e added, as far as they speak of y
   added : IsAdded s.history s'.history s'.tracing.lists s.draws s'.draws d e y m
   added = record {
     listed = is_list s'.tracing.lists s'.history r'.events;

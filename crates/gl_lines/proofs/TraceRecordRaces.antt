@@ -66,15 +66,19 @@ module _ (t x : ℕ) (write : Bool) (s : Tracing) (k : IsSoFar s) where
   abbrev e : Bool → Entry
   e raised = Plain x (s.numbers x) false write (pos 0) raised
 
+  -- behind the access the next number of each variable is no lower than before
   more : (y : ℕ) → s.numbers y ≤ (if y == x then s.numbers x + 1 else s.numbers y)
   more y = elim (ℕ_discrete y x) [
     | yes same ↦ (let b : (y == x) ≡ true = eq-eqb y x same in let n : s.numbers y ≡ s.numbers x = ap s.numbers same in rw b (omega arith))
     | no other ↦ (let b : (y == x) ≡ false = ne_eqb y x other in rw b (omega arith))
   ]
 
+  -- a number of the access's entry is below the variable's next number behind it
   own : (raised : Bool) (y m : ℕ) → NumberOn (e raised) y m → m < (if y == x then s.numbers x + 1 else s.numbers y)
   own raised y m n = let b : (y == x) ≡ true = eq-eqb y x (sym n.0) in let i : s.numbers x ≡ m = n.1 in rw b (omega arith)
 
+  -- with a plain access that is raised exactly where it is racy, the record so far obeys the law of races, and what comes next is above all
+  -- in it
   plain_so_far : (raised : Bool) → IsRaisedRightly (with_entry s.lists t (e raised)) (end_place s.lists t) (e raised)
       → IsSoFar (with_plain t x write raised s)
   plain_so_far raised right = record {
@@ -84,6 +88,7 @@ module _ (t x : ℕ) (write : Bool) (s : Tracing) (k : IsSoFar s) where
         in let v : s.numbers x ≡ s.numbers y = ap s.numbers n.0 in omega arith) k.races right;
   }
 
+  -- the access is racy on no other variable than its own
   only : (raised : Bool) (y : ℕ) → IsRacy (with_entry s.lists t (e raised)) (end_place s.lists t) y → x ≡ y
   only raised y racy =
       let same = same_entry (with_entry s.lists t (e raised)) (end_place s.lists t) racy.before.second (e raised) racy.before.here
@@ -95,11 +100,14 @@ module _ (t : ℕ) (reads writes : List ℕ) (s : Tracing) (k : IsSoFar s) where
   abbrev one_or_none : Bool → Bool → ℕ
   one_or_none a b = if a then 1 else if b then 1 else 0
 
+  -- where one of two tests holds, one_or_none counts 1
   counted : (y : ℕ) (a b : Bool) → (if a then true else b) ≡ true → one_or_none a b ≡ 1
   counted y true b i = refl
   counted y false true i = refl
   counted y false false i = absurd (cc)
 
+  -- where an entry has no other numbers than the commit line's, they are at or above the next numbers before the line and below those
+  -- behind it
   inside : (f : Entry) → ((y m : ℕ) → NumberOn f y m
       → Rattle.std.specs.Prelude.Contains (line_tx reads writes s.numbers).numbers (record { var = y; nth = m })) → (y m : ℕ)
       → NumberOn f y m → (s.numbers y ≤ m) × (m < with_numbers reads writes s.numbers y)
@@ -109,12 +117,14 @@ module _ (t : ℕ) (reads writes : List ℕ) (s : Tracing) (k : IsSoFar s) where
       (Rattle.gl_model.specs.Trace.is_in y writes) i.0 in
       let at = i.1 in (omega arith, omega arith)
 
+  -- behind the commit line the next number of each variable is no lower than before
   grown : (y : ℕ) → s.numbers y ≤ with_numbers reads writes s.numbers y
   grown y = omega arith
 
   abbrev f : Entry
   f = Commit s.next (line_tx reads writes s.numbers)
 
+  -- with a performed commit that is racy on no variable, the record so far obeys the law of races, and what comes next is above all in it
   commit_so_far : ((y : ℕ) → IsRacy (with_entry s.lists t f) (end_place s.lists t) y → ⊥) → IsSoFar (with_commit t reads writes Performed s)
   commit_so_far right = record {
     below = below_push s.lists s.next s.numbers k.below t f (s.next + 1) (with_numbers reads writes s.numbers) (omega arith) grown
@@ -126,6 +136,7 @@ module _ (t : ℕ) (reads writes : List ℕ) (s : Tracing) (k : IsSoFar s) where
   abbrev g : ℕ → Entry
   g var = Abort (line_tx reads writes s.numbers) (WasRaised var)
 
+  -- so it is with a refused commit that is racy on the variable that it names and on none below it
   refused_so_far : (var : ℕ) → IsRaisedRightly (with_entry s.lists t (g var)) (end_place s.lists t) (g var)
       → IsSoFar (with_commit t reads writes (Raised var) s)
   refused_so_far var right = record {

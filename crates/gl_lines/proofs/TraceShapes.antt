@@ -112,9 +112,11 @@ pub record AreShaped (started : ℕ → Bool) (ended : ℕ → Bool) (R : Lists)
 
 module _ (started ended : ℕ → Bool) (R : Lists) (k : AreShaped started ended R) (t : ℕ) (runs : started t ≡ true) (alive : ended t ≡ false)
   where
+    -- the list of thread t, which was started, is not empty
     some : is_empty (R t) ≡ false
     some = k.begun t ∙ ap not runs
 
+    -- with one more entry of thread t, the lists that are empty are those of the threads that were not started
     begun_push : (e : Entry) (u : ℕ) → is_empty (with_entry R t e u) ≡ not (started u)
     begun_push e u = each_list (λ w es. is_empty es ≡ not (started w)) R t e (empty_push (R t) e ∙ sym (ap not runs))
         (λ w other. k.begun w) u

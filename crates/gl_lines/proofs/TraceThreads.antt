@@ -115,6 +115,7 @@ module _ (steps : List Said) (t u : ℕ) (now : State) (k : IsStateOf steps now)
             ≡ true
         started w e = started_push steps (t, Acts (Fork u 0)) w ∙ ap (λ b. b || (u == w)) (kept.started w (sym (ended_same w) ∙ e))
 
+    -- by a join of u no other thread comes to have ended
     ended_else : (w : ℕ) → w ≢ u → is_ended (steps ++ (t, Acts (Join u)) ∷ []) w ≡ is_ended steps w
     ended_else w other = ended_push steps (t, Acts (Join u)) w ∙ ap (λ b. is_ended steps w || b) (ne_eqb u w (λ e. other (sym e)))
         ∙ or_false (is_ended steps w)
@@ -122,9 +123,11 @@ module _ (steps : List Said) (t u : ℕ) (now : State) (k : IsStateOf steps now)
     pub ended_here : is_ended (steps ++ (t, Acts (Join u)) ∷ []) u ≡ true
     ended_here = ended_push steps (t, Acts (Join u)) u ∙ ap (λ b. is_ended steps u || b) (eq-eqb u u refl) ∙ or_true (is_ended steps u)
 
+    -- by a join no thread comes to be started
     started_same : (w : ℕ) → is_started (steps ++ (t, Acts (Join u)) ∷ []) w ≡ is_started steps w
     started_same w = started_push steps (t, Acts (Join u)) w ∙ or_false (is_started steps w)
 
+    -- a state in which u has ended, with the other threads and the monitors as before, is as the steps with the join of u leave it
     join_state : (new : State) → new.threads u ≡ Ended → ((w : ℕ) → w ≢ u → new.threads w ≡ now.threads w) → new.monitors ≡ now.monitors
         → IsStateOf (steps ++ (t, Acts (Join u)) ∷ []) new
     join_state new over others monitors = record {
@@ -143,6 +146,7 @@ module _ (steps : List Said) (t u : ℕ) (now : State) (k : IsStateOf steps now)
               ∙ ap (λ z. thread_of (is_started (steps ++ (t, Acts (Join u)) ∷ []) w) z) (sym (ended_else w other))
         ]
 
+    -- where u was started, behind its join each thread that has ended was started, and each monitor that is held has a depth above 0
     join_kept : is_started steps u ≡ true → AreKept (steps ++ (t, Acts (Join u)) ∷ [])
     join_kept there = record {
       started = started;

@@ -140,15 +140,18 @@ module _ (s : Traced) (now : State) (r : IsRecorded s now) (t : ℕ) (running : 
     abbrev plain : Bool → Entry
     plain raised = Plain x (s.tracing.numbers x) false write (pos 0) raised
 
+    -- a plain entry of the value 0 that is raised exactly where it is racy among the draws is right
     right : (w raised : Bool) → (raised ≡ true) ↔ IsRacyAmong s.history x (s.draws x) t (block_of t s)
         (Plain x (s.tracing.numbers x) false w (pos 0) raised)
         → IsRightEntry s.history x (s.draws x) t (block_of t s) (Plain x (s.tracing.numbers x) false w (pos 0) raised)
     right true raised i = i
     right false raised i = (i, λ e. sym (r.words x))
 
+    -- no event of thread t is behind its block
     upto : (p : ℕ) (e : Stamp) → EventAt s.history p e → e.thread ≡ t → p ≤ block_of t s
     upto = (block_here s now r t running).upto
 
+    -- where a plain access is raised exactly where it is racy among the draws of x, what is said of each draw holds behind it
     holds : (raised : Bool) → (raised ≡ true) ↔ IsRacyAmong s.history x (s.draws x) t (block_of t s)
         (Plain x (s.tracing.numbers x) false write (pos 0) raised) → (y : ℕ)
         → DrawsHold s.history y ((after_plain t x write raised s).draws y)
@@ -158,6 +161,7 @@ module _ (s : Traced) (now : State) (r : IsRecorded s now) (t : ℕ) (running : 
       all x,
     ) (λ y other. all y)
 
+    -- so it does behind a raised access whose entry is racy in the record with it
     raised_holds : (var : ℕ) → IsRacy (with_entry s.tracing.lists t (plain true)) (end_place s.tracing.lists t) var → (y : ℕ)
         → DrawsHold s.history y ((after_plain t x write true s).draws y)
     raised_holds var racy =
@@ -170,6 +174,7 @@ module _ (s : Traced) (now : State) (r : IsRecorded s now) (t : ℕ) (running : 
           λ i. refl,
         )
 
+    -- and behind a performed access whose entry is not racy on x in the record with it
     performed_holds : (IsRacy (with_entry s.tracing.lists t (plain false)) (end_place s.tracing.lists t) x → ⊥) → (y : ℕ)
         → DrawsHold s.history y ((after_plain t x write false s).draws y)
     performed_holds none =
@@ -182,6 +187,7 @@ module _ (s : Traced) (now : State) (r : IsRecorded s now) (t : ℕ) (running : 
 
   -- a commit
   module _ (reads writes : List ℕ) where
+    -- behind a refused commit what is said of each draw holds, whichever variable it names
     refused_holds : (var y : ℕ) → DrawsHold s.history y ((after_refused t reads writes var s).draws y)
     refused_holds var y = each_attempt (DrawHolds s.history y) t (block_of t s) (block_of t s)
         (Abort (line_tx reads writes s.tracing.numbers) (WasRaised var)) (touches reads writes y) (is_in y reads) (s.draws y)

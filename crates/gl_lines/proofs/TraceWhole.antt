@@ -37,12 +37,14 @@ module _ (t : ℕ) (before : List Entry) (k : IsShaped true before) (some : is_e
   abbrev es : List Entry
   es = before ++ Over Halt ∷ []
 
+  -- in a list of the shape of an ended thread's, with Over at its end, an entry that has nothing but Trims before it is Begin
   begins : (before' : List Entry) → IsShaped true before' → is_empty before' ≡ false → (i : ℕ) (e : Entry)
       → At (before' ++ Over Halt ∷ []) i e → ((j : ℕ) (f : Entry) → At (before' ++ Over Halt ∷ []) j f → j < i → IsTrim f) → IsBegin e
   begins [] k' some' i e a all = absurd (cc)
   begins (x ∷ rest) k' some' zero e a all = k'.first e a
   begins (x ∷ rest) k' some' (suc i) e a all = absurd (begin_no_trim x (k'.first x refl) (all 0 x refl (omega arith)))
 
+  -- an entry is End exactly where the one behind it is Over
   over_after : (i : ℕ) (e f : Entry) → At es i e → At es (i + 1) f → IsEnd e ↔ IsOver f
   over_after i e f a b = elim (at_cases before (Over Halt) f (i + 1) b) [
     | inl old ↦
@@ -63,12 +65,14 @@ module _ (t : ℕ) (before : List Entry) (k : IsShaped true before) (some : is_e
         ))
   ]
 
+  -- Over is the last entry of the list
   over_last : (i : ℕ) (e : Entry) → At es i e → IsOver e → length es ≡ i + 1
   over_last i e a o = elim (at_cases before (Over Halt) e i a) [
     | inl old ↦ absurd (k.no_over i e old o)
     | inr new ↦ (let at = new.0 in omega (arith, length-append before (Over Halt ∷ [])))
   ]
 
+  -- the list has no Trim
   no_trims : (i low : ℕ) → At es i (Trim low) → ⊥
   no_trims i low a = elim (at_cases before (Over Halt) (Trim low) i a) [
     | inl old ↦ k.no_trim i (Trim low) old tt
@@ -145,23 +149,29 @@ module _ (started : ℕ → Bool) (main : started 0 ≡ true) (s : Traced) (now 
   abbrev R : Lists
   R = s.tracing.lists
 
+  -- the record, the list of events and the draws belong together
   r : IsRecorded s now
   r = k.recorded
 
+  -- a thread whose number is not below the greatest number of threads has an empty list
   empty_far : (u : ℕ) → THREADS ≤ u → s.tracing.lists u ≡ []
   empty_far u le = empty_is (s.tracing.lists u) ((k.open' u le).1 ∙ ap not (k.few u le))
 
+  -- a list that was ended is empty or ends with Over behind an End, whether its thread was started or not
   closed_cases : (b : Bool) (u : ℕ) → IsClosed b (s.tracing.lists u) now u → IsEnded (s.tracing.lists u)
   closed_cases true u c = inr (c.0, c.1, c.2, c.3)
   closed_cases false u c = inl c.0
 
+  -- each list is empty or ends with Over behind an End
   ended_of : (u : ℕ) → IsEnded (s.tracing.lists u)
   ended_of u = elim (cases_lt u THREADS) [ inl near ↦ closed_cases (started u) u (k.closed u near) | inr far ↦ inl (empty_far u far) ]
 
+  -- a list with Over at its end is not empty
   not_empty : (before : List Entry) → before ++ Over Halt ∷ [] ≡ [] → ⊥
   not_empty [] e = cc
   not_empty (x ∷ before) e = cc
 
+  -- the list of a thread that was started is not empty
   started_list : (u : ℕ) → started u ≡ true → s.tracing.lists u ≢ []
   started_list u e none = elim (cases_lt u THREADS) [
     | inl near ↦ (let c : IsClosed true (s.tracing.lists u) now u = subst (λ b. IsClosed b (s.tracing.lists u) now u) e (k.closed u near)
@@ -169,6 +179,7 @@ module _ (started : ℕ → Bool) (main : started 0 ≡ true) (s : Traced) (now 
     | inr far ↦ (let f = k.few u far in let z : true ≡ false = sym e ∙ f in cc)
   ]
 
+  -- the record is well formed
   form : Form s.tracing.lists
   form = record {
     main = started_list 0 main;
@@ -180,20 +191,25 @@ module _ (started : ℕ → Bool) (main : started 0 ≡ true) (s : Traced) (now 
     ];
   }
 
+  -- the record's numbers are those of each variable, each once
   numbered : Numbered s.tracing.lists
   numbered = numbered_law s.tracing.lists s.draws (tied_of s now r) r.formed
 
+  -- there is a state for each number of the events, and each event is a step with the value 0 from one to the next
   trail : ZeroTrail trace_setting (start trace_setting) s.history now
   trail = zero_trail trace_setting s.history (start trace_setting) now r.zero_run
 
+  -- a thread that was not started has not ended
   alive : (u : ℕ) → started u ≡ false → (b : Bool) → s.tracing.ended u ≡ b → b ≡ false
   alive u none true e = absurd (let z = k.began u e in cc)
   alive u none false e = refl
 
+  -- a thread whose list was ended was never forked, or has ended
   over_cases : (b : Bool) (u : ℕ) → IsClosed b (s.tracing.lists u) now u → (now.threads u ≡ NeverForked) ⊎ (now.threads u ≡ Ended)
   over_cases true u c = inr c.4
   over_cases false u c = inl c.1
 
+  -- the machine makes the record's events
   machine : IsMachineRun trace_setting s.tracing.lists s.history
   machine = record {
     at = trail.at;
@@ -218,6 +234,7 @@ module _ (started : ℕ → Bool) (main : started 0 ≡ true) (s : Traced) (now 
     listed : IsEventList events S
     made : IsMachineRun trace_setting S events
 
+  -- the record is well formed, its numbers are each once, and the machine makes its events
   whole : Whole s.tracing.lists
   whole = record {
     is_form = form;

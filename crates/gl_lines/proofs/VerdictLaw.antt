@@ -82,6 +82,7 @@ one_said P Q (CommitsOn reads writes) (Raised v) (Raised u) to back i j =
     ap Raised (one_access P Q (Accesses (CommitsOn reads writes)) to back v u i.0 i.1 i.2 j.0 j.1 j.2)
 
 module _ (s : Traced) (now : State) (r : IsRecorded s now) (t : ℕ) (running : now.threads t ≡ Running) where
+  -- the lists of the record so far
   L : Lists
   L = s.tracing.lists
 
@@ -98,6 +99,7 @@ module _ (s : Traced) (now : State) (r : IsRecorded s now) (t : ℕ) (running : 
       (subst (λ g. IsRacy (with_entry s.tracing.lists t e) (end_place s.tracing.lists t) y ↔ IsRacyNext s.history y (s.draws y) t v g)
       same alike)
 
+  -- the entry of a plain access is racy on its variable, at its list's last place, exactly where it is so as the next access
   plain_alike : (x y : ℕ) (write raised : Bool) (f : Entry)
       → EntryAt (with_entry s.tracing.lists t (plain_entry x write raised s))
       (last_place (with_entry s.tracing.lists t (plain_entry x write raised s)) t) f → x ≡ y →
@@ -131,6 +133,7 @@ module _ (s : Traced) (now : State) (r : IsRecorded s now) (t : ℕ) (running : 
       → IsRacy (with_entry s.tracing.lists t e) (end_place s.tracing.lists t) y
   moved e y racy = subst (λ c. IsRacy (with_entry s.tracing.lists t e) c y) (last_is s.tracing.lists t e) racy
 
+  -- the entry of a line that is an access is racy on no other variables than the line's
   item_on : (item : Item) (judged : Judged) (y : ℕ) → ((act : _) → item ≡ Acts act → ⊥)
       → IsRacy (after_item t item judged s).tracing.lists (last_place (after_item t item judged s).tracing.lists t) y → Accesses item y
   item_on (Acts act) judged y access racy = absurd (access act refl)
@@ -147,9 +150,11 @@ module _ (s : Traced) (now : State) (r : IsRecorded s now) (t : ℕ) (running : 
   item_on (CommitsOn reads writes) Performed y access racy =
       touched_back reads writes y (racy_commit_on s now r t running reads writes y (moved (commit_entry reads writes s) y racy))
 
+  -- a new entry stands at the last place of its thread's list
   entry_there : (e : Entry) → EntryAt (with_entry s.tracing.lists t e) (last_place (with_entry s.tracing.lists t e) t) e
   entry_there e = subst (λ c. EntryAt (with_entry s.tracing.lists t e) c e) (sym (last_is s.tracing.lists t e)) (there s.tracing.lists t e)
 
+  -- the entry of a line that is an access stands at the last place of its thread's list
   item_there : (item : Item) (judged : Judged) → ((act : _) → item ≡ Acts act → ⊥)
       → EntryAt (after_item t item judged s).tracing.lists (last_place (after_item t item judged s).tracing.lists t) (entered item judged s)
   item_there (Acts act) judged access = absurd (access act refl)
@@ -182,6 +187,7 @@ module _ (s : Traced) (now : State) (r : IsRecorded s now) (t : ℕ) (running : 
         (sym (its_writes reads writes s.tracing.numbers)) w,
   )
 
+  -- the line's entry is the next access on each of its variables: a plain one, or a commit that has it
   entry_next : (item : Item) (judged : Judged) (y : ℕ) → Accesses item y → IsNextOn y (commit_of item) (entered item judged s)
   entry_next (Acts act) judged y a = absurd a
   entry_next (Access x write) (Raised var) y a = tt
@@ -191,29 +197,36 @@ module _ (s : Traced) (now : State) (r : IsRecorded s now) (t : ℕ) (running : 
 
   module _ (all : (y : ℕ) → DrawsHold s.history y (s.draws y)) (item : Item) (judged : Judged) (y : ℕ) (a : Accesses item y) (row : Row)
       (stands : RowStands trace_setting s.history y (s.draws y) row) (question : Question) (asks : Asks t item y question) where
+    -- the line's entry is the next access on y that the question speaks of
     next : IsNextOn y question.commit (entered item judged s)
     next = subst (λ v. IsNextOn y v (entered item judged s)) (sym asks.commit) (entry_next item judged y a)
 
+    -- where an Info of the row that conflicts fails its test, the line's entry is racy on y as the next access
     fails_next : SomeFails s.history row question → IsRacyNext s.history y (s.draws y) t (commit_of item) (entered item judged s)
     fails_next fails = subst (λ v. IsRacyNext s.history y (s.draws y) t v (entered item judged s)) asks.commit
         (next_fails_racy trace_setting s.history now r.allowed t running y (s.draws y) (all y) row stands question asks.thread
         (entered item judged s) next (λ w. (entry_writes item judged y a).1 (asks.write.0 w)) fails)
 
+    -- where none fails, it is not racy on y as the next access
     passes_next : (SomeFails s.history row question → ⊥) → IsRacyNext s.history y (s.draws y) t (commit_of item) (entered item judged s) → ⊥
     passes_next none racy = next_passes_not_racy trace_setting s.history now r.allowed t running y (s.draws y) (all y) row stands question
         asks.thread (entered item judged s) next (λ w. asks.write.1 ((entry_writes item judged y a).0 w)) none
         (subst (λ v. IsRacyNext s.history y (s.draws y) t v (entered item judged s)) (sym asks.commit) racy)
 
   module _ (item : Item) (judged : Judged) (access : (act : _) → item ≡ Acts act → ⊥) where
+    -- on each of the line's variables its entry is racy in the record with it exactly where it is so as the next access
     alike : (y : ℕ) → Accesses item y → IsRacy (after_item t item judged s).tracing.lists
         (last_place (after_item t item judged s).tracing.lists t) y ↔ IsRacyNext s.history y (s.draws y) t (commit_of item)
         (entered item judged s)
     alike y a = item_alike item judged (entered item judged s) (item_there item judged access) y a
 
+    -- where the entry is not racy as the next access on y, or the line does not access y, it is not racy on y in the record with it
     not_racy : (y : ℕ) → (Accesses item y → IsRacyNext s.history y (s.draws y) t (commit_of item) (entered item judged s) → ⊥)
         → IsRacy (after_item t item judged s).tracing.lists (last_place (after_item t item judged s).tracing.lists t) y → ⊥
     not_racy y none is = let a = item_on item judged y access is in none a ((alike y a).0 is)
 
+    -- the least of the line's variables on which its entry is racy as the next access is the least of all on which it is racy in the record
+    -- with it
     first_racy : (var : ℕ) → Accesses item var → IsRacyNext s.history var (s.draws var) t (commit_of item) (entered item judged s)
         → ((y : ℕ) → y < var → Accesses item y → IsRacyNext s.history y (s.draws y) t (commit_of item) (entered item judged s) → ⊥) →
         IsRacy (after_item t item judged s).tracing.lists (last_place (after_item t item judged s).tracing.lists t) var
@@ -232,6 +245,7 @@ module _ (s : Traced) (now : State) (r : IsRecorded s now) (t : ℕ) (running : 
   races_judged (CommitsOn reads writes) Performed j = λ y. not_racy (CommitsOn reads writes) Performed (λ act e. cc) y (j y)
   races_judged (CommitsOn reads writes) (Raised var) j = first_racy (CommitsOn reads writes) (Raised var) (λ act e. cc) var j.0 j.1 j.2
 
+  -- a line that is judged rightly is judged by the variables on which its entry is racy as the next access
   races_said : (item : Item) (judged : Judged)
       → IsJudgedRightly (after_item t item judged s).tracing.lists (last_place (after_item t item judged s).tracing.lists t) item judged →
       IsJudgedBy (λ y. IsRacyNext s.history y (s.draws y) t (commit_of item) (entered item judged s)) item judged
@@ -261,16 +275,19 @@ module _ (s : Traced) (now : State) (r : IsRecorded s now) (t : ℕ) (running : 
   access_plain x write Performed = tt
   access_plain x write (Raised var) = tt
 
+  -- whatever is said of a commit line, its entry is not plain
   commit_not_plain : (reads writes : List ℕ) (judged : Judged) → IsPlain (entered (CommitsOn reads writes) judged s) → ⊥
   commit_not_plain reads writes NoAccess w = w
   commit_not_plain reads writes Performed w = w
   commit_not_plain reads writes (Raised var) w = w
 
+  -- where a line's entry is plain, it is so whatever else is said of the line
   as_plain : (item : Item) (a b : Judged) → IsPlain (entered item a s) → IsPlain (entered item b s)
   as_plain (Acts act) a b w = tt
   as_plain (Access x write) a b w = access_plain x write b
   as_plain (CommitsOn reads writes) a b w = absurd (commit_not_plain reads writes a w)
 
+  -- where a line's entry is racy on one of its variables as the next access, it is so whatever else is said of the line
   next_alike : (item : Item) (a b : Judged) (y : ℕ) → Accesses item y
       → IsRacyNext s.history y (s.draws y) t (commit_of item) (entered item a s)
       → IsRacyNext s.history y (s.draws y) t (commit_of item) (entered item b s)
@@ -288,6 +305,7 @@ module _ (s : Traced) (now : State) (r : IsRecorded s now) (t : ℕ) (running : 
     unordered = n.unordered;
   }
 
+  -- of a line one thing alone is said rightly
   item_settled : (item : Item) (a b : Judged)
       → IsJudgedRightly (after_item t item a s).tracing.lists (last_place (after_item t item a s).tracing.lists t) item a
       → IsJudgedRightly (after_item t item b s).tracing.lists (last_place (after_item t item b s).tracing.lists t) item b → a ≡ b
