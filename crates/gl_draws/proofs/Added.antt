@@ -48,6 +48,7 @@ module _ (h h' : List Stamp) (R : Lists) (ds ds' : ℕ → List Draw) (d : Place
   stood k o g at made performed c own there block =
       stands R h' i.listed i.rise o g made performed (i.placed o (draw_among (ds' y) k o at)) c own there block
 
+  -- where the entry that was added is racy on y in the record, it is so as the next access before it
   from_record : IsRacy R d y → IsRacyNext h y (ds y) d.thread v e
   from_record racy = record {
     earlier = o.0;
@@ -90,6 +91,7 @@ module _ (h h' : List Stamp) (R : Lists) (ds ds' : ℕ → List Draw) (d : Place
           (performed_draws racy.before.first y racy.before.number racy.performed (i.alone racy.other racy.before.first racy.before.there)
           racy.before.numbered) o.1 o.2 made)
 
+  -- where it is racy on y as the next access, it is so in the record
   to_record : IsRacyNext h y (ds y) d.thread v e → IsRacy R d y
   to_record racy =
       let k = i.fresh racy.earlier racy.among in
@@ -127,6 +129,8 @@ module _ (setting : Setting) (h h' : List Stamp) (now : State) (allowed : Allows
   abbrev x : Stamp
   x = a.event
 
+  -- an access that was placed before happens before the next commit of that thread on these variables exactly where its place happens
+  -- before the added commit
   commit_alike : (o : Draw) (c : Place) → IsPlaced h o → StandsFor R c (access_of o)
       → HappensBeforeNext h (access_of o) d.thread (Some xs) ↔ HappensBefore R c d
   commit_alike o c placed stands = (λ hb. record'.0 (grown (own_commit.1 (list.1 hb))), λ hb. list.0 (own_commit.0 (back (record'.1 hb))))

@@ -9,6 +9,7 @@ use Rattle.gl_draws.proofs.VerdictGrowth.{racy_grows, racy_back}
 
 -- what is said of draws of which each stands in a front of the list is said over that front
 module _ (h more : List Stamp) where
+  -- a draw whose block is in the front is placed there, where it is placed in the longer list
   placed_back : (d : Draw) → d.block < length h → IsPlaced (h ++ more) d → IsPlaced h d
   placed_back d near p = record {
     event = p.event;
@@ -18,6 +19,7 @@ module _ (h more : List Stamp) where
     is = p.is;
   }
 
+  -- an entry whose block is in the front is right over the front, where it is right over the longer list
   right_back : (x : ℕ) (ds : List Draw) (t p : ℕ) (near : p < length h) (e : Entry) → IsRightEntry (h ++ more) x ds t p e
       → IsRightEntry h x ds t p e
   right_back x ds t p near (Plain var nth cached true value raised) i = (
@@ -36,6 +38,7 @@ module _ (h more : List Stamp) where
   right_back x ds t p near (Commit at tx) i = (λ r. i.0 (racy_grows h more x ds t p near (Commit at tx) r), i.1)
   right_back x ds t p near e i = tt
 
+  -- so it is with whatever a number was drawn for in such a block
   what_back : (x : ℕ) (ds : List Draw) (t p : ℕ) (near : p < length h) (w : What) → IsRight (h ++ more) x ds t p w → IsRight h x ds t p w
   what_back x ds t p near (Entered e) i = right_back x ds t p near e i
   what_back x ds t p near (Looked value) i = i

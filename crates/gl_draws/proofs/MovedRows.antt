@@ -12,6 +12,7 @@ use Rattle.gl_draws.specs.Moved.{AreMoved, IsRowMoved}
 use Rattle.gl_draws.proofs.MovedInfos.{unmoved, moved_trans, fails_moved, info_moved}
 
 module _ (setting : Setting) (h : List Stamp) where
+  -- an Info that was walked on stands for the draw that it stood for before, and where there was none there is none
   of_moved : (write : Bool) (old new : Option Info) (d : Option Draw) → AreMoved h old new → InfoOf setting h write old d
       → InfoOf setting h write new d
   of_moved write None None d m f = f
@@ -30,6 +31,7 @@ module _ (setting : Setting) (h : List Stamp) where
   }
 
 module _ (h : List Stamp) where
+  -- an Info that was walked on from another that was walked on from a first was walked on from that
   option_trans : (a b c : Option Info) → AreMoved h a b → AreMoved h b c → AreMoved h a c
   option_trans None None None m n = tt
   option_trans None None (Some k) m n = absurd n
@@ -50,6 +52,7 @@ module _ (h : List Stamp) where
   option_unmoved None n = tt
   option_unmoved (Some i) n = unmoved h i (n i refl)
 
+  -- the position of an Info that was walked on is within the list of events
   option_within : (a b : Option Info) → AreMoved h a b → (i : Info) → b ≡ Some i → i.pos ≤ length h
   option_within None None m i e = absurd (cc)
   option_within None (Some j) m i e = absurd m
@@ -62,6 +65,7 @@ module _ (h : List Stamp) where
     reads = λ t. option_within (read_of a.reads t) (read_of b.reads t) (m.reads t);
   }
 
+  -- where the Info that was walked on fails its test, it failed it before
   option_back : (a b : Option Info) (u : ℕ) (v : Option (List ℕ)) → AreMoved h a b → ((i : Info) × (b ≡ Some i) × Fails h i u v)
       → ((i : Info) × (a ≡ Some i) × Fails h i u v)
   option_back None None u v m w = absurd (let e = w.1 in cc)
@@ -70,6 +74,7 @@ module _ (h : List Stamp) where
   option_back (Some i) (Some j) u v m w = let same : w.0 ≡ j = (let e = w.1 in cc)
       in (i, refl, (fails_moved h i j u v m).0 (subst (λ k. Fails h k u v) same w.2))
 
+  -- where an Info fails its test, it does so when it was walked on
   option_on : (a b : Option Info) (u : ℕ) (v : Option (List ℕ)) → AreMoved h a b → ((i : Info) × (a ≡ Some i) × Fails h i u v)
       → ((i : Info) × (b ≡ Some i) × Fails h i u v)
   option_on None None u v m w = absurd (let e = w.1 in cc)

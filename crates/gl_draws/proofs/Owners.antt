@@ -19,6 +19,7 @@ owned_one : (t u d e : ℕ) → Owned t d ≡ Owned u e → t ≡ u
 owned_one t u d e h = cc
 
 module _ (t u : ℕ) (other : u ≢ t) where
+  -- a monitor that u enters is t's neither before nor after
   entered_not : (m n : MonitorState) → Entered u m n → ((d : ℕ) → m ≡ Owned t d → ⊥) × ((d : ℕ) → n ≡ Owned t d → ⊥)
   entered_not Free n e = (λ d z. absurd (let k : Free ≡ Owned t d = z in cc), λ d z. other (owned_one u t 1 d (sym e ∙ z)))
   entered_not (Owned owner depth) n e = (
@@ -27,6 +28,7 @@ module _ (t u : ℕ) (other : u ≢ t) where
         (owned_one u t (depth + 1) d (sym e.1 ∙ z)),
   )
 
+  -- a monitor that u left once is not t's
   left_not : (depth d : ℕ) → left_once u depth ≡ Owned t d → ⊥
   left_not depth d z = here (depth == 0) z
     where
@@ -51,6 +53,7 @@ module _ (t u : ℕ) (other : u ≢ t) where
   unfolding SameOwner
   same f g e o = (λ w. (w.0, ap (λ k. k o) e ∙ w.1), λ w. (w.0, ap (λ k. k o) (sym e) ∙ w.1))
 
+  -- by an event of u the monitors that t owns stay the same
   effect_keeps : (setting : Setting) (old new : State) (e : Event) (value : ℤ) → Effect setting old u e value new
       → SameOwner t old.monitors new.monitors
   effect_keeps setting old new (Does (Begin f)) value e = same old.monitors new.monitors (ap (λ (s : State). s.monitors) e)

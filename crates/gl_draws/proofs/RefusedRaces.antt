@@ -86,6 +86,7 @@ module _ (R : Lists) (h : List Stamp) (draws : ℕ → List Draw) (k : AreAllRig
   abbrev xs : List ℕ
   xs = variables_of tx
 
+  -- the attempt's own numbers name its variables, and stand behind its looks'
   names : Rattle.gl_model.specs.Form.NumbersName tx (variables_of tx)
   names = (k.formed d.thread).well_formed d.index (Abort tx (Raised var)) here
 
@@ -103,27 +104,34 @@ module _ (R : Lists) (h : List Stamp) (draws : ℕ → List Draw) (k : AreAllRig
       (subst (λ l. Contains l x) (sym names.variables) c) in
       (a.0.nth, subst (λ y. Contains tx.numbers (record { var = y; nth = a.0.nth })) a.2 a.1)
 
+  -- a number of the attempt's own is on one of its variables
   var_of : (x m : ℕ) → Contains tx.numbers (record { var = x; nth = m }) → Contains (variables_of tx) x
   var_of x m c = subst (λ l. Contains l x) names.variables (map_contains (λ n. n.var) tx.numbers (record { var = x; nth = m }) c)
 
   module _ (x m : ℕ) (has : Contains tx.numbers (record { var = x; nth = m })) where
+    -- the attempt's number m on x was drawn by its thread, in a draw that is for the attempt
     its : (b : Draw) × DrawAt (draws x) m b × (b.thread ≡ d.thread) × IsKept (R d.thread) [] x m b
         × IsFor b.what (Abort tx (Raised var)) x m
     its = (k.tied.at d.thread).made x m d.index (Abort tx (Raised var)) here (inr has)
 
+    -- that draw was made by the attempt's entry
     is : its.0.what ≡ Entered (Abort tx (Raised var))
     is = own_for its.0.what (Abort tx (Raised var)) x m has its.4
 
+    -- the attempt's entry stands in the block of its draw
     block_there : IsBlockOf R d its.0.block
     block_there = block_of_place R d.thread d.index its.0.block
         (block_of_entry R draws k.tied d (Abort tx (Raised var)) x m its.0 here (inr has) its.1 its.2 is)
 
+    -- what is said of refusals holds of that draw, over the draws with lower numbers
     numbered : Numbered (RefusalHolds h (until x) x) (draws x) m its.0
     numbered = each_numbered (RefusalHolds h (until x) x) (draws x) m its.0 (refused x) its.1
 
+    -- as many draws have lower numbers as the attempt's number says
     long : length numbered.earlier ≡ m
     long = numbered.long
 
+    -- the attempt was refused rightly, judged over the first N events
     right : IsRefusedRightly h x numbered.earlier d.thread its.0.block tx var N
     right =
         let r : RefusalRight h (until x) x numbered.earlier its.0.thread its.0.block (Entered (Abort tx (Raised var))) =
@@ -133,9 +141,11 @@ module _ (R : Lists) (h : List Stamp) (draws : ℕ → List Draw) (k : AreAllRig
 
   -- a commit of the record: it stands before the attempt on a common variable just where it is below N
   module _ (b : Place) (q : ℕ) (by : Tx) (there : EntryAt R b (Commit q by)) (y : ℕ) where
+    -- the commit is the event at q
     ev : IsEventAt R b q (record { thread = b.thread; event = Commits (variables_of by) })
     ev = record { entry = Commit q by; there = there; position = refl; event = refl; own = refl }
 
+    -- each of the commit's numbers on y was drawn by its entry, in the block at q
     own_of : (m : ℕ) → Contains by.numbers (record { var = y; nth = m }) → (o : Origin R h draws k b (Commit q by) y m)
         × (o.its.what ≡ Entered (Commit q by)) × (o.its.block ≡ q)
     own_of m has =
@@ -147,18 +157,22 @@ module _ (R : Lists) (h : List Stamp) (draws : ℕ → List Draw) (k : AreAllRig
               o.stood.block),
         )
 
+    -- what was drawn for the commit's entry is a commit's
     commit_what : (w : What) → w ≡ Entered (Commit q by) → IsCommitWhat w
     commit_what w e = subst IsCommitWhat (sym e) (let z : IsCommitWhat (Entered (Commit q by)) = tt in z)
 
+    -- the commit's own numbers name its variables, and stand behind its looks'
     names_by : Rattle.gl_model.specs.Form.NumbersName by (variables_of by)
     names_by = (k.formed b.thread).well_formed b.index (Commit q by) there
 
+    -- on each of its variables the commit has a number of its own
     number_by : Contains (variables_of by) y → (m : ℕ) × Contains by.numbers (record { var = y; nth = m })
     number_by c =
         let a = contains_map (λ (n : Rattle.gl_model.specs.declared.tx.Number.Number). n.var) by.numbers y
         (subst (λ l. Contains l y) (sym names_by.variables) c) in
         (a.0.nth, subst (λ z. Contains by.numbers (record { var = z; nth = a.0.nth })) a.2 a.1)
 
+    -- a commit below N that has a variable in common with the attempt has an edge to it
     edge : Contains (variables_of by) y → Contains (variables_of tx) y → q < N → RefusedCommitEdge R b d
     edge c e low =
         let n = number_by c in
@@ -201,6 +215,7 @@ module _ (R : Lists) (h : List Stamp) (draws : ℕ → List Draw) (k : AreAllRig
           };
         }
 
+    -- a commit of another thread that is before the attempt in the order of y is below N, and y is a variable of both
     edge_back : (v : InVariableOrder R y b d) → b.thread ≢ d.thread → (q < N) × Contains (variables_of by) y × Contains (variables_of tx) y
     edge_back v apart =
         let m : Contains tx.numbers (record { var = y; nth = v.later }) =
@@ -225,6 +240,7 @@ module _ (R : Lists) (h : List Stamp) (draws : ℕ → List Draw) (k : AreAllRig
     abbrev p : ℕ
     p = (its x m has).0.block
 
+    -- N is no more than the count of all events
     le : N ≤ length h
     le = (right x m has).within
 
@@ -256,6 +272,8 @@ module _ (R : Lists) (h : List Stamp) (draws : ℕ → List Draw) (k : AreAllRig
         some_list : (a b : List ℕ) → Some a ≡ Some b → a ≡ b
         some_list a b z = cc
 
+    -- where the access happens before the attempt in the record, it happens before a next commit on the attempt's variables, over the first
+    -- N events
     to_next : HappensBefore R c d → HappensBeforeNext (take N h) (access_of a) d.thread (Some (variables_of tx))
     to_next (by_steps ch) =
         let r : Precedes h (access_of a) d.thread p = chain_precedes R h draws k c a own stood d p (block_there x m has) apart ch in
@@ -359,6 +377,7 @@ module _ (R : Lists) (h : List Stamp) (draws : ℕ → List Draw) (k : AreAllRig
           | inr e ↦ e.1.1
         ]
 
+    -- where it happens before such a next commit, and is below N if it is a commit's, it happens before the attempt in the record
     from_next : HappensBeforeNext (take N h) (access_of a) d.thread (Some (variables_of tx)) → (IsCommitWhat a.what → a.block < N)
         → HappensBefore R c d
     from_next (inl mine) low = absurd (apart mine)

@@ -27,6 +27,7 @@ module _ (x : ℕ) (vs : List ℤ) where
     pub how : ((a ≡ b) × ((n : ℕ) (d : Draw) → last_write x ds ≡ Some d → DrawAt ds n d → ((i : ℕ) → DrawAt ds i d → i ≡ n) → k ≢ n))
         ⊎ ((a ≡ with_repeats vs b) × (last_write x ds ≡ Some b))
 
+  -- equal draws are the same but for their repeats
   same_all : (a b : Draw) → a ≡ b → IsSame x vs a b
   same_all a b e = record {
     thread = ap (λ (z : Draw). z.thread) e;
@@ -34,12 +35,15 @@ module _ (x : ℕ) (vs : List ℤ) where
     what = ap (λ (z : Draw). z.what) e;
   }
 
+  -- a draw that writes x is the last write when it comes
   write_now : (d : Draw) (ds : List Draw) → is_write x d.what ≡ true → last_write x (d ∷ ds) ≡ Some d
   write_now d ds e = rw e refl
 
+  -- behind a draw that does not write x the last write is the one before
   write_before : (d : Draw) (ds : List Draw) → is_write x d.what ≡ false → last_write x (d ∷ ds) ≡ last_write x ds
   write_before d ds e = rw e refl
 
+  -- of two equal options the draws are equal
   some_is : (a b : Draw) → Some a ≡ Some b → a ≡ b
   some_is a b z = cc
 
@@ -164,6 +168,7 @@ module _ (x : ℕ) (vs : List ℤ) where
       here true w rec = ap (count_by t) (at_write x vs d ds w) ∙ cons (with_repeats vs d) d ds ds refl refl
       here false w rec = ap (count_by t) (past x vs d ds w) ∙ cons d d (repeated x vs ds) ds refl rec
 
+  -- a next access that is racy is so with the repeats added to the draws
   next_on : (h : List Stamp) (ds : List Draw) (t : ℕ) (o : Option (List ℕ)) (f : Entry) → IsRacyNext h x ds t o f
       → IsRacyNext h x (repeated x vs ds) t o f
   next_on h ds t o f r = let m = among_on x vs ds r.earlier r.among in let s = m.2 in record {
@@ -177,6 +182,7 @@ module _ (x : ℕ) (vs : List ℤ) where
     unordered = λ q. r.unordered (subst (λ a. HappensBeforeNext h a t o) (sym (same_access x vs r.earlier m.0 s)) q);
   }
 
+  -- a next access that is racy with the repeats added to the draws is so without them
   next_off : (h : List Stamp) (ds : List Draw) (t : ℕ) (o : Option (List ℕ)) (f : Entry) → IsRacyNext h x (repeated x vs ds) t o f
       → IsRacyNext h x ds t o f
   next_off h ds t o f r = let m = among_back x vs ds r.earlier r.among in let s = m.2 in record {
@@ -190,6 +196,7 @@ module _ (x : ℕ) (vs : List ℤ) where
     unordered = λ q. r.unordered (subst (λ a. HappensBeforeNext h a t o) (sym (same_access x vs r.earlier m.0 s)) q);
   }
 
+  -- what is said of refusals at a draw of no performed entry holds with the repeats added to the draws before it
   refused_right : (h : List Stamp) (until : ℕ → ℕ) (ds : List Draw) (t p : ℕ) (w : What)
       → ((e : Entry) → w ≡ Entered e → IsPerformed e → ⊥) → RefusalRight h until x ds t p w
       → RefusalRight h until x (repeated x vs ds) t p w
@@ -220,6 +227,7 @@ module _ (x : ℕ) (vs : List ℤ) where
       subst (λ l. RefusalsHold h until x l) (sym (past x vs d ds c.0))
       (refused_right h until ds d.thread d.block d.what c.1 all.0, refusals_repeated h until ds c.2 all.1)
 
+  -- where a draw is kept in the list or in flight, so is one that is the same but for its repeats
   kept_same : (es : List Entry) (drawn : List Drawn) (y k : ℕ) (a b : Draw) → IsSame x vs a b → IsKept es drawn y k b
       → IsKept es drawn y k a
   kept_same es drawn y k a b s (in_list i e at dr is blk) =

@@ -71,6 +71,7 @@ module _ (log : List Stamp) (draws : ℕ → List Draw) (t : ℕ) (es : List Ent
   pub what_is : its.0.what ≡ Entered (Plain x k false true value false)
   what_is = own_for its.0.what (Plain x k false true value false) x k (refl, refl) (subst (λ z. IsFor its.0.what z x k) is its.4)
 
+  -- the draw is a write of x
   writes : is_write x its.0.what ≡ true
   writes = rw what_is refl
 
@@ -103,6 +104,7 @@ module _ (log : List Stamp) (draws : ℕ → List Draw) (t : ℕ) (es : List Ent
                 ]
               ]
 
+  -- no event of the draw's thread is behind the draw's block
   upto : (q : ℕ) (z : Stamp) → EventAt log q z → z.thread ≡ its.0.thread → q ≤ its.0.block
   upto q z at own = (last_own log t es events its.0.block block_is).upto q z at (own ∙ its.2)
 
@@ -232,6 +234,7 @@ module _ (log : List Stamp) (draws : ℕ → List Draw) (t : ℕ) (es : List Ent
           number (inl l) = l
           number (inr l) = let y = l.2 in omega arith
 
+  -- in a lower part of the draws of x that has the write, no access was performed behind the last write there
   calm_from : (ds : List Draw) → ((n : ℕ) (a : Draw) → DrawAt ds n a → DrawAt (draws x) n a) → DrawsHold log x ds → DrawAt ds k its.0
       → IsCalm x ds
   calm_from [] sub holds at = at
