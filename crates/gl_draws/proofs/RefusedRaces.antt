@@ -34,7 +34,7 @@ use Rattle.gl_draws.proofs.Origins.{listed, rise, Origin, origin}
 use Rattle.gl_draws.proofs.Reaching.{get_front, reaches_grows, reaches_back}
 use Rattle.gl_draws.specs.Refusals.{IsRefusedRightly, IsRefusal, RefusalRight, RefusalsHold, RefusalHolds, AreJudgedOnce}
 
--- a beginning of the list
+-- an event below n stands among the first n events
 event_front : (h : List Stamp) (n q : ℕ) (s : Stamp) → n ≤ length h → q < n → EventAt h q s → EventAt (take n h) q s
 event_front h n q s le lt at =
     let long : length (take n h) ≡ n = length-take-le n h le in
@@ -97,7 +97,7 @@ module _ (R : Lists) (h : List Stamp) (draws : ℕ → List Draw) (k : AreAllRig
   abbrev N : ℕ
   N = its_until.0
 
-  -- the number on a variable
+  -- on each of its variables the attempt has a number of its own
   number_of : (x : ℕ) → Contains (variables_of tx) x → (m : ℕ) × Contains tx.numbers (record { var = x; nth = m })
   number_of x c =
       let a = contains_map (λ (n : Rattle.gl_model.specs.declared.tx.Number.Number). n.var) tx.numbers x
@@ -258,7 +258,7 @@ module _ (R : Lists) (h : List Stamp) (draws : ℕ → List Draw) (k : AreAllRig
       ]
     ]
 
-    -- where the access is a commit
+    -- where the access is a commit's, a commit on its variables stands at its place, with its block as the position
     commit_of : (ys : List ℕ) → (access_of a).variables ≡ Some ys → (by : Tx) × EntryAt R c (Commit a.block by) × (variables_of by ≡ ys)
     commit_of ys v = elim stood.kind [
       | inl g ↦ absurd (let z : Some ys ≡ None = sym v ∙ g.3 in cc)

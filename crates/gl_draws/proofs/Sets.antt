@@ -5,7 +5,7 @@ use Rattle.std.proofs.lemmas.Bool.{eqb-true}
 use Rattle.gl_model.specs.Rising.{with_one, with_all}
 use Rattle.gl_model.specs.Trace.{is_in}
 
--- what a list is mapped to
+-- what stands at k in the mapped list is the image of something in the list
 contains_at : {A B : Type 0} (f : A → B) (xs : List A) (z : B) (k : ℕ) → k < length (map f xs) → get_or (map f xs) k z ≡ z → (a : A)
     × Contains xs a × (f a ≡ z)
 contains_at f [] z k n e = absurd (omega arith)
@@ -32,7 +32,7 @@ pub map_back : {A : Type 0} (f : A → ℕ) (g : ℕ → A) → ((x : ℕ) → f
 map_back f g back [] = refl
 map_back f g back (x ∷ xs) = ap (λ y. y ∷ map f (map g xs)) (back x) ∙ ap (λ ys. x ∷ ys) (map_back f g back xs)
 
--- the tests of membership
+-- to ask one question twice is to ask it once
 twice : (c r : Bool) → (if c then true else r) ≡ (if c then true else if c then true else r)
 twice true r = refl
 twice false r = refl

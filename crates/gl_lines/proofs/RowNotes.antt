@@ -33,7 +33,7 @@ use Rattle.gl_lines.proofs.TraceLawProofs.{sound_front, last_in_range}
 use Rattle.gl_lines.proofs.TraceMachine.{with_at-here, with_at-else}
 use Rattle.gl_lines.proofs.TraceSound.{traced_push, sound_traced}
 
--- the list of events only grows
+-- a line that is no access adds events at the end of the list and leaves the draws as they are
 pub act_more : (t : ℕ) (act : Act) (s : Traced) → (more : List Stamp) × ((after_act t act s).history ≡ s.history ++ more)
     × ((after_act t act s).draws ≡ s.draws)
 act_more t (Begin f) s = (record { thread = t; event = Does (Begin f) } ∷ [], refl, refl)
@@ -263,7 +263,7 @@ module _ (s : Traced) (now : State) (r : IsRecorded s now) (t : ℕ) (near : t <
 
 module _ (lines : List Line) (s : Traced) (now : State) (r : IsRecorded s now) (t : ℕ) (near : t < THREADS) (y : ℕ) (old new : Row)
     (i : Info) (stands : RowStands trace_setting s.history y (s.draws y) old) where
-  -- the draws of the accessed variable
+  -- behind a performed plain access of y the row stands that has the Info of that access noted
   at_plain : (x : ℕ) (write : Bool) → x ≡ y
       → InfoFor trace_setting s.history i (record { thread = t; block = block_of t s; variables = None }) i.write
       → ((i.write ≡ true) ↔ (write ≡ true)) → IsNotedBy t (AccessTo x write) y i old new

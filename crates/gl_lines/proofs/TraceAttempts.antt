@@ -44,7 +44,7 @@ look_length : (t q : ℕ) (c : Bool) (ds : List Draw) → length (with_look c t 
 look_length t q true ds = omega arith
 look_length t q false ds = omega arith
 
--- among an old draw and the look
+-- what holds of the look and of each draw before holds of each draw with the look, where there is one
 pub among_cases : (P : Draw → Type 0) (t q : ℕ) (c : Bool) (ds : List Draw) → P (draw t q (Looked (pos 0)))
     → ((a : Draw) → Among ds a → P a) → (a : Draw) → Among (with_look c t q ds) a → P a
 among_cases P t q true ds look old a (inl same) = subst P (sym same) look
@@ -61,7 +61,7 @@ zero_in x (w ∷ ws) = here (x == w) (zero_in x ws)
     here true r = refl
     here false r = r
 
--- the word after an attempt whose entry writes this value, or does not write
+-- where the word is 0 before an attempt whose entry, if it writes x, writes 0, it is 0 behind it
 word_after : (x t q p : ℕ) (e : Entry) (b c : Bool) (ds : List Draw) → (is_write x (Entered e) ≡ true → written x (Entered e) ≡ pos 0)
     → word_of x ds ≡ pos 0 → word_of x (with_own b t p e (with_look c t q ds)) ≡ pos 0
 word_after x t q p e b c ds value old = own b

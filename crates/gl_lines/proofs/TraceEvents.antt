@@ -76,7 +76,7 @@ pub record IsRecorded (s : Traced) (now : State) : Type 0 where
   pub quiet : (v : ℕ) → now.volatiles v ≡ pos 0
   pub zero_run : RunsZero trace_setting (start trace_setting) s.history now
 
--- what holds of each list with one entry more at the end of thread t's
+-- the list of thread t is that before with the entry at its end
 pub entry_own : (R : Lists) (t : ℕ) (e : Entry) → with_entry R t e t ≡ R t ++ e ∷ []
 entry_own R t e = let b : (t == t) ≡ true = eq-eqb t t refl in rw b refl
 
@@ -102,7 +102,7 @@ alone_push R t e alone none c f there = each_list (λ w es. (i : ℕ) (g : Entry
     ])
     (λ w other i g at. alone (record { thread = w; index = i }) g at) c.thread c.index f there
 
--- so does the form of each entry
+-- where each entry has the form of its thread's entries, so it is with one more that has it
 pub formed_push : (R : Lists) (t : ℕ) (e : Entry) → ((c : Place) (f : Entry) → EntryAt R c f → EntryForm c.thread f) → EntryForm t e
     → (c : Place) (f : Entry) → EntryAt (with_entry R t e) c f → EntryForm c.thread f
 formed_push R t e formed form c f there = each_list (λ w es. (i : ℕ) (g : Entry) → At es i g → EntryForm w g) R t e
@@ -112,7 +112,7 @@ formed_push R t e formed form c f there = each_list (λ w es. (i : ℕ) (g : Ent
     ])
     (λ w other i g at. formed (record { thread = w; index = i }) g at) c.thread c.index f there
 
--- and its value
+-- where each entry has the value 0, so it is with one more that has it
 pub zeros_push : (R : Lists) (t : ℕ) (e : Entry) → ((c : Place) (f : Entry) → EntryAt R c f → value_of f ≡ pos 0) → value_of e ≡ pos 0
     → (c : Place) (f : Entry) → EntryAt (with_entry R t e) c f → value_of f ≡ pos 0
 zeros_push R t e zeros own c f there = each_list (λ w es. (i : ℕ) (g : Entry) → At es i g → value_of g ≡ pos 0) R t e
@@ -133,7 +133,7 @@ going_grows h more t es k g =
       goes_on = λ s e. g.goes_on s (event_back h more g.position s (slice_get_within h g.position l.event l.here) e);
     }
 
--- the list of a thread whose own event is new
+-- with a new event of its own that is no End, a thread goes on
 pub going_new : (h : List Stamp) (t : ℕ) (es : List Entry) (x : Stamp) (e : Entry) → position_of e ≡ Some (length h) → x.event ≢ Does End
     → IsGoing (h ++ x ∷ []) t (es ++ e ∷ [])
 going_new h t es x e at goes = record {

@@ -23,7 +23,7 @@ use Rattle.gl_lines.proofs.TraceMachine.{clean_parts, runs, runs_back}
 use Rattle.gl_lines.proofs.TraceSound.{each_push, steps_push, take_one, step_at, up_to, sound_traced}
 use Rattle.gl_lines.proofs.TraceVerdicts.{item_holds}
 
--- the record of what was traced is that of the lines
+-- the events of a line that is no access leave the record that they leave by themselves
 act_tracing : (t : ℕ) (act : Act) (s : Traced) → (after_act t act s).tracing ≡ with_line t act s.tracing
 act_tracing t (Begin f) s = refl
 act_tracing t End s = refl
@@ -63,7 +63,7 @@ each_tracing (l ∷ lines) s = each_tracing lines (after_line l s) ∙ ap (after
 pub lists_are : (lines : List Line) → (traced lines).tracing.lists ≡ lists_behind lines
 lists_are lines = ap (λ (t : Tracing). t.lists) (each_tracing lines at_first)
 
--- a front of a sound trace is sound
+-- what stands at k in a list stands there in a longer one that begins with it
 get_front : {A : Type 0} (xs ys : List A) (k : ℕ) (x : A) → slice_get xs k ≡ Some x → slice_get (xs ++ ys) k ≡ Some x
 get_front [] ys k x e = absurd (cc)
 get_front (z ∷ xs) ys zero x e = e

@@ -22,7 +22,7 @@ use Rattle.gl_lines.proofs.TraceShapes.{AreShaped, usual_shaped, end_shaped, beg
 use Rattle.gl_lines.proofs.TraceSound.{each_push, take_one, step_at, up_to}
 use Rattle.gl_lines.proofs.TraceThreads.{join_parts}
 
--- two entries of two threads
+-- entries of two threads can be added in either order
 both_entries : (R : Lists) (t u : ℕ) (e f : Entry) → t ≢ u → with_entry (with_entry R u f) t e ≡ with_entry (with_entry R t e) u f
 both_entries R t u e f apart = λ i w. each w i
   where
@@ -35,7 +35,7 @@ both_entries R t u e f apart = λ i w. each w i
 
 module _ (steps : List Said) (s : Traced) (t : ℕ) (runs : is_started steps t ≡ true) (alive : s.tracing.ended t ≡ false) (ends : (u : ℕ)
     → s.tracing.ended u ≡ is_ended steps u) (kept : AreKept steps) (k : AreShaped (is_started steps) s.tracing.ended s.tracing.lists) where
-  -- one step more
+  -- a step that forks no thread changes nothing in which threads were started
   started_is : (item : Item) → ((u : ℕ) → item_forks u item ≡ false) → is_started steps ≡ is_started (steps ++ (t, item) ∷ [])
   started_is item none = λ i u. (sym (started_push steps (t, item) u ∙ ap (λ b. is_started steps u || b) (none u)
       ∙ or_false (is_started steps u))) i
@@ -134,7 +134,7 @@ module _ (steps : List Said) (s : Traced) (t : ℕ) (runs : is_started steps t �
   shaped_item (CommitsOn reads writes) (Raised var) is clean =
       usual (CommitsOn reads writes) (refused_entry reads writes var s) (λ u. refl) (λ z. z, λ z. z, λ z. z) (λ p u f v z. cc)
 
--- before the first line
+-- before the first line the lists are shaped
 first_shaped : AreShaped (is_started []) at_first.tracing.ended at_first.tracing.lists
 first_shaped = subst (λ g. AreShaped g (λ _. false) (with_entry (λ _. []) 0 (Sync 0 (Begin 0) (pos 0)))) (λ i w. same w i)
     (begin_shaped (λ _. false) (λ _. false) (λ _. []) nothing 0 0 0 (omega arith) refl refl)

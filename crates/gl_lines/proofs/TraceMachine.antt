@@ -142,7 +142,7 @@ owned_by owner depth = Some (owner, depth)
 same_depth : (o d p e : ℕ) → owned_by o d ≡ owned_by p e → d ≡ e
 same_depth o d p e h = let pair : ◌≡◌ {A = ℕ × ℕ} (o, d) (p, e) = cc in ap (λ (z : ℕ × ℕ). z.1) pair
 
--- who may enter
+-- a monitor that no other thread than t holds is held by none, or by t at some depth
 enter_parts : (t : ℕ) (held : Hold) → (is_some held && not (is_held_by t held)) ≡ false → (held ≡ None)
     ⊎ ((depth : ℕ) × (held ≡ Some (t, depth)))
 enter_parts t None e = inl refl

@@ -62,7 +62,7 @@ there R t e = subst (λ es. Rattle.std.specs.Prelude.slice_get es (length (R t))
 ends : (R : Lists) (t : ℕ) (e : Entry) → length (with_entry R t e t) ≡ length (R t) + 1
 ends R t e = ap length (entry_own R t e) ∙ length-append (R t) (e ∷ [])
 
--- a commit of the record, and its number on one of its variables
+-- an entry that is a commit event on these variables is a commit with a transaction on just these
 commit_entry_of : (e : Entry) (ys : List ℕ) → event_of e ≡ Some (Commits ys) → (at : ℕ)
     × ((tx : _) × (e ≡ Commit at tx) × (variables_of tx ≡ ys))
 commit_entry_of (Commit at tx) ys e = (

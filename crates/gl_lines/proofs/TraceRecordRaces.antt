@@ -29,7 +29,7 @@ record IsSoFar (s : Tracing) : Type 0 where
   below : IsBelow s.lists s.next s.numbers
   races : Races s.lists
 
--- an event
+-- with an event the record so far obeys the law of races, and what comes next is above all in it
 act_so_far : (t : ℕ) (act : Act) (s : Tracing) → IsSoFar s → IsSoFar (with_act t act s)
 act_so_far t act s k = record {
   below = below_push s.lists s.next s.numbers k.below t (Sync s.next act (pos 0)) (s.next + 1) s.numbers (omega arith) (λ x. omega arith)
@@ -146,7 +146,7 @@ module _ (t : ℕ) (reads writes : List ℕ) (s : Tracing) (k : IsSoFar s) where
         k.races right;
   }
 
--- one line
+-- what holds of the last place of the list with one more entry holds of the place where the list before ended
 moved : (P : Place → Type 0) (R : Lists) (t : ℕ) (e : Entry) → P (last_place (with_entry R t e) t) → P (end_place R t)
 moved P R t e p = subst P (last_is R t e) p
 
@@ -175,7 +175,7 @@ item_so_far t (CommitsOn reads writes) (Raised var) s k j =
     refused_so_far t reads writes s k var (moved (λ c. IsRacy (with_entry s.lists t (g t reads writes s k var)) c var
     × ((y : ℕ) → y < var → IsRacy (with_entry s.lists t (g t reads writes s k var)) c y → ⊥)) s.lists t (g t reads writes s k var) j)
 
--- the endings
+-- with Over at the end of a list it does too
 over_so_far : (t : ℕ) (s : Tracing) → IsSoFar s → IsSoFar (with_over t s)
 over_so_far t s k = record {
   below = below_push s.lists s.next s.numbers k.below t (Over Halt) s.next s.numbers (omega arith) (λ x. omega arith) (λ p z. absurd (cc))

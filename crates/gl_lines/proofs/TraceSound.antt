@@ -82,7 +82,7 @@ first_traced = record {
     here true = refl
     here false = refl
 
--- one line more at the end
+-- what lines leave with one more at the end is what that line leaves after them
 pub each_push : (lines : List Line) (l : Line) (s : Traced) → after_each (lines ++ l ∷ []) s ≡ after_line l (after_each lines s)
 each_push [] l s = refl
 each_push (k ∷ lines) l s = each_push lines l (after_line k s)

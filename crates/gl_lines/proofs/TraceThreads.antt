@@ -12,7 +12,7 @@ use Rattle.gl_model.specs.TraceSteps.{Step as Said, is_started, is_ended, act_fa
 use Rattle.gl_lines.specs.TraceStates.{thread_of, monitor_of, IsStateOf}
 use Rattle.gl_lines.proofs.TraceMachine.{AreKept, started_push, ended_push, holder_push, or_false, with_at-here, with_at-else, if_none}
 
--- u is neither 0 nor forked before
+-- a thread that was not started is not thread 0
 zero_started : (steps : List Said) (u : ℕ) → is_started steps u ≡ false → u ≢ 0
 zero_started steps u e zero' = let b : (u == 0) ≡ true = eq-eqb u 0 zero' in let s : is_started steps u ≡ true = rw b refl in cc
 

@@ -252,7 +252,7 @@ module _ (s : Traced) (now : State) (r : IsRecorded s now) (t : ℕ) (running : 
   abbrev at_end : Entry → Place
   at_end e = last_place (with_entry s.tracing.lists t e) t
 
-  -- the place of the new entry
+  -- what holds of the last place of the list with one more entry holds of the place where the list before ended
   there : (P : Place → Type 0) (e : Entry) → P (last_place (with_entry s.tracing.lists t e) t) → P (end_place s.tracing.lists t)
   there P e p = subst P (last_is s.tracing.lists t e) p
 

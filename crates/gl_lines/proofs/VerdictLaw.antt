@@ -52,7 +52,7 @@ judged_alike P Q (CommitsOn reads writes) NoAccess holds fails j = j
 judged_alike P Q (CommitsOn reads writes) Performed holds fails j = λ y a. fails y a (j y a)
 judged_alike P Q (CommitsOn reads writes) (Raised var) holds fails j = (j.0, holds var j.0 j.1, λ y lt a. fails y a (j.2 y lt a))
 
--- what is said of a line is settled by what is racy on its variables
+-- where two facts hold of the same variables of a line, the least of which the one holds is the least of which the other does
 one_access : (P Q A : ℕ → Type 0) → ((y : ℕ) → A y → P y → Q y) → ((y : ℕ) → A y → Q y → P y) → (v u : ℕ) → A v → P v
     → ((y : ℕ) → y < v → A y → P y → ⊥) → A u → Q u → ((y : ℕ) → y < u → A y → Q y → ⊥) → v ≡ u
 one_access P Q A to back v u a p none b q no_other = elim (cases_lt v u) [
@@ -128,7 +128,7 @@ module _ (s : Traced) (now : State) (r : IsRecorded s now) (t : ℕ) (running : 
       carried (commit_entry reads writes s) f (Some (with_all writes reads)) y at
       (racy_commit s now r t running reads writes y (touched reads writes y a))
 
-  -- it is racy on its variables alone
+  -- what is racy at the last place of the list with one more entry is racy at the place where the list before ended
   moved : (e : Entry) (y : ℕ) → IsRacy (with_entry s.tracing.lists t e) (last_place (with_entry s.tracing.lists t e) t) y
       → IsRacy (with_entry s.tracing.lists t e) (end_place s.tracing.lists t) y
   moved e y racy = subst (λ c. IsRacy (with_entry s.tracing.lists t e) c y) (last_is s.tracing.lists t e) racy
@@ -165,7 +165,7 @@ module _ (s : Traced) (now : State) (r : IsRecorded s now) (t : ℕ) (running : 
   item_there (CommitsOn reads writes) NoAccess access = entry_there (commit_entry reads writes s)
   item_there (CommitsOn reads writes) Performed access = entry_there (commit_entry reads writes s)
 
-  -- what the entry writes, and that it is the next access on each of its variables
+  -- on each of the line's variables its entry is a write exactly where the line is
   pub entry_writes : (item : Item) (judged : Judged) (y : ℕ) → Accesses item y → Writes (entered item judged s) y ↔ WritesTo item y
   entry_writes (Acts act) judged y a = absurd a
   entry_writes (Access x write) (Raised var) y a = (λ w. w.1, λ w. (a, w))
