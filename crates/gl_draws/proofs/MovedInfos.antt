@@ -28,7 +28,7 @@ passes_greater S T u (Some xs) f (inl c) = inl (f Tx c)
 passes_greater S T u (Some xs) f (inr (inl c)) = inr (inl (f (Thread u) c))
 passes_greater S T u (Some xs) f (inr (inr c)) = inr (inr (c.0, (c.1.0, c.1.1, f c.1.0 c.1.2)))
 
--- nothing was walked
+-- an Info whose position is within the list was walked on to itself, by no event
 pub unmoved : (h : List Stamp) (i : Info) → i.pos ≤ length h → IsMoved h i i
 unmoved h i n =
     let none : i.pos - i.pos ≡ 0 = omega arith in

@@ -97,7 +97,7 @@ refusal_within log until x (d ∷ ds) k a r (inl e) is = by d.what refl (subst (
     by Open same is = absurd (let z : IsRefusal Open = subst IsRefusal same is in z)
 refusal_within log until x (d ∷ ds) k a r (inr at) is = refusal_within log until x ds k a r.1 at is
 
--- a commit at the end of the list
+-- a commit that comes at the end of the list is at or behind what each refused attempt before it was judged over
 pub refusals_commit : (log more : List Stamp) (until : ℕ → ℕ) (x : ℕ) (ds : List Draw) (at : ℕ) (tx : Tx) → RefusalsHold log until x ds
     → RefusalRight (log ++ more) until x ds at (length log) (Entered (Commit at tx))
 refusals_commit log more until x ds at tx r k a is refusal = refusal_within log until x ds k a r is refusal
