@@ -49,6 +49,7 @@ module _ (t u : ℕ) (other : u ≢ t) where
     | no apart ↦ (let e : g o ≡ f o = ap (λ k. k o) is ∙ with_else f p o m apart in (λ w. (w.0, e ∙ w.1), λ w. (w.0, sym e ∙ w.1)))
   ]
 
+  -- where no monitor changed, t owns the same ones
   same : (f g : ℕ → MonitorState) → g ≡ f → SameOwner t f g
   unfolding SameOwner
   same f g e o = (λ w. (w.0, ap (λ k. k o) e ∙ w.1), λ w. (w.0, ap (λ k. k o) (sym e) ∙ w.1))

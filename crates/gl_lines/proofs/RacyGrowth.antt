@@ -77,6 +77,7 @@ module _ (R R' : Lists) (n : Place) (e : Entry) (grows : Grows R R' n e) (above 
         before = b;
       }
 
+  -- what happens before an old entry in the larger record does so in the smaller one
   happens_before_back : (c d : Place) (f : Entry) → EntryAt R d f → HappensBefore R' c d → HappensBefore R c d
   unfolding InOld
   happens_before_back c d f old (by_steps k) = by_steps (chain_back R R' n e grows (f, old) k)
