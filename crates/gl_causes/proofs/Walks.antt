@@ -64,6 +64,7 @@ IsLearnedBelow rows stands numbers i u n =
     (j : ℕ) × ((s : Stand) × (j < i) × (slice_get stands j ≡ Some s) × (commits_before numbers s.entry ≡ true) × (n < handed_on rows s u))
 
 module _ (rows : List (List ℕ)) (stands : List Stand) (numbers : List Number) (i : ℕ) (s : Stand) (here : slice_get stands i ≡ Some s) where
+  -- what is learned from one entry more was learned before, or the entry is a commit before the refused attempt that hands it on
   learned_cases : (u n : ℕ) → IsLearnedBelow rows stands numbers (i + 1) u n → IsLearnedBelow rows stands numbers i u n
       ⊎ ((commits_before numbers s.entry ≡ true) × (n < handed_on rows s u))
   learned_cases u n w = elim (cases_lt w.0 i) [
@@ -74,6 +75,7 @@ module _ (rows : List (List ℕ)) (stands : List Stand) (numbers : List Number) 
         subst (λ (z : Stand). (commits_before numbers z.entry ≡ true) × (n < handed_on rows z u)) same (w.1.3, w.1.4))
   ]
 
+  -- what is learned from the first i entries is learned from one more
   learned_old : (u n : ℕ) → IsLearnedBelow rows stands numbers i u n → IsLearnedBelow rows stands numbers (i + 1) u n
   learned_old u n w = (w.0, (w.1.0, let z = w.1.1 in omega arith, w.1.2, w.1.3, w.1.4))
 
@@ -207,6 +209,7 @@ some_counted a (x ∷ xs) (suc i) s k e some = by (is_some (race_number a x)) (s
 -- the causes, with one entry more
 module _ (R : Lists) (rows : List (List ℕ)) (stands : List Stand) (i : ℕ) (s : Stand) (here : slice_get stands i ≡ Some s)
     (causes : List Cause) (so_far : AreFound R rows stands i causes) where
+  -- a cause of a refused one of the first i entries is of a refused one of the first i + 1
   of_more : (e : Cause) → IsOfRefused R rows stands i e → IsOfRefused R rows stands (i + 1) e
   of_more e w = record {
     index = w.index;
@@ -221,6 +224,7 @@ module _ (R : Lists) (rows : List (List ℕ)) (stands : List Stand) (i : ℕ) (s
     found = w.found;
   }
 
+  -- one of the first i + 1 entries is one of the first i, or this one
   same_stand : (k : ℕ) (r : Stand) → k < i + 1 → slice_get stands k ≡ Some r → (k < i) ⊎ (r ≡ s)
   same_stand k r l e = elim (cases_lt k i) [
     | inl lt ↦ inl lt

@@ -209,6 +209,8 @@ variable_at setting h now allowed a is x m le = elim (cases_lt a.block m) [
 module _ (R : Lists) (h : List Stamp) (is_list : IsEventList h R) (rise : PositionsRise R) (c : Place) (a : Access)
     (stands : StandsFor R c a) where
   module _ (d : Place) (xs : List ℕ) (until : ℕ → ℕ) (r : IsRefusedOn R d xs until) where
+    -- an access that is a commit of x among those before the refused one there, or that reaches such a commit, happens before the refused
+    -- one
     by_commit : (x : ℕ) → Contains xs x → IsBehindCommit h a x (until x) → HappensBefore R c d
     by_commit x one (itself vs are on l) = elim stands.kind [
       | inl k ↦ absurd (let z = k.3 in cc)
