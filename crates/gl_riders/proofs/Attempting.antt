@@ -362,6 +362,7 @@ module _ (P : Bytecode) (c : Config) (att : Attempt) (runs : c.attempt ≡ Some 
   abbrev p : Progress
   p = progress_of c (Some a)
 
+  -- a read of a variable that the attempt knows adds no look
   no_look : knows p x ≡ true → (value : ℤ) → p.looks ≡ looks_after p (Read x) (Answer value)
   no_look known value = rw (runs, known) refl
 
@@ -378,6 +379,7 @@ module _ (P : Bytecode) (c : Config) (att : Attempt) (runs : c.attempt ≡ Some 
         (no_look known value) refl refl
         (λ l. refl) (λ ls. refl) (rw same_new draws))
 
+    -- whether the attempt wrote the variable, looked at it or did neither, its read is answered so
     by_words : (w : Option Pair) (l : Option Look) → written a x ≡ w → looked a x ≡ l → ReadBy w l x value a own b new
         → IsAnswered P c (Read x) (Answer value) own new (Some a) (Some b)
     by_words (Some w) l is_w is_l r =
@@ -416,9 +418,11 @@ module _ (P : Bytecode) (c : Config) (att : Attempt) (runs : c.attempt ≡ Some 
       (write : Option ℤ) (own new : Own) → DrawsFor (Some a) own → new ≡ own → IsTooLarge a x →
       IsAnswered P c (access_ask x write) (Raise TX_TOO_LARGE) own new (Some a) (Some a)
   large_answers write own new draws same_new large = by_write write where
+    -- the attempt does not know the variable, and touches as many as it may
     quiet : (not (knows p x) && touched p == TX_VARIABLES && TX_TOO_LARGE == TX_TOO_LARGE) ≡ true
     quiet = rw (knows_in c a x, touches c a, large.new, large.full) refl
 
+    -- a read or a write of such a variable is answered by raising that the transaction is too large
     by_write : (w : Option ℤ) → IsAnswered P c (access_ask x w) (Raise TX_TOO_LARGE) own new (Some a) (Some a)
     by_write None =
         quiet_answers P c (Read x) (Raise TX_TOO_LARGE) own new (Some a) (Some a) (rw same_new refl) (rw runs quiet) (rw runs refl) tt tt
