@@ -20,6 +20,7 @@ right_alone left right ys y l r rises =
     rw (l, r) (stays_first ys y [] below)
 
 module _ (left right xs ys : List ℕ) (x y : ℕ) (l : left ≡ x ∷ xs) (r : right ≡ y ∷ ys) (rises : Rises right) where
+  -- all that are put in behind y are above y
   below : AllByRecursion (λ z. y < z) ys
   below = (rw r at rises).0
 
