@@ -147,6 +147,7 @@ module _ (P : Bytecode) (steps t : ℕ) where
       by_begun (inl none) = (let some = entry in cc)
       by_begun (inr (q, b)) = none_begins (without_trims (e ∷ more)) q head (λ none. absurd (cc)) b
 
+    -- no longer beginning of the list than the front is made
     longest : (m : ℕ) → length front < m → m ≤ length (front ++ rest) → IsMadeUpTo P steps t (front ++ rest) m → ⊥
     longest m less within (r, along) = by_rest rest refl where
       parts : (k : ℕ) × (take m (front ++ rest) ≡ front ++ take (suc k) rest)
