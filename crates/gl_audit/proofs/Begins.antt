@@ -85,15 +85,18 @@ start_right setting t f v is = elim (ℕ_discrete t 0) [
 ]
 
 module _ (setting : Setting) (R : Lists) (h : List Stamp) (is_list : IsEventList h R) (machine : IsMachineRun setting R h) where
+  -- at each position of the run each forked thread has a function that it may start with
   always_right : (n : ℕ) → n ≤ length h → ForkedRight setting (machine.at n)
   always_right zero le = subst (ForkedRight setting) (sym machine.first) (start_right setting)
   always_right (suc n) le = next (always_right n (omega arith)) where
+    -- the event at position n stands at some place of the record
     stamp : (s : Stamp) × ((c : Place) × IsEventAt R c n s)
     stamp = elim (slice_get_cases h n).1 [
       | inl there ↦ (there.0, is_list.made n there.0 there.2)
       | inr past ↦ absurd (let ge = past.0 in omega arith)
     ]
 
+    -- if it is so before the event at position n, it is so after it
     next : ForkedRight setting (machine.at n) → ForkedRight setting (machine.at (suc n))
     next right =
         let s = stamp.0 in

@@ -217,6 +217,7 @@ module _ (P : Bytecode) where
   plain_not : (p : Progress) (ask : Ask) (o : Option Reply) → is_some p.config.attempt ≡ true
       → (if is_none p.config.attempt then o else None) ≡ None
   plain_not p ask o lives = by_attempt p.config.attempt refl where
+    -- nothing comes of it, since there is an attempt
     by_attempt : (a : Option Attempt) → p.config.attempt ≡ a → (if is_none a then o else None) ≡ None
     by_attempt None none = (let e : is_some p.config.attempt ≡ false = rw none refl in cc)
     by_attempt (Some a) some = refl

@@ -95,6 +95,7 @@ module _ (text kept rest w : List ℕ) (stop : ℕ) (more' : List ℕ) (id : ℕ
     (b : Begins rest w stop more') (value : operand_of (VARIABLES - 1) w ≡ Ok id) (digits : list_all is_ascii_digit w ≡ true)
     (put : Some new
     ≡ with_last (Some kept) id) where
+  -- the new list is the kept one with the number behind it, and is a set
   is_new : (new ≡ kept ++ id ∷ []) × (is_set (kept ++ id ∷ []) ≡ true)
   is_new = set_new new (kept ++ id ∷ []) put
 
@@ -115,6 +116,7 @@ module _ (text kept rest w : List ℕ) (stop : ℕ) (more' : List ℕ) (id : ℕ
     set = ap is_set is_new.0 ∙ is_new.1;
   }
 
+  -- if a word is not empty, it is not empty with more before it
   some_more : (xs : List ℕ) → is_some_word w ≡ true → is_some_word (xs ++ w) ≡ true
   some_more [] e = e
   some_more (x ∷ xs) e = refl
