@@ -37,7 +37,7 @@ has_minus bs = list_any (λ b. b == 45) bs
 minus_free : (ds : List ℕ) → list_all is_ascii_digit ds ≡ true → has_minus ds ≡ false
 minus_free = digits_none (λ b. b == 45) (λ b l h. ne_eqb b 45 (λ e. omega arith))
 
--- a text without a minus is none
+-- bytes without a minus are not a minus alone
 not_minus : (bs : List ℕ) → has_minus bs ≡ false → bytes_eq bs (codes "-") ≡ false
 not_minus [] e = refl
 not_minus (b ∷ bs) e = by (b == 45) refl e
