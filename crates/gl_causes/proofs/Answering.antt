@@ -31,7 +31,7 @@ use Rattle.gl_causes.proofs.Known.{led}
 use Rattle.gl_causes.proofs.Racing.{race_in, race_out, some_race}
 use Rattle.gl_causes.proofs.Telling.{Laid, block_is, stand_of}
 
--- the events of a run of the machine are what it allows
+-- if each event of a list steps from one state to the next, the list is a run from the first of these states to the last
 run_from :
     (setting : Setting) (f : ℕ → State) (ys : List Stamp) (n m : ℕ) → m ≡ n + length ys
     → ((p q : ℕ) (s : Stamp) → slice_get ys p ≡ Some s → q ≡ n + p → (v : ℤ) × Step setting (f q) s v (f (q + 1)))
@@ -53,7 +53,7 @@ allowed_of setting R h is run = subst (λ o. Run setting o h (run.at (length h))
         let z : p ≡ q = omega arith in
         subst (λ k. (v : ℤ) × Step setting (run.at k) s v (run.at (k + 1))) z (value_of m.1.entry, run.steps m.0 p s m.1)
 
--- what was refused is racy there
+-- what was rightly raised on a variable is racy there
 racy_of : (R : Lists) (c : Place) (f : Entry) (x : ℕ) → IsRaisedRightly R c f → raised_on f ≡ Some x → IsRacy R c x
 racy_of R c (Plain var nth cached write value true) x right e = let same : var ≡ x = cc in subst (IsRacy R c) same (right.0 refl)
 racy_of R c (Plain var nth cached write value false) x right e = absurd (cc)
@@ -77,7 +77,7 @@ in_list xs x w = (w.0, slice_get-get_or xs w.0 x w.1 ∙ ap Some w.2)
 pub of_list : {A : Type 0} (xs : List A) (i : ℕ) (x : A) → slice_get xs i ≡ Some x → Contains xs x
 of_list xs i x e = (i, slice_get_within xs i x e, get_or_from_slice_get xs i x x e)
 
--- those that race are among all, and race
+-- an option that has something is some number
 some_means : (o : Option ℕ) → is_some o ≡ true → (k : ℕ) × (o ≡ Some k)
 some_means None e = absurd (cc)
 some_means (Some k) e = (k, refl)

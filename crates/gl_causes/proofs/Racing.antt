@@ -93,7 +93,7 @@ where_means a s (Some j) k e = by (is_race a s j) refl e
     by true eq e' = (e', let z : j ≡ k = cc in subst (λ n. is_race a s n ≡ true) z eq)
     by false eq e' = absurd (cc)
 
--- a plain entry and one behind it in its list, with no event between, are in one block
+-- an entry that is no event is in the block of one behind it that is none, where no event stands between them
 same_block : (R : Lists) (t i j b : ℕ) (e f : Entry) → EntryAt R (record { thread = t; index = i }) e → position_of e ≡ None → position_of f
     ≡ None → EntryAt R (record { thread = t; index = j }) f → i < j
     → ((l : ℕ) (g : Entry) → EntryAt R (record { thread = t; index = l }) g → i < l → l < j → position_of g ≡ None)
