@@ -170,7 +170,7 @@ module _ (s : Traced) (now : State) (r : IsRecorded s now) (t : ℕ) (near : t <
     abbrev looked : ℕ → List Draw
     looked y = with_look (is_in y reads) t (block_of t s) (s.draws y)
 
-    -- what is kept of a variable stands for its draws with a look of the thread too
+    -- what is kept of a variable stands for its draws with the thread's look, if there is one, too
     look_stands : (y : ℕ) (b : Bool) → LatestStands y (with_look b t (block_of t s) (s.draws y)) (latest_of kept y)
     look_stands y true = stays y (s.draws y) (latest_of kept y) (stands y)
         (draw t (block_of t s) (Looked (Rattle.std.specs.Prelude.pos 0))) refl refl

@@ -35,7 +35,7 @@ use Rattle.gl_raised.specs.declared.access.Access.{Access}
 use Rattle.gl_raised.specs.declared.access.Claim.{Claim}
 use Rattle.gl_raised.proofs.Racing.{Judging, racy_told}
 
--- the events of a run of the machine are what it allows
+-- if each event of a list steps from one state to the next, the list is a run from the first of these states to the last
 run_from :
     (setting : Setting) (f : ℕ → State) (ys : List Stamp) (n m : ℕ) → m ≡ n + length ys
     → ((p q : ℕ) (s : Stamp) → slice_get ys p ≡ Some s → q ≡ n + p → (v : ℤ) × Step setting (f q) s v (f (q + 1)))

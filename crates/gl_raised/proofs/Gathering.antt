@@ -37,7 +37,7 @@ claim_cases [] l m (suc k) a = absurd (cc)
 claim_cases (x ∷ ls) l m zero a = inl a
 claim_cases (x ∷ ls) l m (suc k) a = elim (claim_cases ls l m k a) [ inl s ↦ inl s | inr n ↦ inr (ap suc n.0, n.1) ]
 
--- the block, with one entry more
+-- the first that is there of three options is the same, however they are grouped
 or_nested : (o p q : Option ℕ) → or_else (or_else o p) q ≡ or_else o (or_else p q)
 or_nested (Some x) p q = refl
 or_nested None p q = refl
