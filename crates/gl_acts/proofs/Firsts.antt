@@ -15,7 +15,7 @@ use Rattle.gl_acts.specs.Acting.{ActFailsAt, ActFailsFirst, IsLive, LivesAt, Run
 use Rattle.gl_acts.proofs.Runs.{HasEvents, settled, shorter}
 use Rattle.gl_acts.proofs.Ending.{all_ended, AreAllBelow, none_live}
 
--- what stands in a list stands below its length, and below its length something stands
+-- what stands in a list stands below its length
 pub at_below : {A : Type 0} (xs : List A) (p : ℕ) (x : A) → slice_get xs p ≡ Some x → p < length xs
 at_below xs p x there = elim ((slice_get_cases xs p).1) [ inl in' ↦ in'.1 | inr out ↦ absurd (let none = out.1 in cc) ]
 

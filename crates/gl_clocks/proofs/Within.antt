@@ -29,7 +29,7 @@ use Rattle.gl_clocks.specs.ClockLaws.{ClocksPrecede, ClocksInRecord, ClocksAtVar
 use Rattle.gl_clocks.proofs.Locked.{clocks_within, locksets_law, split_at}
 use Rattle.gl_clocks.proofs.Ordered.{list_law, same_now, stands_access}
 
--- a thread that made an event that is not its End runs
+-- what was put for a thread is what it has
 at_own : (old : ℕ → ThreadState) (t : ℕ) (a : ThreadState) → with_at old t a t ≡ a
 at_own old t a = with_here old t a
 
@@ -53,7 +53,7 @@ after_runs setting old new t (Does Input) value may h other = ap (λ (s : State)
 after_runs setting old new t (Does (Fail c)) value may h other = ap (λ (s : State). s.threads t) h.1 ∙ may
 after_runs setting old new t (Commit xs) value may h other = ap (λ (s : State). s.threads t) h ∙ may
 
--- a run up to an event, which is its last
+-- a run along a list has in it the run up to an event that is no End, after which the event's thread runs
 up_to_event : (setting : Setting) (old now : State) (xs : List Stamp) (s : Stamp) (ys : List Stamp) → Run setting old (xs ++ s ∷ ys) now
     → s.event ≢ Does End → (mid : State) × Run setting old (xs ++ s ∷ []) mid × (mid.threads s.thread ≡ Running)
 up_to_event setting old now [] s ys r other =

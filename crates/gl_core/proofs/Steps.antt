@@ -56,7 +56,7 @@ Stepped t item judged T kept over T' kept' over' =
     (lines : List Line) → AreSound (lines ++ line t item judged ∷ []) → AreVerdicts lines → AreFollowed lines T kept over →
     AreVerdicts (lines ++ line t item judged ∷ []) × AreFollowed (lines ++ line t item judged ∷ []) T' kept' over'
 
--- one line more
+-- where the tables, what is kept and who has ended stand for what one line more leaves, the lines are followed with it
 followed_push : (lines : List Line) (l : Line) (T : Tables) (kept : List Marks) (over : List Bool)
     → AreClocksOf (after_line l (traced lines)).history T
     → ((y : ℕ) → LatestStands y ((after_line l (traced lines)).draws y) (latest_of kept y))

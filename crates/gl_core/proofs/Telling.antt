@@ -55,7 +55,7 @@ none_fail k p c n ep ec e = elim (or_cases (nat_lt k p) (not n && nat_lt k c) e)
   | inr a ↦ (let z = none_unknown k c ec in let y = (and_both (not n) (nat_lt k c) a).1 in cc)
 ]
 
--- some thread's read is unknown, or none is
+-- where the reads fail, those of some thread do
 read_at : (known : ℕ → ℕ) (n : Bool) (reads parts : List ℕ) → (marks_fail known 0 reads || (not n && marks_fail known 0 parts)) ≡ true
     → (t : ℕ) × ((nat_lt (known t) (at reads t) || (not n && nat_lt (known t) (at parts t))) ≡ true)
 read_at known n reads parts e = elim (or_cases (marks_fail known 0 reads) (not n && marks_fail known 0 parts) e) [

@@ -33,7 +33,7 @@ use Rattle.gl_explain.specs.Told.{line_of, lines_of}
 use Rattle.gl_explain.proofs.Behind.{map_at}
 use Rattle.gl_explain.proofs.Taken.{IsSaidOf, thread_runs}
 
--- what is rightly said of the last line
+-- the lists behind lines with one more are those that the last line leaves
 behind : (lines : List Line) (l : Line) → lists_behind (lines ++ l ∷ []) ≡ (after_line l (traced lines)).tracing.lists
 behind lines l = sym (lists_are (lines ++ l ∷ [])) ∙ ap (λ (z : Traced). z.tracing.lists) (traced_push lines l)
 

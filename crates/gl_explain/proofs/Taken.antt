@@ -38,7 +38,7 @@ use Rattle.gl_explain.specs.declared.told.Kept.{Kept}
 use Rattle.gl_explain.specs.Marks.{plain_behind, IsMarked, IsPlacedIn, IsOfLine, AreOfLines, AreKept}
 use Rattle.gl_explain.specs.Told.{line_of, lines_of, told_of}
 
--- the list of events only grows
+-- what stands at a place of a list stands there with more put after
 get_grown : {A : Type 0} (xs more : List A) (i : ℕ) (x : A) → slice_get xs i ≡ Some x → slice_get (xs ++ more) i ≡ Some x
 get_grown [] more i x e = absurd (cc)
 get_grown (y ∷ xs) more zero x e = e
@@ -87,7 +87,7 @@ placed_grown lines l before m p =
       access = λ e. access_grown (history lines) more.0 (access_at before m) (p.access e);
     })
 
--- a draw of one of the lines, with one line more
+-- a draw that was made by one of the lines was made by one of them with one more
 of_line_grown : (lines : List Line) (l : Line) (x : ℕ) (d : Draw) (e : Entry) → IsOfLine lines x d e → IsOfLine (lines ++ l ∷ []) x d e
 of_line_grown lines l x d e o =
     let near = slice_get_within lines o.place o.line o.there in
@@ -113,7 +113,7 @@ IsSaidOf (CommitsOn reads writes) NoAccess = ⊥
 IsSaidOf (CommitsOn reads writes) Performed = Unit {0}
 IsSaidOf (CommitsOn reads writes) (Raised var) = Unit {0}
 
--- the draw of an access, and which entry it was made for
+-- a draw for one entry is for no other
 entry_is : (t q : ℕ) (d : Draw) (e f : Entry) → d ≡ draw t q (Entered f) → d.what ≡ Entered e → f ≡ e
 entry_is t q d e f is what = let same : Entered f ≡ Entered e = sym (ap (λ (z : Draw). z.what) is) ∙ what in cc
 
@@ -306,7 +306,7 @@ module _ (lines : List Line) (t : ℕ) (reads writes : List ℕ) where
       (λ q r at own. let near = slice_get_within (history lines ++ stamp ∷ []) q r at
       in omega (arith, length-append (history lines) (stamp ∷ []))))
 
--- the accesses of the line that was just taken
+-- the line that was just taken has its accesses in the history with it
 placed_last : (lines : List Line) (t : ℕ) (item : Item) (judged : Judged)
     → AreSound (lines ++ record { thread = t; item = item; judged = judged } ∷ [])
     → IsPlacedIn (history (lines ++ record { thread = t; item = item; judged = judged } ∷ [])) lines

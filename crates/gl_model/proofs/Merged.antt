@@ -54,6 +54,7 @@ pub All-with_all : (P : ℕ → Type 0) (xs ys : List ℕ) → AllByRecursion P 
 All-with_all P [] ys all others = others
 All-with_all P (x ∷ xs) ys all others = All-with_all P xs (with_one x ys) all.1 (All-with_one P x ys all.0 others)
 
+-- if the list into which others are put rises, so does the whole
 pub Rises-with_all : (xs ys : List ℕ) → Rises ys → Rises (with_all xs ys)
 Rises-with_all [] ys rises = rises
 Rises-with_all (x ∷ xs) ys rises = Rises-with_all xs (with_one x ys) (Rises-with_one x ys rises)

@@ -119,7 +119,7 @@ module _ {A : Type 0} (key : A → ℕ) (p : A) where
             (All-with_one (λ x. x < VARIABLES) (key p) (map key xs) within old.2),
       )
 
--- the first part that passes a test
+-- where none of the first i passes the test, nor does what stands at i, none of the first i + 1 does
 pub find_more : {A : Type 0} (test : A → Bool) (xs : List A) (i : ℕ) (d : A) → i < length xs → find test (take i xs) ≡ None
     → test (get_or xs i d) ≡ false → find test (take (i + 1) xs) ≡ None
 find_more test xs i d n none fails = rw (take_more xs i d n, find-append test (take i xs) (get_or xs i d ∷ []), none, fails)

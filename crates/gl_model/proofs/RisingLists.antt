@@ -193,7 +193,7 @@ past_all [] x below = refl
 past_all (y ∷ ys) x below = rw (with_one-below x y ys (below zero (omega arith)))
     (ap (λ zs. y ∷ zs) (past_all ys x (λ k l. below (suc k) (omega arith))))
 
--- two lists have a number in common
+-- where none of the first i of a list is in another, nor what stands at i, none of the first i + 1 is
 pub meet_more : (xs ys : List ℕ) (i : ℕ) → i < length xs → ((x : ℕ) → Contains (take i xs) x → Contains ys x → ⊥)
     → (Contains ys (get_or xs i 0) → ⊥) → (x : ℕ) → Contains (take (i + 1) xs) x → Contains ys x → ⊥
 meet_more xs ys i n none not_this x = rw (take_more xs i 0 n)

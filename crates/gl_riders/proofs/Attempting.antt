@@ -54,7 +54,7 @@ same_nat n = eq-eqb n n refl
 
 -- ## Plain accesses
 
--- a repeat is allowed exactly where there is a number for it
+-- where there is a number for a repeat, the right allows it
 numbered : (r : Option (ℕ × Bool)) (write : Option ℤ) (n : ℕ) → repeat_number r write ≡ Some n → true ≡ allows r (is_some write)
 numbered None write n is = cc
 numbered (Some r) None n is = refl
@@ -142,7 +142,7 @@ access_answers P c x (Some b) (Raised k) own new none runs drawn first is = rw i
   drawn = drawn;
 })
 
--- a repeat
+-- a repeat outside an attempt, by a number that the list gives, is answered by what was seen
 pub repeat_answers :
     (P : Bytecode) (c : Config) (x nth : ℕ) (write : Option ℤ) (s : Seen) (own new : Own) → c.attempt ≡ None → life_of own.mine ≡ Running →
     own.drawn ≡ [] → repeat_number (right_of own.mine x) write ≡ Some nth → is_raised s ≡ false → new
@@ -185,7 +185,7 @@ repeat_answers P c x nth (Some b) (Value a) own new none runs drawn again calm i
 repeat_answers P c x nth None (Raised k) own new none runs drawn again calm is = cc
 repeat_answers P c x nth (Some b) (Raised k) own new none runs drawn again calm is = cc
 
--- the one or the other
+-- a plain access outside an attempt, whether it is a repeat or not, is answered by what was seen
 pub plain_answers :
     (P : Bytecode) (c : Config) (x : ℕ) (write : Option ℤ) (s : Seen) (own new : Own) → c.attempt ≡ None → life_of own.mine ≡ Running
     → own.drawn ≡ [] →
@@ -239,7 +239,7 @@ vars_looked : (ls : List Look) → map (λ w. w.0) (map look_pair ls) ≡ map (�
 vars_looked [] = refl
 vars_looked (l ∷ ls) = ap (λ xs. l.var ∷ xs) (vars_looked ls)
 
--- so many variables are touched
+-- the machine has touched as many variables as the attempt has
 touches : (c : Config) (a : Attempting) → touched (progress_of c (Some a)) ≡ size a
 touches c a = λ i. length (with_all (vars_written a.writes i) (vars_looked a.looks i))
 
