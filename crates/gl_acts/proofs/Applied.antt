@@ -54,6 +54,7 @@ never stage.Ended e = absurd (cc)
 
 -- what a thread that runs does
 module _ (setting : Setting) (t : ℕ) (value : ℤ) (l : ListView) (runs : stage_of l t ≡ stage.Running) where
+  -- in each state that is coded so, the thread runs
   running : (now : State) → IsStateOf l now → now.threads t ≡ Running
   running now is = is.threads t ∙ ap thread_state runs
 

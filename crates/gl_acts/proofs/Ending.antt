@@ -19,7 +19,7 @@ use Rattle.gl_acts.proofs.Runs.{HasEvents}
 abbrev pub AreAllBelow : Lists → ℕ → Type 0
 AreAllBelow R n = (c : Place) (p : ℕ) (s : Stamp) → IsEventAt R c p s → p < n
 
--- an entry that is an act
+-- an entry with a position whose event is an act is that act's entry at the position
 act_entry : (e : Entry) (p : ℕ) (act : Act) → position_of e ≡ Some p → event_of e ≡ Some (Does act) → (value : ℤ) × (e ≡ Sync p act value)
 act_entry (Sync at a value) p act position event = let x : at ≡ p = cc in let y : a ≡ act = cc in (value, λ i. Sync (x i) (y i) value)
 act_entry (Commit at tx) p act position event = absurd (cc)
@@ -74,7 +74,7 @@ module _ (setting : Setting) (R : Lists) (n : ℕ) (events : HasEvents R n) (run
       (stays_ended setting (run.at (p + d)) (run.at (p + d + 1)) e.1.0 t (value_of there.entry) (run.steps e.0 (p + d) e.1.0 less there)
       (ended_on t p d (omega arith) ended))
 
--- the entry before an entry
+-- an entry that is not the first of its list has one before it
 at_before : (es : List Entry) (i : ℕ) (e : Entry) → At es (suc i) e → (f : Entry) × At es i f
 at_before [] i e there = absurd (cc)
 at_before (x ∷ es) zero e there = (x, refl)

@@ -15,7 +15,7 @@ use Rattle.gl_acts.specs.Acting.{ActFailsAt, ActFailsFirst, IsLive, LivesAt, Run
 use Rattle.gl_acts.proofs.Runs.{HasEvents, settled, shorter}
 use Rattle.gl_acts.proofs.Ending.{all_ended, AreAllBelow, none_live}
 
--- what stands in a list stands below its length, and below its length something stands
+-- what stands in a list stands below its length
 pub at_below : {A : Type 0} (xs : List A) (p : ℕ) (x : A) → slice_get xs p ≡ Some x → p < length xs
 at_below xs p x there = elim ((slice_get_cases xs p).1) [ inl in' ↦ in'.1 | inr out ↦ absurd (let none = out.1 in cc) ]
 
@@ -50,6 +50,7 @@ place_same : (c d : Place) → c.thread ≡ d.thread → c.index ≡ d.index →
 place_same c d thread index = λ i. record { thread = thread i; index = index i }
 
 module _ (setting : Setting) (R : Lists) where
+  -- two events that are each the first to fail stand at one place
   act_act : (h : List Stamp) → IsEventList h R → (p q : ℕ) (c d : Place) → ActFailsAt setting R p c → ActFailsAt setting R q d → c ≡ d
   act_act h list p q c d x y = elim (cases_order p q) [
     | inl same ↦ list.once c d p x.event y.event x.there (subst (λ z. IsEventAt R d z y.event) (sym same) y.there)
@@ -57,11 +58,13 @@ module _ (setting : Setting) (R : Lists) where
     | inr (inr more) ↦ absurd (y.wrong (shorter setting R (q + 1) p (omega arith) x.before))
   ]
 
+  -- if an event fails, not all events are steps, so no place is that of a thread that lives on after them
   act_lives : (h : List Stamp) → IsEventList h R → (p : ℕ) (c d : Place) → ActFailsAt setting R p c → LivesAt setting R (length h) d → ⊥
   act_lives h list p c d x y =
       let less : p < length h = list_below R h list c p x.event x.there in
       x.wrong (shorter setting R (p + 1) (length h) (omega arith) y.all)
 
+  -- two places of the least thread that lives on after all events are one
   lives_lives : (h : List Stamp) → IsEventList h R → (c d : Place) → LivesAt setting R (length h) c → LivesAt setting R (length h) d → c ≡ d
   lives_lives h list c d x y =
       let same : x.all.at (length h) ≡ y.all.at (length h) = settled setting R (length h) (list_events R h list) x.all y.all (length h)

@@ -30,7 +30,7 @@ entry_kept [] kept i e there = absurd (cc)
 entry_kept (x ∷ es) kept zero e there = let same : x ≡ e = cc in subst (λ (z : Entry). IsEntryKept z) same kept.0
 entry_kept (x ∷ es) kept (suc i) e there = entry_kept es kept.1 i e there
 
--- a thread that has a list has entries, and one that has none has no entry
+-- a thread that has a list in a record has entries
 pub some_list : (ls : List (ℕ × List Entry)) → AllByRecursion IsListKept ls → (t : ℕ) (es : List Entry) → list_of ls t ≡ Some es
     → lists_of ls t ≢ []
 some_list ls kept t es is none =

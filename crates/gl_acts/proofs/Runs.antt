@@ -70,6 +70,7 @@ module _ (setting : Setting) (R : Lists) (n : ℕ) (run : StepsUpTo setting R n)
   abbrev states : ℕ → State
   states = with_at run.at (n + 1) next
 
+  -- up to position n the states of the longer run are those of the run
   before : (p : ℕ) → p ≤ n → states p ≡ run.at p
   before p le = with_else run.at (n + 1) p next (λ same. absurd (omega arith))
 
@@ -77,11 +78,13 @@ module _ (setting : Setting) (R : Lists) (n : ℕ) (run : StepsUpTo setting R n)
   abbrev IsStepOf : ℕ → Stamp → ℤ → Type 0
   IsStepOf p r value = Step setting (states p) r value (states (p + 1))
 
+  -- each event below position n is a step of the longer run
   old_step : (d : Place) (p : ℕ) (r : Stamp) → p < n → (f : IsEventAt R d p r) → IsStepOf p r (value_of f.entry)
   old_step d p r less f =
       subst (λ (z : State). Step setting z r (value_of f.entry) (states (p + 1))) (sym (before p (omega arith)))
       (subst (λ (z : State). Step setting (run.at p) r (value_of f.entry) z) (sym (before (p + 1) (omega arith))) (run.steps d p r less f))
 
+  -- if the event at position n steps from the run's state there to the next one, it is a step of the longer run
   last_step : Step setting (run.at n) s (value_of e.entry) next → IsStepOf n s (value_of e.entry)
   last_step step =
       subst (λ (z : State). Step setting z s (value_of e.entry) (states (n + 1))) (sym (before n (omega arith)))

@@ -79,6 +79,7 @@ was_forked : (x : ThreadState) (f : ℕ) (value : ℤ) → x ≡ Forked f value 
 was_forked x f value e = ((λ n. absurd (cc)), (λ n. absurd (cc)))
 
 module _ (setting : Setting) (old new : State) (s : Stamp) (t : ℕ) where
+  -- if only the state of the thread that steps changes, and it was forked and had not ended, each thread becomes what a step makes of it
   changes_own : (x : ThreadState) → (old.threads s.thread ≢ NeverForked) × (old.threads s.thread ≢ Ended)
       → ((k : ℕ) → new.threads k ≡ with_at old.threads s.thread x k) → Becomes old new s t
   changes_own x was is = elim (ℕ_discrete t s.thread) [
@@ -86,6 +87,7 @@ module _ (setting : Setting) (old new : State) (s : Stamp) (t : ℕ) where
     | no ne ↦ stays (is t ∙ with_else old.threads s.thread t x ne)
   ]
 
+  -- if only the state of the thread that is forked changes, and it was never forked, each thread becomes what a step makes of it
   changes_child : (u f : ℕ) (x : ThreadState) → s.event ≡ Does (Fork u f) → old.threads u ≡ NeverForked
       → ((k : ℕ) → new.threads k ≡ with_at old.threads u x k) → Becomes old new s t
   changes_child u f x event new_one is = elim (ℕ_discrete t u) [
@@ -93,6 +95,7 @@ module _ (setting : Setting) (old new : State) (s : Stamp) (t : ℕ) where
     | no ne ↦ stays (is t ∙ with_else old.threads u t x ne)
   ]
 
+  -- by an act each thread becomes what a step makes of it
   by_act : (act : Act) (value : ℤ) → s.event ≡ Does act → MayStep (old.threads s.thread) (Does act) value
       → ActEffect setting old s.thread act value new → Becomes old new s t
   by_act (Begin f) value event may x = changes_own Running (was_forked (old.threads s.thread) f value may)
@@ -109,6 +112,7 @@ module _ (setting : Setting) (old new : State) (s : Stamp) (t : ℕ) where
   by_act Input value event may x = stays (ap (λ (z : State). z.threads t) x.1)
   by_act (Fail k) value event may x = stays (ap (λ (z : State). z.threads t) x.1)
 
+  -- by an act or a commit each thread becomes what a step makes of it
   by_event : (event : Event) (value : ℤ) → s.event ≡ event → MayStep (old.threads s.thread) event value
       → Effect setting old s.thread event value new → Becomes old new s t
   by_event (Does act) value is may x = by_act act value is may x
@@ -140,9 +144,11 @@ owned_depth : (t u d e : ℕ) → Owned t d ≡ Owned u e → d ≡ e
 owned_depth t u d e p = cc
 
 module _ (most : ℕ) (old new : State) (within : AreWithin most old) where
+  -- if no monitor changes, each is entered at most once more than the bound
   same_within : ((o : ℕ) → new.monitors o ≡ old.monitors o) → AreWithin (most + 1) new
   same_within same o t d is = let low = within o t d (sym (same o) ∙ is) in omega arith
 
+  -- if one monitor changes, and is then entered at most once more than the bound, so is each
   changed_within : (g : ℕ) (m : MonitorState) → ((t d : ℕ) → m ≡ Owned t d → d ≤ most + 1)
       → ((o : ℕ) → new.monitors o ≡ with_at old.monitors g m o) → AreWithin (most + 1) new
   changed_within g m low is o t d owned = elim (ℕ_discrete o g) [
@@ -150,6 +156,7 @@ module _ (most : ℕ) (old new : State) (within : AreWithin most old) where
     | no ne ↦ (let l = within o t d (sym (with_else old.monitors g o m ne) ∙ sym (is o) ∙ owned) in omega arith)
   ]
 
+  -- a monitor that was entered once more is entered at most once more than the bound
   entered_within : (a g : ℕ) (x m : MonitorState) → old.monitors g ≡ x → Entered a x m → (t d : ℕ) → m ≡ Owned t d → d ≤ most + 1
   entered_within a g Free m at in' t d is = let e : 1 ≡ d = owned_depth a t 1 d (sym in' ∙ is) in omega arith
   entered_within a g (Owned w k) m at in' t d is =
@@ -157,6 +164,7 @@ module _ (most : ℕ) (old new : State) (within : AreWithin most old) where
       let low : k ≤ most = within g w k at in
       omega arith
 
+  -- a monitor that was left once is entered at most once more than the bound
   left_within : (a g k : ℕ) → old.monitors g ≡ Owned a (k + 1) → (t d : ℕ) → left_once a k ≡ Owned t d → d ≤ most + 1
   left_within a g zero at t d is = absurd (cc)
   left_within a g (suc k) at t d is =
@@ -166,6 +174,7 @@ module _ (most : ℕ) (old new : State) (within : AreWithin most old) where
       let low = within g a (suc k + 1) at in
       omega arith
 
+  -- after an act each monitor is entered at most once more than the bound
   within_act : (setting : Setting) (a : ℕ) (act : Act) (value : ℤ) → ActEffect setting old a act value new → AreWithin (most + 1) new
   within_act setting a (Begin f) value x = same_within (λ o. ap (λ (z : State). z.monitors o) x)
   within_act setting a End value x = same_within (λ o. ap (λ (z : State). z.monitors o) x)
@@ -182,6 +191,7 @@ module _ (most : ℕ) (old new : State) (within : AreWithin most old) where
   within_act setting a Input value x = same_within (λ o. ap (λ (z : State). z.monitors o) x.1)
   within_act setting a (Fail k) value x = same_within (λ o. ap (λ (z : State). z.monitors o) x.1)
 
+  -- after an act or a commit each monitor is entered at most once more than the bound
   within_effect : (setting : Setting) (a : ℕ) (event : Event) (value : ℤ) → Effect setting old a event value new → AreWithin (most + 1) new
   within_effect setting a (Does act) value x = within_act setting a act value x
   within_effect setting a (Commit xs) value x = same_within (λ o. ap (λ (z : State). z.monitors o) x)

@@ -42,7 +42,7 @@ at_here threads u x = (let here : (u == u) ≡ true = eq-eqb u u refl in rw here
 at_other : (threads : ℕ → ThreadState) (u t : ℕ) (x : ThreadState) → t ≢ u → with_at threads u x t ≡ threads t
 at_other threads u t x other = rw (other_false t u other) refl
 
--- one thread changed
+-- if each forked thread may start in its function, and one that changes too, each may so after the change
 one_changed :
     (setting : Setting) (s : State) (u : ℕ) (x : ThreadState) → ForkedRight setting s
     → ((f : ℕ) (v : ℤ) → x ≡ Forked f v → MayStart setting f) →
@@ -52,7 +52,7 @@ one_changed setting s u x right here t f v is = elim (ℕ_discrete t u) [
   | no other ↦ right t f v (sym (at_other s.threads u t x other) ∙ is)
 ]
 
--- after an event forked threads have functions that may be forked, if they had before
+-- after an event each forked thread may start in its function, if each might before
 effect_right :
     (setting : Setting) (s new : State) (t : ℕ) (event : Event) (value : ℤ) → ForkedRight setting s → Effect setting s t event value new →
     ForkedRight setting new
@@ -74,7 +74,7 @@ effect_right setting s new t (Does Print) value right e = subst (ForkedRight set
 effect_right setting s new t (Does Input) value right e = subst (ForkedRight setting) (sym e.1) right
 effect_right setting s new t (Does (Fail code)) value right e = subst (ForkedRight setting) (sym e.1) right
 
--- at the start forked threads have functions that may be forked
+-- at the start each forked thread may start in its function
 start_right : (setting : Setting) → ForkedRight setting (start setting)
 start_right setting t f v is = elim (ℕ_discrete t 0) [
   | yes same ↦
@@ -85,15 +85,18 @@ start_right setting t f v is = elim (ℕ_discrete t 0) [
 ]
 
 module _ (setting : Setting) (R : Lists) (h : List Stamp) (is_list : IsEventList h R) (machine : IsMachineRun setting R h) where
+  -- at each position of the run each forked thread has a function that it may start with
   always_right : (n : ℕ) → n ≤ length h → ForkedRight setting (machine.at n)
   always_right zero le = subst (ForkedRight setting) (sym machine.first) (start_right setting)
   always_right (suc n) le = next (always_right n (omega arith)) where
+    -- the event at position n stands at some place of the record
     stamp : (s : Stamp) × ((c : Place) × IsEventAt R c n s)
     stamp = elim (slice_get_cases h n).1 [
       | inl there ↦ (there.0, is_list.made n there.0 there.2)
       | inr past ↦ absurd (let ge = past.0 in omega arith)
     ]
 
+    -- if it is so before the event at position n, it is so after it
     next : ForkedRight setting (machine.at n) → ForkedRight setting (machine.at (suc n))
     next right =
         let s = stamp.0 in

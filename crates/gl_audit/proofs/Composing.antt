@@ -24,6 +24,7 @@ module _ (P : Bytecode) (inputs : List ℤ) (steps : ℕ) (made : List (ℕ × L
   abbrev pub Below : Clause → Type 0
   Below k = HoldBelow P inputs steps (lists_of made) k
 
+  -- no clause has a number below 1
   above_none : (k : Clause) → number_of k < 1 → ⊥
   above_none OfForm less = omega arith
   above_none OfList less = omega arith

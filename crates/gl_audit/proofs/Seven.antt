@@ -8,6 +8,7 @@ use Rattle.gl_audit.specs.Clauses.{Clause, Says, number_of}
 use Rattle.gl_audit.specs.Clauses.{OfForm, OfList, OfNumbers, OfMachine, OfRaces, OfWords, OfProgram}
 
 module _ (P : Bytecode) (inputs : List ℤ) (steps : ℕ) (R : Lists) where
+  -- a lawful record is as each clause says
   each : LawfulOf P inputs steps R → (k : Clause) → Says P inputs steps R k
   each lawful OfForm = lawful.allowed.form
   each lawful OfList = (lawful.allowed.events, lawful.allowed.listed)

@@ -146,7 +146,7 @@ runs_attends : (o : Option Attempt) → Attends o Go
 runs_attends None = tt
 runs_attends (Some a) = tt
 
--- the attempt is the same, and the stage may be inside one
+-- a machine attends to its attempt, if it has one, where what its stage asks may be asked there
 same : (d : Config) (o : Option Attempt) → d.attempt ≡ o → Attends o (ask_of d.stage) → AttendsWith (is_some o) d
 same d o is attends = record { runs = ap is_some is; attends = rw is attends }
 

@@ -3,7 +3,7 @@ use Rattle.std.proofs.Common.{◌≡◌, ℕ, suc, ◌-◌, ◌<◌, List, [], �
 use Rattle.std.specs.Prelude.{slice_set, slice_index_or, Result, Ok, Err}
 use Rattle.gl_bytecode.specs.Programs.{Function, with_last}
 
--- it is the list with a write at its last place
+-- writing a changed last function at the last place is changing the last function
 pub set_last :
     (change : Function → Function) (Fs : List Function) (d : Function) → 0 < length Fs →
     slice_set Fs (length Fs - 1) (change (slice_index_or Fs (length Fs - 1) d)) ≡ with_last change Fs
@@ -14,7 +14,7 @@ set_last change (F ∷ G ∷ Fs) d some =
     let last : length (F ∷ G ∷ Fs) - 1 ≡ suc (length (G ∷ Fs) - 1) = omega arith in
     rw last (ap (λ Hs. F ∷ Hs) more)
 
--- the last function is the one that was added last
+-- of a list with a function added, the one that was added is changed as the last
 pub with_last-push : (change : Function → Function) (Fs : List Function) (F : Function) → with_last change (Fs ++ F ∷ []) ≡ Fs ++ change F
     ∷ []
 with_last-push change [] F = refl

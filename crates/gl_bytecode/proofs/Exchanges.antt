@@ -75,7 +75,7 @@ pub told_none : (P : Bytecode) (p q : Progress) → told P p [] ≡ Some q → p
 unfolding told
 told_none P p q is = cc
 
--- a reply that stands where a test holds
+-- a reply that stands only where a test holds is that reply, and the test holds
 pub when_true : (t : Bool) (r s : Reply) → when t r ≡ Some s → (t ≡ true) × (r ≡ s)
 when_true true r s is = (refl, cc)
 when_true false r s is = cc
@@ -203,7 +203,7 @@ looks_stay p Input r y w no_end is = is
 looks_stay p TxBegin r y w no_end is = is
 
 module _ (P : Bytecode) where
-  -- what holds of a running attempt that has looked at y holds after one exchange more that doesn't end it
+  -- an attempt that runs still runs after an exchange that does not end it
   still_runs : (x : Exchange) (p m : Progress) → Told P x p m → IsNoEnd (ask_of p.config.stage) → is_some p.config.attempt ≡ true
       → is_some m.config.attempt ≡ true
   still_runs x p m t no_end lives = rw t.config (next_lives P p.config t.reply no_end t.fits lives)
@@ -217,6 +217,7 @@ module _ (P : Bytecode) where
   plain_not : (p : Progress) (ask : Ask) (o : Option Reply) → is_some p.config.attempt ≡ true
       → (if is_none p.config.attempt then o else None) ≡ None
   plain_not p ask o lives = by_attempt p.config.attempt refl where
+    -- nothing comes of it, since there is an attempt
     by_attempt : (a : Option Attempt) → p.config.attempt ≡ a → (if is_none a then o else None) ≡ None
     by_attempt None none = (let e : is_some p.config.attempt ≡ false = rw none refl in cc)
     by_attempt (Some a) some = refl
@@ -274,7 +275,7 @@ three true true false is = cc
 three true false c is = cc
 three false b c is = cc
 
--- a seventeenth variable is no known one, and no earlier one
+-- a variable that is known or for which there is room is no new one for which there is none
 clash : (k e : Bool) (n : ℕ) → (k || nat_lt n TX_VARIABLES) ≡ true → (not k && n == TX_VARIABLES && e) ≡ true → ⊥
 clash true e n room refused = (let all = (three false (n == TX_VARIABLES) e refused).0 in cc)
 clash false e n room refused =

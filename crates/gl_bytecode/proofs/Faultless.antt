@@ -197,7 +197,7 @@ leaves_nothing Halt is = refl
 leaves_nothing (Throw code) is = refl
 leaves_nothing _ is = cc
 
--- what an instruction that is reached leaves on the stack has room there
+-- a depth at a place of the code is at most what a stack holds
 room_after :
     (P : Bytecode) (F : Function) (depth : ℕ → Option ℕ) → AreDepths P F depth → (m : ℕ) (to : ℕ) → to < length F.code →
     depth to ≡ Some m → m ≤ OPERANDS

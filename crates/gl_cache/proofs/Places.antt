@@ -96,9 +96,11 @@ word_other ws x y w other = get_or-set_other ws x y w None other
 
 module _ (slots : List Slot) (st : ℕ) (bits : List ℕ) (are : AreSlots slots st bits) (x : ℕ) (near : x < VARIABLES) (q : Slot)
     (past : q.stamp ≤ st) where
+  -- the words have a place for x
   within : x < length (words_in st slots)
   within = rw (length-map slots (shown st), are.long) near
 
+  -- the words of the slots with q at x are the words with what q shows at x
   moved : words_in st (set slots x q) ≡ set (words_in st slots) x (shown st q)
   moved = map-set (shown st) slots x q
 

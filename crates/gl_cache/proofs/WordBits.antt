@@ -34,6 +34,7 @@ no_bit n x h = elim (cases_lt (x / 64) n) [
 ]
 
 module _ (words : List ℕ) (k : ℕ) (n : k / 64 < length words) where
+  -- the word that has the bit k
   word : ℕ
   word = get_or words (k / 64) 0
 
@@ -49,6 +50,7 @@ module _ (words : List ℕ) (k : ℕ) (n : k / 64 < length words) where
     | inr other ↦ rw (get_or-set_other words (k / 64) (j / 64) w 0 other)
   ]
 
+  -- with a word in that place the bit k is the word's own
   bit_here : (w b : ℕ) → bit_at w (k % 64) ≡ b → bit_at (get_or (set words (k / 64) w) (k / 64) 0) (k % 64) ≡ b
   bit_here w b is = rw (get_or-set_same words (k / 64) w 0 n) is
 

@@ -31,7 +31,7 @@ use Rattle.gl_causes.proofs.Known.{led}
 use Rattle.gl_causes.proofs.Racing.{race_in, race_out, some_race}
 use Rattle.gl_causes.proofs.Telling.{Laid, block_is, stand_of}
 
--- the events of a run of the machine are what it allows
+-- if each event of a list steps from one state to the next, the list is a run from the first of these states to the last
 run_from :
     (setting : Setting) (f : ℕ → State) (ys : List Stamp) (n m : ℕ) → m ≡ n + length ys
     → ((p q : ℕ) (s : Stamp) → slice_get ys p ≡ Some s → q ≡ n + p → (v : ℤ) × Step setting (f q) s v (f (q + 1)))
@@ -53,7 +53,7 @@ allowed_of setting R h is run = subst (λ o. Run setting o h (run.at (length h))
         let z : p ≡ q = omega arith in
         subst (λ k. (v : ℤ) × Step setting (run.at k) s v (run.at (k + 1))) z (value_of m.1.entry, run.steps m.0 p s m.1)
 
--- what was refused is racy there
+-- what was rightly raised on a variable is racy there
 racy_of : (R : Lists) (c : Place) (f : Entry) (x : ℕ) → IsRaisedRightly R c f → raised_on f ≡ Some x → IsRacy R c x
 racy_of R c (Plain var nth cached write value true) x right e = let same : var ≡ x = cc in subst (IsRacy R c) same (right.0 refl)
 racy_of R c (Plain var nth cached write value false) x right e = absurd (cc)
@@ -77,7 +77,7 @@ in_list xs x w = (w.0, slice_get-get_or xs w.0 x w.1 ∙ ap Some w.2)
 pub of_list : {A : Type 0} (xs : List A) (i : ℕ) (x : A) → slice_get xs i ≡ Some x → Contains xs x
 of_list xs i x e = (i, slice_get_within xs i x e, get_or_from_slice_get xs i x x e)
 
--- those that race are among all, and race
+-- an option that has something is some number
 some_means : (o : Option ℕ) → is_some o ≡ true → (k : ℕ) × (o ≡ Some k)
 some_means None e = absurd (cc)
 some_means (Some k) e = (k, refl)
@@ -171,29 +171,36 @@ module _ (setting : Setting) (R : Lists) (h : List Stamp) (now : State) (rows : 
       (o.0, (o.1.0, (w.1.0, (o.1.1, o.1.3))))
 
   module _ (e : Cause) (w : IsOfRefused R rows stands (length stands) e) where
+    -- the refused entry that the cause is of, as it is laid out
     d : Stand
     d = w.stand
 
+    -- that entry stands so in the record
     is : IsStand R w.stand
     is = (L.stands_are.each w.index w.stand w.there).0
 
+    -- the cause's variable is the one that the entry was refused on
     var_is : e.var ≡ w.refusal.var
     var_is = w.found.var_is ∙ ap (λ (r : Refusal). r.var) w.is_asked.refusal
 
     abbrev Culprit : Place → ℕ → Type 0
     Culprit c k = RacesWith R (seen e.at) e.var c k
 
+    -- what races with the refused entry on its variable races with the entry at the cause's place on the cause's variable
     into : (c : Place) (k : ℕ) → RacesWith R w.stand.place w.refusal.var c k → RacesWith R (seen e.at) e.var c k
     into c k q = subst (λ p. RacesWith R p e.var c k) (sym w.place) (subst (λ x. RacesWith R w.stand.place x c k) (sym var_is) q)
 
+    -- what races with the entry at the cause's place on the cause's variable races with the refused entry on its variable
     back : (c : Place) (k : ℕ) → RacesWith R (seen e.at) e.var c k → RacesWith R w.stand.place w.refusal.var c k
     back c k q = subst (λ x. RacesWith R w.stand.place x c k) var_is (subst (λ p. RacesWith R p e.var c k) w.place q)
 
+    -- an entry that is found to race with the refused one, with some number, races with it by that number
     found_in : (i : ℕ) (s : Stand) (k : ℕ) → slice_get stands i ≡ Some s → race_number w.asked s ≡ Some k
         → RacesWith R (seen e.at) e.var s.place k
     found_in i s k e' some = into s.place k
         (race_in setting R h now rows stands L w.stand is w.refusal w.asked w.refused w.is_asked s (L.stands_are.each i s e').0 k some)
 
+    -- each access that races with the refused entry is laid out, and is found to race with its number
     found_out : (c : Place) (k : ℕ) → RacesWith R (seen e.at) e.var c k → (i : ℕ) × ((s : Stand) × (slice_get stands i ≡ Some s)
         × (s.place ≡ c) × (race_number w.asked s ≡ Some k))
     found_out c k q = race_out setting R h now rows stands L w.stand is w.refusal w.asked w.refused w.is_asked c k (back c k q)
@@ -201,6 +208,7 @@ module _ (setting : Setting) (R : Lists) (h : List Stamp) (now : State) (rows : 
     abbrev places : List Place
     places = map (λ (s : Stand). s.place) (races_among w.asked stands)
 
+    -- the places of the entries that are found to race are those of all that the refused entry races with, by thread and place
     all_races : AreRaces R (seen e.at) e.var (map (λ (s : Stand). s.place) (races_among w.asked stands))
     all_races = record {
       each = λ c. (
@@ -223,6 +231,8 @@ module _ (setting : Setting) (R : Lists) (h : List Stamp) (now : State) (rows : 
           subst (λ p. Before p c) r.1.1 (subst (λ p. Before r.0.place p) s.1.1 z));
     }
 
+    -- if the other entry of the cause races with the refused one, the leading entry is the last of that thread that happens before it, if
+    -- any does
     leads : {c : Place} {k : ℕ} → RacesWith R (seen e.at) e.var c k → c ≡ seen e.other → IsLed R (seen e.at) e.other.thread e.leading
     leads q same =
         let m = refusal_means w.stand.entry w.refusal w.refused in

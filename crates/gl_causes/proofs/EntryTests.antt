@@ -126,7 +126,7 @@ own_there (Abort tx why) x k kept d p = absurd p
 own_there (Trim low) x k kept d p = absurd d
 own_there (Over ending) x k kept d p = absurd d
 
--- an access of x writes it
+-- a performed access of x tests as writing it exactly where it writes it
 pub writes_told : (e : Entry) (x k : ℕ) → IsPerformed e → NumberOn e x k → (writes_to x e ≡ true) ↔ Writes e x
 writes_told (Commit at tx) x k p n = writes_means tx.writes x
 writes_told (Plain var nth cached write value raised) x k p n = (λ e. (n.0, e), λ w. w.1)
@@ -229,7 +229,7 @@ pub record IsLower (earlier later : List Number) : Type 0 where
   pub second : Contains later (named var above)
   pub less : number < above
 
--- a number that is below an option's is below a number that is there
+-- where a number tests as above that of an option, the option has one, which is below it
 lower_than : (k : ℕ) (o : Option ℕ) → is_lower_than k o ≡ true → (m : ℕ) × (o ≡ Some m) × (m < k)
 lower_than k None e = absurd (cc)
 lower_than k (Some m) e = (m, refl, ltb-true m k e)
@@ -326,7 +326,7 @@ before_there (Abort tx why) f kept i b = absurd b.commit
 before_there (Trim low) f kept i b = absurd b.commit
 before_there (Over ending) f kept i b = absurd b.commit
 
--- nothing is before what is no refused attempt
+-- no entry tests as a commit before a plain one
 pub none_before : (g f : Entry) → IsPlain f → commits_before (refused_numbers f) g ≡ true → ⊥
 none_before (Commit at tx) (Plain a b c d f g) p e = cc
 none_before (Sync at act value) (Plain a b c d f g) p e = cc

@@ -14,7 +14,7 @@ use Rattle.gl_causes.specs.declared.handing.Way.{Way}
 use Rattle.gl_causes.specs.declared.handing.Way.TheVariants.{Releases, Writes, Forks, Commits, Ends}
 use Rattle.gl_causes.specs.Handing.{HandsOn, NoneHandsOn, entry_way, touches}
 
--- a thread with a list
+-- where the record has a list for a thread, the thread's entries are those of the list
 pub listed : (made : List (ℕ × List Entry)) (u : ℕ) (es : List StoredEntry) → list_of made u ≡ Some (map seen es)
     → lists_of made u ≡ map seen es
 listed made u es is = ap (λ o. unwrap_or o []) is
@@ -64,13 +64,13 @@ way_forth (Over ending) way told = absurd (cc)
 
 -- ## Behind a place
 
--- the entry at place n does not pass the test, or does not stand behind c
+-- if n is behind c, and the test at n, which looks behind c only, finds no way, the entry there has none
 passes_not : (c : Place) (n : ℕ) (e : Entry) (b : Bool) → nat_lt c.index n ≡ b → c.index < n
     → (if b then entry_way e else None) ≡ None → entry_way e ≡ None
 passes_not c n e true is behind test = test
 passes_not c n e false is behind test = absurd (let less : nat_lt c.index n ≡ true = lt-ltb c.index n behind in cc)
 
--- one entry more that does not pass it
+-- if none behind c and before n hands on, and the entry at n does not test as handing on, none before n + 1 does
 pub none_more : (R : Lists) (c : Place) (n : ℕ) (e : Entry) → NoneHandsOn R c n → At (R c.thread) n e
     → (if nat_lt c.index n then entry_way e else None) ≡ None → NoneHandsOn R c (n + 1)
 none_more R c n e none there test i d way behind before at hands = elim (cases_lt i n) [
@@ -84,7 +84,7 @@ none_more R c n e none there test i d way behind before at hands = elim (cases_l
       ∙ passes_not c n e (nat_lt c.index n) refl (subst (λ j. c.index < j) same behind) test in cc)
 ]
 
--- an entry below n that tests as handing on does so
+-- an entry at n that tests as handing on is behind c and hands on so
 pub hands_on : (c : Place) (n : ℕ) (e : Entry) (way : Way) → (if nat_lt c.index n then entry_way e else None) ≡ Some way
     → (c.index < n) × HandsOn e way
 hands_on c n e way told = by_test (nat_lt c.index n) refl told where
@@ -92,7 +92,7 @@ hands_on c n e way told = by_test (nat_lt c.index n) refl told where
   by_test true is told' = (ltb-true c.index n is, way_forth e way told')
   by_test false is told' = absurd (cc)
 
--- an entry of the thread's list
+-- what stands at n among the stored entries of a thread stands, as it is seen, at n in the thread's list
 pub entry_at : (R : Lists) (t : ℕ) (es : List StoredEntry) (n : ℕ) (e : StoredEntry) → R t ≡ map seen es → slice_get es n ≡ Some e
     → At (R t) n (seen e)
 entry_at R t es n e is there = ap (λ l. slice_get l n) is ∙ at_seen es n e there where
@@ -101,7 +101,7 @@ entry_at R t es n e is there = ap (λ l. slice_get l n) is ∙ at_seen es n e th
   at_seen (a ∷ ds) zero d at = (let same : a ≡ d = cc in ap (λ b. Some (seen b)) same)
   at_seen (a ∷ ds) (suc k) d at = at_seen ds k d at
 
--- all entries of the list are passed
+-- if none behind c and before m hands on, and the list has no entry from m on, none behind c hands on at all
 pub none_left : (R : Lists) (c : Place) (m : ℕ) → NoneHandsOn R c m → length (R c.thread) ≤ m → (n : ℕ) → NoneHandsOn R c n
 none_left R c m none long n i e way behind before at hands =
     let near : i < length (R c.thread) = slice_get_within (R c.thread) i e at in

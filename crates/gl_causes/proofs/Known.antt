@@ -42,9 +42,11 @@ module _ (setting : Setting) (R : Lists) (h : List Stamp) (now : State) (rows : 
     abbrev its : Access
     its = record { thread = c.thread; block = b; variables = None }
 
+    -- along the list of each thread the positions of its events rise
     rises : PositionsRise R
     rises = rise setting R h now rows stands L
 
+    -- a plain access of c's thread in the block b is an access of the history
     is_access : IsAccessOf h (record { thread = c.thread; block = b; variables = None })
     is_access =
         let e = event_before R h L.is_list rises c q s made b last in record {
@@ -146,6 +148,7 @@ module _ (setting : Setting) (R : Lists) (h : List Stamp) (now : State) (rows : 
   -- of another thread u, before a refused entry
   module _ (d : Place) (f : Entry) (here : EntryAt R d f) (kind : IsPlain f ⊎ IsRefusedCommit f) (access : IsAccess f) (p : ℕ)
       (block : IsBlockOf R d p) (known : List ℕ) (knows : Knows rows stands p f known) (u : ℕ) (apart : u ≢ d.thread) where
+    -- if what is known of u is beyond the block before an event of u, that event happens before the entry at d
     passed_leads : (i : ℕ) → IsPassed (R u) (at known u) i → HappensBefore R (record { thread = u; index = i }) d
     passed_leads i w =
         let v = event_there w.entry w.position w.event in
@@ -153,6 +156,7 @@ module _ (setting : Setting) (R : Lists) (h : List Stamp) (now : State) (rows : 
         (record { entry = w.entry; there = w.there; position = w.event; event = v.1; own = refl }) w.block
         (last_event (R u) i w.block w.before) d f here kind access p block apart known knows w.passed
 
+    -- if an entry of u happens before the entry at d, some event of u at it or behind it has the block before it passed by what is known
     leads_passed : (i : ℕ) → HappensBefore R (record { thread = u; index = i }) d → (j : ℕ) × (i ≤ j) × IsPassed (R u) (at known u) j
     leads_passed i before =
         let w = ahead R (record { thread = u; index = i }) d apart before in

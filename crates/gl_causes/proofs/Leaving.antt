@@ -86,6 +86,7 @@ pub record IsAhead (R : Lists) (b c : Place) : Type 0 where
   pub no_begin : IsBegin made.entry → ⊥
 
 module _ (R : Lists) where
+  -- an event at b or behind it in its list is ahead of b, if it begins no thread
   at_source : (b m : Place) (k : ℕ) (r : Stamp) → (e : IsEventAt R m k r) → ((g : ℕ) → r.event ≢ Does (Begin g)) → b.thread ≡ m.thread
       → b.index ≤ m.index → IsAhead R b m
   at_source b m k r e other own within = record {
@@ -111,6 +112,7 @@ module _ (R : Lists) where
       on lt (synchronizes i l r t e f less w) = inr
           (n, at_source b n i r e (source_no_begin r t w) lt.0 (let x = lt.1 in omega arith), one_step (synchronizes i l r t e f less w))
 
+  -- a commit at b or behind it in its list is ahead of b
   at_commit : (b m : Place) (e : Entry) → At (R m.thread) m.index e → IsCommit e → b.thread ≡ m.thread
       → b.index ≤ m.index → IsAhead R b m
   at_commit b m e there is own within =

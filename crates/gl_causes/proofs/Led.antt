@@ -61,6 +61,7 @@ module _ (R : Lists) (h : List Stamp) (is_list : IsEventList h R) (rise : Positi
             | inr z ↦ (let y : k < b = z in omega arith)
           ]
 
+  -- the access reaches each event of its own thread at c or behind it
   own_reached : (m : Place) (k : ℕ) (r : Stamp) → IsEventAt R m k r → c.thread ≡ m.thread → c.index ≤ m.index → Reaches h between k
   own_reached m k r e own le = own_later r (is_list.listed m k r e) (above m k r e own le) (e.own ∙ sym own)
 
@@ -75,6 +76,7 @@ module _ (R : Lists) (h : List Stamp) (is_list : IsEventList h R) (rise : Positi
     ])
   ]
 
+  -- one step after c, or after what comes after c by steps, comes after c by steps
   after : {m n : Place} → (c ≡ m) ⊎ TransitiveClosure (OrdersDirectly R) c m → OrdersDirectly R m n
       → TransitiveClosure (OrdersDirectly R) c n
   after {m = m} {n = n} (inl same) step = one_step (subst (λ z. OrdersDirectly R z n) (sym same) step)
@@ -108,6 +110,7 @@ module _ (R : Lists) (h : List Stamp) (is_list : IsEventList h R) (rise : Positi
     pub own : place.thread ≡ d.thread
     pub within : place.index ≤ d.index
 
+  -- if the access reaches the event at d, it reaches one at or before d
   at_event : {d : Place} {k : ℕ} {r : Stamp} → IsEventAt R d k r → Reaches h between k → IsReachedUpTo d
   at_event {d = d} {k = k} {r = r} e reach =
       record { place = d; position = k; event = r; reached = reach; made_at = e; own = refl; within = omega arith }
@@ -119,6 +122,7 @@ module _ (R : Lists) (h : List Stamp) (is_list : IsEventList h R) (rise : Positi
         (e.own ∙ sym u.own ∙ sym u.made_at.own)
   ]
 
+  -- one step on from behind c in its list, or from at or behind an event that the access reaches, leads to such a place again
   step_on : {m n : Place} → InProgramOrder c m ⊎ IsReachedUpTo m → OrdersDirectly R m n → InProgramOrder c n ⊎ IsReachedUpTo n
   step_on (inl lt) (program_order o) = inl (lt.0 ∙ o.0, let x = lt.1 in let y = o.1 in omega arith)
   step_on (inr u) (program_order o) = inr (record {

@@ -19,7 +19,7 @@ pub record AreOwnedBelow (depths : List ℕ) (n : ℕ) (monitors : List ℕ) : T
   pub rises : Rises monitors
   pub each : (m : ℕ) → Contains monitors m ↔ ((m < n) × (0 < slice_index_or depths m 0))
 
--- a set that rises, with one more
+-- what holds of all of a list, and of one more, holds of all of the list with that put last
 all_push : (P : ℕ → Type 0) (xs : List ℕ) (x : ℕ) → AllByRecursion P xs → P x → AllByRecursion P (xs ++ x ∷ [])
 all_push P [] x all p = (p, tt)
 all_push P (y ∷ xs) x all p = (all.0, all_push P xs x all.1 p)
@@ -92,7 +92,7 @@ module _ (depths : List ℕ) where
 pub none_entered : AreDepths [] (replicate MONITORS 0)
 none_entered m near = get_or-replicate MONITORS m 0 0 near
 
--- no entry enters or leaves a monitor that there is not
+-- an act in range does not enter a monitor that there is not
 act_near : (m : ℕ) (act : Act) → MONITORS ≤ m → IsActInRange act → depth_after_act m 0 act ≡ 0
 act_near m (Acq o) far near = let e = ne_eqb o m (λ e. omega arith) in rw e refl
 act_near m (Rel o) far near = let e = ne_eqb o m (λ e. omega arith) in rw e refl
@@ -129,7 +129,7 @@ take_none : (k : ℕ) → take {A = Entry} k [] ≡ []
 take_none zero = refl
 take_none (suc k) = refl
 
--- a shorter list is taken whole
+-- taking at most as many entries as there are takes what taking that many does
 taken_min : (es : List Entry) (n : ℕ) → take (min (length es) n) es ≡ take n es
 taken_min [] n = take_none (min zero n) ∙ sym (take_none n)
 taken_min (e ∷ es) zero = ap (λ k. take k (e ∷ es)) (let z : min (suc (length es)) 0 ≡ 0 = omega arith in z)

@@ -11,16 +11,18 @@ use Rattle.gl_causes.specs.Leading.{IsLastPassed, IsPassed, is_passed, passes}
 use Rattle.gl_causes.proofs.Standing.{last_more}
 use Rattle.gl_causes.proofs.Walks.{taken}
 
--- the block behind the entry at i
+-- the last position up to the entry at i is the entry's own, or else the one before it
 pub block_on : (es : List Entry) (i : ℕ) (e : Entry) (block : Option ℕ) → At es i e → block ≡ last_position (take i es)
     → or_else (position_of e) block ≡ last_position (take (i + 1) es)
 block_on es i e block there is =
     ap (or_else (position_of e)) is ∙ sym (last_more (take i es) e) ∙ ap last_position (sym (taken es i e there))
 
+-- an option that has something is some number
 some_there : (o : Option ℕ) → is_some o ≡ true → (k : ℕ) × (o ≡ Some k)
 some_there None e = absurd (cc)
 some_there (Some k) e = (k, refl)
 
+-- if a clock tests as having passed what may be a block, there is a block, and the clock has passed it
 passes_means : (o : Option ℕ) (n : ℕ) → passes o n ≡ true → (b : ℕ) × (o ≡ Some b) × (b + 1 < n)
 passes_means None n e = absurd (cc)
 passes_means (Some b) n e = (b, refl, let l = ltb-true b (n - 1) e in omega arith)
@@ -57,9 +59,11 @@ abbrev pub IsLastBelow : List Entry → ℕ → ℕ → Option ℕ → Type 0
 IsLastBelow es n i None = (j : ℕ) → j < i → IsPassed es n j → ⊥
 IsLastBelow es n i (Some k) = IsPassed es n k × ((j : ℕ) → k < j → j < i → IsPassed es n j → ⊥)
 
+-- where the entry at i is passed, it is the last such of the first i + 1
 pub last_new : (es : List Entry) (n i : ℕ) → IsPassed es n i → IsLastBelow es n (i + 1) (Some i)
 last_new es n i w = (w, λ j l m. absurd (omega arith))
 
+-- where the entry at i is not passed, the last such of the first i is that of the first i + 1
 pub last_on : (es : List Entry) (n i : ℕ) (o : Option ℕ) → (IsPassed es n i → ⊥) → IsLastBelow es n i o → IsLastBelow es n (i + 1) o
 last_on es n i None never so_far = λ j l. elim (cases_lt j i) [
   | inl near ↦ so_far j near
@@ -73,9 +77,11 @@ last_on es n i (Some k) never so_far = (
   ],
 )
 
+-- an entry that is passed is one of the list
 passed_within : (es : List Entry) (n j : ℕ) → IsPassed es n j → j < length es
 passed_within es n j w = slice_get_within es j w.entry w.there
 
+-- past the end of the list the last such so far is the last of the whole list
 pub last_all : (es : List Entry) (n i : ℕ) (o : Option ℕ) → length es ≤ i → IsLastBelow es n i o → IsLastPassed es n o
 last_all es n i None all so_far = λ j w. so_far j (let l = passed_within es n j w in omega arith) w
 last_all es n i (Some k) all so_far = (so_far.0, λ j l w. so_far.1 j l (let m = passed_within es n j w in omega arith) w)

@@ -93,7 +93,7 @@ where_means a s (Some j) k e = by (is_race a s j) refl e
     by true eq e' = (e', let z : j ≡ k = cc in subst (λ n. is_race a s n ≡ true) z eq)
     by false eq e' = absurd (cc)
 
--- a plain entry and one behind it in its list, with no event between, are in one block
+-- an entry that is no event is in the block of one behind it that is none, where no event stands between them
 same_block : (R : Lists) (t i j b : ℕ) (e f : Entry) → EntryAt R (record { thread = t; index = i }) e → position_of e ≡ None → position_of f
     ≡ None → EntryAt R (record { thread = t; index = j }) f → i < j
     → ((l : ℕ) (g : Entry) → EntryAt R (record { thread = t; index = l }) g → i < l → l < j → position_of g ≡ None)
@@ -118,9 +118,11 @@ same_block R t i j b e f there no_event no_later here less between block = recor
 module _ (setting : Setting) (R : Lists) (h : List Stamp) (now : State) (rows : List (List ℕ)) (stands : List Stand)
     (L : Laid setting R h now rows stands) (sd : Stand) (isd : IsStand R sd) (r : Refusal) (a : Asked)
     (refused : refusal_of sd.entry ≡ Some r) (asked : IsAsked rows stands sd r a) where
+  -- the entry was refused as the refusal says
   means : IsRefused sd.entry r
   means = refusal_means sd.entry r refused
 
+  -- the refused entry is in the block that it is laid out with
   block_d : IsBlockOf R sd.place sd.block
   block_d = block_is setting R h now rows stands L sd isd means.is_access
 
@@ -150,6 +152,8 @@ module _ (setting : Setting) (R : Lists) (h : List Stamp) (now : State) (rows : 
       told_plain setting R h now rows stands L s.place (record { thread = s.place.thread; block = s.block; variables = Some v.0 })
       stands_for sd.place sd.entry isd.there plain sd.block block_d apart a.known asked.knows
 
+  -- where one of the two is plain, a plain entry or a commit of another thread happens before the refused entry exactly where what is known
+  -- has passed its tick
   told : (s : Stand) → IsStand R s → IsPlain s.entry ⊎ IsCommit s.entry → IsPlain s.entry ⊎ IsPlain sd.entry
       → s.place.thread ≢ sd.place.thread → (tick_in s.block s.entry < at a.known s.place.thread) ↔ HappensBefore R s.place sd.place
   told s is (inl plain) one apart =

@@ -20,7 +20,7 @@ Has xs c = (i : ℕ) × (slice_get xs i ≡ Some c)
 abbrev pub Rise : List Place → Type 0
 Rise xs = (i j : ℕ) (b c : Place) → slice_get xs i ≡ Some b → slice_get xs j ≡ Some c → i < j → Before b c
 
--- of two places each is not before the other
+-- no two places are each before the other
 not_before : (c d : Place) → Before c d → Before d c → ⊥
 not_before c d (inl l) (inl m) = omega arith
 not_before c d (inl l) (inr m) = let z = m.0 in omega arith
@@ -40,7 +40,7 @@ rest_rises x xs rise i j b c e f lt = rise (suc i) (suc j) b c e f (omega arith)
 first_before : (x : Place) (xs : List Place) → Rise (x ∷ xs) → (c : Place) → Has xs c → Before x c
 first_before x xs rise c w = rise zero (suc w.0) x c refl w.1 (omega arith)
 
--- two such lists with the same members begin with the same
+-- two rising lists of places, each of which has the other's first, begin with the same
 first_same : (x y : Place) (xs ys : List Place) → Rise (x ∷ xs) → Rise (y ∷ ys) → Has (y ∷ ys) x → Has (x ∷ xs) y → x ≡ y
 first_same x y xs ys rise rise' h k = elim (has_cases y ys x h) [
   | inl same ↦ sym same
@@ -50,7 +50,7 @@ first_same x y xs ys rise rise' h k = elim (has_cases y ys x h) [
   ]
 ]
 
--- and so do their rests
+-- if two lists begin with the same, and the first rises and has only what the other has, so does its rest with the other's rest
 rest_in : (x y : Place) (xs ys : List Place) → x ≡ y → Rise (x ∷ xs) → ((c : Place) → Has (x ∷ xs) c → Has (y ∷ ys) c) → (c : Place)
     → Has xs c
     → Has ys c

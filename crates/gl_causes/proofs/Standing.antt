@@ -31,7 +31,7 @@ at_cases [] x y (suc k) a = absurd (cc)
 at_cases (z ∷ xs) x y zero a = inl a
 at_cases (z ∷ xs) x y (suc k) a = elim (at_cases xs x y k a) [ inl s ↦ inl s | inr n ↦ inr (ap suc n.0, n.1) ]
 
--- the block, with one entry more
+-- the first that is there of three options is the same, however they are grouped
 or_nested : (o p q : Option ℕ) → or_else (or_else o p) q ≡ or_else o (or_else p q)
 or_nested (Some x) p q = refl
 or_nested None p q = refl
@@ -78,7 +78,7 @@ next_before : (c : Place) (t i : ℕ) → Before c (record { thread = t; index =
 next_before c t i (inl lt) = inl lt
 next_before c t i (inr s) = inr (s.0, let w = s.1 in omega arith)
 
--- one entry more
+-- with the entry at i put last, these are the entries before the next place
 pub stands_more :
     (R : Lists) (t i b : ℕ) (e : Entry) (stands : List Stand) → slice_get (R t) i ≡ Some e → b ≡ block_before (R t) (i + 1) →
     AreStands R (record { thread = t; index = i }) stands →
@@ -109,7 +109,7 @@ stands_more R t i b e stands there block so_far = record {
     its : Stand
     its = record { place = record { thread = t; index = i }; block = b; entry = e }
 
--- the whole list of a thread
+-- the entries up to the end of a thread's list are those before the next thread's first place
 pub next_thread : (R : Lists) (t n : ℕ) (stands : List Stand) → length (R t) ≤ n → AreStands R (record { thread = t; index = n }) stands
     → AreStands R (record { thread = t + 1; index = 0 }) stands
 next_thread R t n stands long so_far = record {
@@ -132,7 +132,7 @@ next_thread R t n stands long so_far = record {
   rising = so_far.rising;
 }
 
--- the entry at i, where the entries are seen
+-- what stands at i among the seen entries is the entry at i as it is seen
 pub seen_at : (es : List StoredEntry) (i : ℕ) (d : StoredEntry) → i < length es → slice_get (map seen_entry es) i
     ≡ Some (seen_entry (get_or es i d))
 seen_at es i d l = slice_get-map seen_entry es i ∙ ap (option_map seen_entry) (slice_get-get_or es i d l)

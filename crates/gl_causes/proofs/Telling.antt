@@ -216,9 +216,11 @@ module _ (setting : Setting) (R : Lists) (h : List Stamp) (now : State) (rows : 
     abbrev m : Place
     m = s.place
 
+    -- the commit's event stands in the history at its position
     at_p : EventAt h p r
     at_p = L.is_list.listed m p r made
 
+    -- the commit has an event, that of a commit, which is its own block
     ev : (q : ℕ) × (t : Stamp) × IsEventAt R m q t × ((xs : List ℕ) × (t.event ≡ Commits xs)) × BlockAt (R m.thread) m.index q
     ev = commit_event R m s.entry is.there commit
 
@@ -234,6 +236,7 @@ module _ (setting : Setting) (R : Lists) (h : List Stamp) (now : State) (rows : 
         (ap (λ n. last_position (take n (R m.thread))) (let z : m.index + 1 ≡ suc m.index = omega arith in z) ∙ ev.4)
         ∙ one_position ev.2 made
 
+    -- the clock of the commit's block is the clock of its thread behind the event at p
     row : (u : ℕ) → cell rows s.block u ≡ clocks (take (p + 1) h) (Thread m.thread) u
     row u = ap (λ q. cell rows q u) commit_at ∙ L.clocks_are.known p u r at_p
         ∙ ap (λ t. clocks (take (p + 1) h) (Thread t) u) made.own
@@ -329,9 +332,11 @@ module _ (setting : Setting) (R : Lists) (h : List Stamp) (now : State) (rows : 
     abbrev pub its : Access
     its = record { thread = c.thread; block = b; variables = None }
 
+    -- the plain access of c's thread in this block stands for the entry at c
     stood : StandsFor R c its
     stood = plain_stands c e there plain b in_block
 
+    -- what a commit hands on of c's thread has passed the plain access exactly where the access reaches the commit's event
     handed_reaches : (s : Stand) → IsStand R s → IsCommit s.entry → (p : ℕ) (r : Stamp) → IsEventAt R s.place p r →
         (b + 1 < handed_on rows s c.thread) ↔ Reaches h its p
     handed_reaches s is commit p r made = by (c.thread == s.place.thread) refl

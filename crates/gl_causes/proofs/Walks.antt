@@ -21,7 +21,7 @@ use Rattle.gl_causes.specs.declared.races.Latest.{Latest}
 use Rattle.gl_causes.specs.declared.refusals.Refusal.{Refusal}
 use Rattle.gl_causes.proofs.Standing.{at_cases, kept_at, new_at}
 
--- the element at i, where they are seen
+-- what stands at i among the seen ones is the element at i as it is seen
 pub at_seen : {A B : Type 0} (f : A → B) (xs : List A) (i : ℕ) (d : A) → i < length xs → slice_get (map f xs) i ≡ Some (f (get_or xs i d))
 at_seen f xs i d l = slice_get-map f xs i ∙ ap (option_map f) (slice_get-get_or xs i d l)
 
@@ -29,7 +29,7 @@ at_seen f xs i d l = slice_get-map f xs i ∙ ap (option_map f) (slice_get-get_o
 pub taken : {A : Type 0} (xs : List A) (i : ℕ) (x : A) → slice_get xs i ≡ Some x → take (i + 1) xs ≡ take i xs ++ x ∷ []
 taken xs i x e = take_more xs i x (slice_get_within xs i x e) ∙ ap (λ z. take i xs ++ z ∷ []) (get_or_from_slice_get xs i x x e)
 
--- numbers, one more of which is none below
+-- if on none of some variables the first have a lower number, nor on that of one number more, they have none with it
 pub lower_more : (ns ms : List Number) (m : Number) → is_lower ns ms ≡ false → is_lower_than m.nth (number_on ns m.var) ≡ false
     → is_lower ns (ms ++ m ∷ []) ≡ false
 lower_more ns [] m none never = or_both (is_lower_than m.nth (number_on ns m.var)) false never refl
@@ -37,7 +37,7 @@ lower_more ns (x ∷ ms) m none never =
     let w = or_none (is_lower_than x.nth (number_on ns x.var)) (is_lower ns ms) none in
     or_both (is_lower_than x.nth (number_on ns x.var)) (is_lower ns (ms ++ m ∷ [])) w.0 (lower_more ns ms m w.1 never)
 
--- or is one
+-- if the first have a lower number than one of these on its variable, they test as lower
 pub lower_one : (ns ms : List Number) (i : ℕ) (m : Number) → slice_get ms i ≡ Some m → is_lower_than m.nth (number_on ns m.var) ≡ true
     → is_lower ns ms ≡ true
 lower_one ns [] i m e is = absurd (cc)
@@ -64,6 +64,7 @@ IsLearnedBelow rows stands numbers i u n =
     (j : ℕ) × ((s : Stand) × (j < i) × (slice_get stands j ≡ Some s) × (commits_before numbers s.entry ≡ true) × (n < handed_on rows s u))
 
 module _ (rows : List (List ℕ)) (stands : List Stand) (numbers : List Number) (i : ℕ) (s : Stand) (here : slice_get stands i ≡ Some s) where
+  -- what is learned from one entry more was learned before, or the entry is a commit before the refused attempt that hands it on
   learned_cases : (u n : ℕ) → IsLearnedBelow rows stands numbers (i + 1) u n → IsLearnedBelow rows stands numbers i u n
       ⊎ ((commits_before numbers s.entry ≡ true) × (n < handed_on rows s u))
   learned_cases u n w = elim (cases_lt w.0 i) [
@@ -74,6 +75,7 @@ module _ (rows : List (List ℕ)) (stands : List Stand) (numbers : List Number) 
         subst (λ (z : Stand). (commits_before numbers z.entry ≡ true) × (n < handed_on rows z u)) same (w.1.3, w.1.4))
   ]
 
+  -- what is learned from the first i entries is learned from one more
   learned_old : (u n : ℕ) → IsLearnedBelow rows stands numbers i u n → IsLearnedBelow rows stands numbers (i + 1) u n
   learned_old u n w = (w.0, (w.1.0, let z = w.1.1 in omega arith, w.1.2, w.1.3, w.1.4))
 
@@ -120,7 +122,7 @@ learned_all rows stands numbers i long known first know u n = (
   ]),
 )
 
--- the race with the greatest number, with one entry more
+-- with one entry more that does not race, the latest race stays
 pub latest_none : (a : Asked) (xs : List Stand) (s : Stand) (o : Option Latest) → race_number a s ≡ None → IsLatest a xs o
     → IsLatest a (xs ++ s ∷ []) o
 latest_none a xs s None none l = λ i r e. elim (at_cases xs s r i e) [
@@ -166,7 +168,7 @@ latest_some a xs s (Some w) p k some place l = by (nat_lt k w.nth) refl
       ],
     )
 
--- and how many there are
+-- with one entry more that does not race, there are as many races as before
 pub count_none : (a : Asked) (xs : List Stand) (s : Stand) → race_number a s ≡ None → length (races_among a (xs ++ s ∷ []))
     ≡ length (races_among a xs)
 count_none a [] s none = rw none refl
@@ -207,6 +209,7 @@ some_counted a (x ∷ xs) (suc i) s k e some = by (is_some (race_number a x)) (s
 -- the causes, with one entry more
 module _ (R : Lists) (rows : List (List ℕ)) (stands : List Stand) (i : ℕ) (s : Stand) (here : slice_get stands i ≡ Some s)
     (causes : List Cause) (so_far : AreFound R rows stands i causes) where
+  -- a cause of a refused one of the first i entries is of a refused one of the first i + 1
   of_more : (e : Cause) → IsOfRefused R rows stands i e → IsOfRefused R rows stands (i + 1) e
   of_more e w = record {
     index = w.index;
@@ -221,6 +224,7 @@ module _ (R : Lists) (rows : List (List ℕ)) (stands : List Stand) (i : ℕ) (s
     found = w.found;
   }
 
+  -- one of the first i + 1 entries is one of the first i, or this one
   same_stand : (k : ℕ) (r : Stand) → k < i + 1 → slice_get stands k ≡ Some r → (k < i) ⊎ (r ≡ s)
   same_stand k r l e = elim (cases_lt k i) [
     | inl lt ↦ inl lt

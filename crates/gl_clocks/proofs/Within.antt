@@ -29,7 +29,7 @@ use Rattle.gl_clocks.specs.ClockLaws.{ClocksPrecede, ClocksInRecord, ClocksAtVar
 use Rattle.gl_clocks.proofs.Locked.{clocks_within, locksets_law, split_at}
 use Rattle.gl_clocks.proofs.Ordered.{list_law, same_now, stands_access}
 
--- a thread that made an event that is not its End runs
+-- what was put for a thread is what it has
 at_own : (old : ℕ → ThreadState) (t : ℕ) (a : ThreadState) → with_at old t a t ≡ a
 at_own old t a = with_here old t a
 
@@ -53,7 +53,7 @@ after_runs setting old new t (Does Input) value may h other = ap (λ (s : State)
 after_runs setting old new t (Does (Fail c)) value may h other = ap (λ (s : State). s.threads t) h.1 ∙ may
 after_runs setting old new t (Commit xs) value may h other = ap (λ (s : State). s.threads t) h ∙ may
 
--- a run up to an event, which is its last
+-- a run along a list has in it the run up to an event that is no End, after which the event's thread runs
 up_to_event : (setting : Setting) (old now : State) (xs : List Stamp) (s : Stamp) (ys : List Stamp) → Run setting old (xs ++ s ∷ ys) now
     → s.event ≢ Does End → (mid : State) × Run setting old (xs ++ s ∷ []) mid × (mid.threads s.thread ≡ Running)
 up_to_event setting old now [] s ys r other =
@@ -209,6 +209,8 @@ variable_at setting h now allowed a is x m le = elim (cases_lt a.block m) [
 module _ (R : Lists) (h : List Stamp) (is_list : IsEventList h R) (rise : PositionsRise R) (c : Place) (a : Access)
     (stands : StandsFor R c a) where
   module _ (d : Place) (xs : List ℕ) (until : ℕ → ℕ) (r : IsRefusedOn R d xs until) where
+    -- an access that is a commit of x among those before the refused one there, or that reaches such a commit, happens before the refused
+    -- one
     by_commit : (x : ℕ) → Contains xs x → IsBehindCommit h a x (until x) → HappensBefore R c d
     by_commit x one (itself vs are on l) = elim stands.kind [
       | inl k ↦ absurd (let z = k.3 in cc)

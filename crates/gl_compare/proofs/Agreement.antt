@@ -61,10 +61,12 @@ module _ (trace : List Step) (all : All IsStep trace) (clean : AreClean trace) (
   abbrev line : Judged → Line
   line judged = record { thread = r.0; item = r.1; judged = judged }
 
+  -- the lines so far with the next one are the steps of the trace up to it
   said_more : (judged : Judged) → steps_of (given.lines ++ line judged ∷ []) ≡ take (k + 1) trace
   said_more judged = steps_push given.lines (line judged) ∙ ap (λ ss. ss ++ r ∷ []) given.said ∙ ap (λ s. take k trace ++ s ∷ []) is
       ∙ sym (take_more trace k r less)
 
+  -- the lines so far with the next one are sound, whatever is said of it
   sound : (judged : Judged) → AreSound (given.lines ++ line judged ∷ [])
   sound judged = front_sound (given.lines ++ line judged ∷ []) trace (drop (k + 1) trace)
       (ap (λ ss. ss ++ drop (k + 1) trace) (said_more judged) ∙ take-append-drop (k + 1) trace) all clean

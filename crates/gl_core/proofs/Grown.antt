@@ -41,12 +41,15 @@ module _ (x : ℕ) (ds : List Draw) (l : Marks) (s : LatestStands x ds l) (d : D
   }
 
   module _ (near : d.thread < THREADS) (e : Epoch) (is : IsEpochOf e d) where
+    -- the plain reads' marks have a place for the epoch's thread
     there : e.thread < length l.reads
     there = let n = s.reads_long in let t = is.thread in omega arith
 
+    -- the commits' marks have a place for the epoch's thread
     there_too : e.thread < length l.parts
     there_too = let n = s.parts_long in let t = is.thread in omega arith
 
+    -- with the draw noted as a read, the marks of its thread are the draw's, and those of each other thread are of its last read as before
     by_read : (u : ℕ) → AreMarksOf (at (set l.reads e.thread (plain_mark e)) u) (at (set l.parts e.thread (commit_mark e)) u)
         (if d.thread == u then Some d else last_read x u ds)
     by_read u = elim (ℕ_discrete d.thread u) [

@@ -105,7 +105,7 @@ only_mark known ms r alone = by (marks_fail known 0 ms) refl
         ]
     by false e = no_mark known ms e r
 
--- the marks of no access
+-- a list of zeros has 0 at each place
 pub zero_at : (n u : ℕ) → at (replicate n 0) u ≡ 0
 zero_at zero u = refl
 zero_at (suc n) zero = refl

@@ -28,6 +28,7 @@ module _ (known : ℕ → ℕ) (latests : List Marks) (reads writes : List ℕ) 
   weaker x none = or_both (write_fails known true (latest_of latests x)) false
       (or_none (write_fails known true (latest_of latests x)) (reads_fail known true (latest_of latests x)) none).0 refl
 
+  -- a commit is not racy on x if what is kept of x does not fail as read, nor as written where the commit writes x
   part : (x : ℕ) → (is_in x writes ≡ true → fails true x ≡ false) → fails false x ≡ false → part_fails known writes latests x ≡ false
   part x written read = by (is_in x writes) refl
     where

@@ -30,12 +30,15 @@ Part xs w e latests y = if is_in y xs then noted w e (latest_of latests y) else 
 
 module _ (items : List ℕ) (i : ℕ) (e : Epoch) (now new : List Marks) (n : i < length items) (w : Bool)
     (is : (y : ℕ) → latest_of new y ≡ (if y == get_or items i 0 then noted w e (latest_of now y) else latest_of now y)) where
+  -- the items from i on are the item at i and those after it
   split : drop i items ≡ get_or items i 0 ∷ drop (i + 1) items
   split = rw add-one (drop-cons items i 0 n)
 
+  -- what is kept of the variable at i has the access noted
   here : (y : ℕ) → y ≡ get_or items i 0 → latest_of new y ≡ noted w e (latest_of now y)
   here y same = is y ∙ ap (λ b. if b then noted w e (latest_of now y) else latest_of now y) (eq-eqb y (get_or items i 0) same)
 
+  -- what is kept of each other variable stays
   there : (y : ℕ) → (y ≡ get_or items i 0 → ⊥) → latest_of new y ≡ latest_of now y
   there y other = is y ∙ ap (λ b. if b then noted w e (latest_of now y) else latest_of now y) (ne_eqb y (get_or items i 0) other)
 

@@ -56,7 +56,7 @@ Stepped t item judged T kept over T' kept' over' =
     (lines : List Line) → AreSound (lines ++ line t item judged ∷ []) → AreVerdicts lines → AreFollowed lines T kept over →
     AreVerdicts (lines ++ line t item judged ∷ []) × AreFollowed (lines ++ line t item judged ∷ []) T' kept' over'
 
--- one line more
+-- where the tables, what is kept and who has ended stand for what one line more leaves, the lines are followed with it
 followed_push : (lines : List Line) (l : Line) (T : Tables) (kept : List Marks) (over : List Bool)
     → AreClocksOf (after_line l (traced lines)).history T
     → ((y : ℕ) → LatestStands y ((after_line l (traced lines)).draws y) (latest_of kept y))
@@ -119,6 +119,7 @@ module _ (s : Traced) (now : State) (r : IsRecorded s now) (t : ℕ) (near : t <
     abbrev D : Bool → Draw
     D raised = draw t (block_of t s) (Entered (plain_entry x write raised s))
 
+    -- if what is kept of x stands for its draws with the access, what is kept of each variable stands for its draws with it
     each : (raised : Bool) → LatestStands x (D raised ∷ s.draws x) (latest_of kept' x) → (y : ℕ)
         → LatestStands y (with_at s.draws x (D raised ∷ s.draws x) y) (latest_of kept' y)
     each raised here y = elim (ℕ_discrete y x) [
@@ -128,6 +129,7 @@ module _ (s : Traced) (now : State) (r : IsRecorded s now) (t : ℕ) (near : t <
           (subst (λ l. LatestStands y (s.draws y) l) (sym (others y o)) (stands y))
     ]
 
+    -- the epoch of the plain access is that of its draw
     epoch : IsEpochOf (plain_epoch t (clocks_in T (Thread t) t)) (D false)
     epoch = record { thread = refl; mark = (let o = own_is in omega arith); commit = refl }
 
@@ -140,6 +142,7 @@ module _ (s : Traced) (now : State) (r : IsRecorded s now) (t : ℕ) (near : t <
     plain_stands (Raised var) d = each true (subst (LatestStands x (D true ∷ s.draws x)) (sym d.2)
         (stays x (s.draws x) (latest_of kept x) (stands x) (D true) (and_not_true write) (and_not_true (not write))))
 
+    -- what is kept of x fails by what the thread knows exactly where the plain access is racy on x
     tells : (raised : Bool) → (latest_fails (clocks_in T (Thread t)) false write (latest_of kept x) ≡ true) ↔ IsRacyNext s.history x
         (s.draws x) t None (plain_entry x write raised s)
     tells raised = subst (λ (C : Clocks). (latest_fails (C (Thread t)) false write (latest_of kept x) ≡ true) ↔ IsRacyNext s.history x
@@ -167,28 +170,34 @@ module _ (s : Traced) (now : State) (r : IsRecorded s now) (t : ℕ) (near : t <
     abbrev looked : ℕ → List Draw
     looked y = with_look (is_in y reads) t (block_of t s) (s.draws y)
 
+    -- what is kept of a variable stands for its draws with the thread's look, if there is one, too
     look_stands : (y : ℕ) (b : Bool) → LatestStands y (with_look b t (block_of t s) (s.draws y)) (latest_of kept y)
     look_stands y true = stays y (s.draws y) (latest_of kept y) (stands y)
         (draw t (block_of t s) (Looked (Rattle.std.specs.Prelude.pos 0))) refl refl
     look_stands y false = stands y
 
+    -- the tables count as many events as the trace
     next_is : T.next ≡ s.tracing.next
     next_is = are.next ∙ sym r.next
 
+    -- the epoch of the commit is that of its draw
     commit_is : IsEpochOf (commit_epoch t T.next) C
     commit_is = record { thread = refl; mark = ap (λ n. n + 1) next_is; commit = refl }
 
+    -- what is kept of a variable, with the commit noted, stands for its draws with the commit's own
     touched : (y : ℕ) → LatestStands y (C ∷ looked y) (noted (is_in y writes) (commit_epoch t T.next) (latest_of kept y))
     touched y = noted_stands y (looked y) (latest_of kept y) (look_stands y (is_in y reads)) C near (commit_epoch t T.next) commit_is
         (is_in y writes) (ap (is_in y) (its_writes reads writes s.tracing.numbers))
         (ap (λ ws. not (is_in y ws)) (its_writes reads writes s.tracing.numbers))
 
+    -- what is kept of a variable, with the commit noted where it touches it, stands for the draws that the commit leaves
     by_touch : (y : ℕ) (b : Bool) → touches reads writes y ≡ b
         → LatestStands y (with_own b t s.tracing.next (commit_entry reads writes s) (looked y)) (if b
         then noted (is_in y writes) (commit_epoch t T.next) (latest_of kept y) else latest_of kept y)
     by_touch y true e = touched y
     by_touch y false e = look_stands y (is_in y reads)
 
+    -- what is kept of a variable stands for the draws that a refused attempt leaves
     refused : (var y : ℕ) (b : Bool) → LatestStands y (with_own b t (block_of t s) (refused_entry reads writes var s) (looked y))
         (latest_of kept y)
     refused var y true = stays y (looked y) (latest_of kept y) (look_stands y (is_in y reads))
@@ -212,6 +221,7 @@ module _ (s : Traced) (now : State) (r : IsRecorded s now) (t : ℕ) (near : t <
         (with_own (touches reads writes y) t (block_of t s) (refused_entry reads writes var s) (looked y)) (latest_of ls y)) (sym d.1)
         (refused var y (touches reads writes y))
 
+    -- of the variables that the commit touches, its entry writes exactly those that are among its writes
     part_writes : (judged : Judged) (y : ℕ) → Contains (with_all writes reads) y
         → (is_in y writes ≡ true) ↔ Writes (entered (CommitsOn reads writes) judged s) y
     part_writes judged y c =
@@ -221,6 +231,7 @@ module _ (s : Traced) (now : State) (r : IsRecorded s now) (t : ℕ) (near : t <
     abbrev fails_on : ℕ → Bool
     fails_on = part_fails (taken (clocks_in T) (record { thread = t; event = Commits (with_all writes reads) })) writes kept
 
+    -- what is kept of a variable that the commit touches fails exactly where the commit is racy on it
     tells_part : (judged : Judged) (y : ℕ) → Contains (with_all writes reads) y
         → (fails_on y ≡ true) ↔ IsRacyNext s.history y (s.draws y) t (Some (with_all writes reads))
         (entered (CommitsOn reads writes) judged s)

@@ -18,9 +18,11 @@ module _ (h : List Stamp) (s : Stamp) (C C1 C2 : Clocks) (n : ℕ) (same : (y : 
     → C1 y u ≡ (if is_released s.event y then max (C y u) (by u) else C y u))
     (q : (u : ℕ) → own u ≡ (if u == s.thread then n + 2 else by u)) (p : (y : Element) (u : ℕ) → C2 y u
     ≡ (if is_thread s.thread y then own u else C1 y u)) where
+  -- what the event hands on is what its rule says
   by_is : (u : ℕ) → by u ≡ handed C n s u
   by_is u = b u ∙ ap (λ z. if u == s.thread then n + 1 else z) (k u)
 
+  -- what the event's thread knows after it is what its rule says
   own_is : (u : ℕ) → own u ≡ kept C n s u
   own_is u = q u ∙ ap (λ z. if u == s.thread then n + 2 else z) (b u) ∙ here (u == s.thread)
       ∙ ap (λ z. if u == s.thread then n + 2 else z) (k u)
@@ -29,6 +31,7 @@ module _ (h : List Stamp) (s : Stamp) (C C1 C2 : Clocks) (n : ℕ) (same : (y : 
       here true = refl
       here false = refl
 
+  -- what each element knows after the event is what its rule says
   after_is : (y : Element) (u : ℕ) → C2 y u ≡ after_event C n s y u
   after_is y u = p y u ∙ ap (λ z. if is_thread s.thread y then z else C1 y u) (own_is u)
       ∙ ap (λ z. if is_thread s.thread y then kept C n s u else z) (r y u

@@ -55,7 +55,7 @@ none_fail k p c n ep ec e = elim (or_cases (nat_lt k p) (not n && nat_lt k c) e)
   | inr a ↦ (let z = none_unknown k c ec in let y = (and_both (not n) (nat_lt k c) a).1 in cc)
 ]
 
--- some thread's read is unknown, or none is
+-- where the reads fail, those of some thread do
 read_at : (known : ℕ → ℕ) (n : Bool) (reads parts : List ℕ) → (marks_fail known 0 reads || (not n && marks_fail known 0 parts)) ≡ true
     → (t : ℕ) × ((nat_lt (known t) (at reads t) || (not n && nat_lt (known t) (at parts t))) ≡ true)
 read_at known n reads parts e = elim (or_cases (marks_fail known 0 reads) (not n && marks_fail known 0 parts) e) [
@@ -92,6 +92,7 @@ placed_access h x ds all d among =
 
 module _ (setting : Setting) (h : List Stamp) (now : State) (allowed : Allows setting h now) (u : ℕ) (running : now.threads u ≡ Running)
     (x : ℕ) (ds : List Draw) (all : DrawsHold h x ds) where
+  -- what thread u knows for its next access has passed an access exactly where that happens before the next one
   known_means : (v : Option (List ℕ)) (a : Access) → IsAccessOf h a → (tick a < known_next h u v a.thread) ↔ HappensBeforeNext h a u v
   known_means None a is = (list_law setting h now allowed a is u running).0
   known_means (Some xs) a is = (list_law setting h now allowed a is u running).1 xs
@@ -99,9 +100,11 @@ module _ (setting : Setting) (h : List Stamp) (now : State) (allowed : Allows se
   -- the marks p and c of the draw d, whose thread is w, against a next access
   module _ (v : Option (List ℕ)) (f : Entry) (next : IsNextOn x v f) (w p c : ℕ) (d : Draw) (of : w ≡ d.thread)
       (marks : AreMarksOf p c (Some d)) (among : Among ds d) where
+    -- what is known of w is what is known of the draw's thread
     same : known_next h u v w ≡ known_next h u v d.thread
     same = ap (known_next h u v) of
 
+    -- if not both are commits, the draw or the next access is plain
     plain_one : (v : Option (List ℕ)) → IsNextOn x v f → (is_commit v ≡ true → is_some (variables_in d.what) ≡ true → ⊥) → OneIsPlain d f
     plain_one None n none g made q = inr n
     plain_one (Some xs) n none g made q = elim (kinds g q) [
@@ -109,6 +112,7 @@ module _ (setting : Setting) (h : List Stamp) (now : State) (allowed : Allows se
       | inr k ↦ absurd (none refl (ap (λ z. is_some (variables_in z)) (made ∙ ap Entered k.2)))
     ]
 
+    -- if the marks fail, the draw does not come before the next access, and one of the two is plain
     fail_means : (nat_lt (known_next h u v w) p || (not (is_commit v) && nat_lt (known_next h u v w) c)) ≡ true → (ComesBefore h u v d → ⊥)
         × OneIsPlain d f
     fail_means g =
@@ -118,6 +122,7 @@ module _ (setting : Setting) (h : List Stamp) (now : State) (allowed : Allows se
           plain_one v next k.0,
         )
 
+    -- if both are commits, the draw comes before the next access
     both_commits : (v : Option (List ℕ)) → IsNextOn x v f → is_commit v ≡ true → is_some (variables_in d.what) ≡ true → ComesBefore h u v d
     both_commits None n a b = absurd (cc)
     both_commits (Some xs) n a b =
@@ -131,6 +136,7 @@ module _ (setting : Setting) (h : List Stamp) (now : State) (allowed : Allows se
           other = n;
         })))
 
+    -- if the marks do not fail, the draw comes before the next access
     pass_means : (nat_lt (known_next h u v w) p || (not (is_commit v) && nat_lt (known_next h u v w) c)) ≡ false → ComesBefore h u v d
     pass_means g = elim (marks_false (known_next h u v w) p c (tick (access_of d)) (is_some (variables_in d.what)) (is_commit v) marks.0
         marks.1 g) [
@@ -142,12 +148,14 @@ module _ (setting : Setting) (h : List Stamp) (now : State) (allowed : Allows se
     abbrev Test : ℕ → ℕ → ℕ → Bool
     Test w p c = nat_lt (known_next h u v w) p || (not (is_commit v) && nat_lt (known_next h u v w) c)
 
+    -- marks that fail are those of some draw, which does not come before the next access, and one of the two is plain
     some_fail : (w p c : ℕ) (od : Option Draw) → ((d : Draw) → od ≡ Some d → w ≡ d.thread) → AreMarksOf p c od
         → ((d : Draw) → od ≡ Some d → Among ds d) → (nat_lt (known_next h u v w) p || (not (is_commit v) && nat_lt (known_next h u v w) c))
         ≡ true → (d : Draw) × (od ≡ Some d) × ((ComesBefore h u v d → ⊥) × OneIsPlain d f)
     some_fail w p c None of marks among g = absurd (none_fail (known_next h u v w) p c (is_commit v) marks.0 marks.1 g)
     some_fail w p c (Some d) of marks among g = (d, refl, fail_means v f next w p c d (of d refl) marks (among d refl) g)
 
+    -- if marks do not fail, the draw that they are of, if any, comes before the next access
     some_pass : (w p c : ℕ) (od : Option Draw) → ((d : Draw) → od ≡ Some d → w ≡ d.thread) → AreMarksOf p c od
         → ((d : Draw) → od ≡ Some d → Among ds d) → (nat_lt (known_next h u v w) p || (not (is_commit v) && nat_lt (known_next h u v w) c))
         ≡ false → (d : Draw) → od ≡ Some d → ComesBefore h u v d

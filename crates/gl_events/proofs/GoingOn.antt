@@ -14,6 +14,7 @@ use Rattle.gl_events.specs.Answers.{MayCall}
 use Rattle.gl_events.specs.Calls.{life_for}
 use Rattle.gl_events.specs.declared.call.Call.{Call}
 
+-- the life after two lists is the life after the second, from that after the first
 life_appended : (life : Life) (xs ys : List Entry) → life_from life (xs ++ ys) ≡ life_from (life_from life xs) ys
 life_appended life [] ys = refl
 life_appended life (x ∷ xs) ys = life_appended (life_after life x) xs ys

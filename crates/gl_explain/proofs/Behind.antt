@@ -72,7 +72,7 @@ module _ (kept : List Kept) (t known i : ℕ) where
   pub passed_near : IsPassed kept t known i → i < length kept
   passed_near (q, here, is) = slice_get_within kept i q here
 
--- what lines that were taken say
+-- the steps of lines that were kept have items of lines
 pub steps_near : (kept : List Kept) → ((i : ℕ) (k : Kept) → slice_get kept i ≡ Some k → IsLineItem k.told.item) → (i : ℕ) (s : Step)
     → slice_get (map step_of (told_of kept)) i ≡ Some s → IsLineItem s.1
 steps_near kept all i s at =
@@ -81,7 +81,7 @@ steps_near kept all i s at =
     let is : n.0.told.item ≡ s.1 = ap (λ (t : Told). t.item) n.2 ∙ ap (λ (r : Step). r.1) m.2 in
     subst IsLineItem is (all i n.0 n.1)
 
--- the lines before a place
+-- what stands among the first n of a list stands at the same place in the list
 pub get_taken : {A : Type 0} (n : ℕ) (xs : List A) (i : ℕ) (x : A) → slice_get (take n xs) i ≡ Some x → slice_get xs i ≡ Some x
 get_taken zero xs i x at = absurd (cc)
 get_taken (suc n) [] i x at = absurd (cc)

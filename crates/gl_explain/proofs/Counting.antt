@@ -39,7 +39,7 @@ pub last_all : (P : ℕ → Type 0) (n : ℕ) (o : Option ℕ) → ((i : ℕ) �
 last_all P n None near last = λ i p. last i (near i p) p
 last_all P n (Some j) near last = (last.1, λ i less p. last.2 i less (near i p) p)
 
--- what holds of the same numbers
+-- the last number with a property is the last with an equal one
 pub last_same : (P Q : ℕ → Type 0) (o : Option ℕ) → ((i : ℕ) → P i ↔ Q i) → IsLastOf P o → IsLastOf Q o
 last_same P Q None same last = λ i q. last i ((same i).1 q)
 last_same P Q (Some j) same last = ((same j).0 last.0, λ i less q. last.1 i less ((same i).1 q))
@@ -60,7 +60,7 @@ counts_some P n c (not_one m d counts never) j near p =
       | inr over ↦ absurd (let same : j ≡ m = omega arith in never (subst P same p))
     ]
 
--- a line at its place
+-- what a list has at a place within it stands there
 pub known_at : {A : Type 0} (kept : List A) (i : ℕ) (k : A) → i < length kept → k ≡ get_or kept i k → slice_get kept i ≡ Some k
 known_at kept i k near is = slice_get-get_or kept i k near ∙ ap Some (sym is)
 

@@ -33,9 +33,11 @@ module _ (kept : List Kept) (next : Told) (sound : AreSound (lines_of (told_of k
   abbrev lines : List Line
   lines = lines_of (told_of kept)
 
+  -- the first i lines are those of the first i of what was told
   front : (i : ℕ) → take i lines ≡ lines_of (take i before)
   front i = take-map line_of i before
 
+  -- what the next line's thread knows has passed an access exactly where the access happens before the next one
   by_law : (a : Access) → IsAccessOf (history lines) a → (v : Option (List ℕ))
       → (tick a < known_next (history lines) next.thread v a.thread) ↔ HappensBeforeNext (history lines) a next.thread v
   by_law a there None = let n = thread_runs lines (line_of next) sound

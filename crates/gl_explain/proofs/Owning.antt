@@ -21,7 +21,7 @@ pub record AreOwnedBelow (holders : List Hold) (t n : ℕ) (monitors : List ℕ)
   pub rises : Rises monitors
   pub each : (m : ℕ) → Contains monitors m ↔ ((m < n) × (is_held_by t (slice_index_or holders m None) ≡ true))
 
--- a set that rises, with one more
+-- what holds of all of a list, and of one more, holds of all of the list with that put last
 all_push : (P : ℕ → Type 0) (xs : List ℕ) (x : ℕ) → AllByRecursion P xs → P x → AllByRecursion P (xs ++ x ∷ [])
 all_push P [] x all p = (p, tt)
 all_push P (y ∷ xs) x all p = (all.0, all_push P xs x all.1 p)

@@ -33,7 +33,7 @@ use Rattle.gl_explain.specs.Told.{line_of, lines_of}
 use Rattle.gl_explain.proofs.Behind.{map_at}
 use Rattle.gl_explain.proofs.Taken.{IsSaidOf, thread_runs}
 
--- what is rightly said of the last line
+-- the lists behind lines with one more are those that the last line leaves
 behind : (lines : List Line) (l : Line) → lists_behind (lines ++ l ∷ []) ≡ (after_line l (traced lines)).tracing.lists
 behind lines l = sym (lists_are (lines ++ l ∷ [])) ∙ ap (λ (z : Traced). z.tracing.lists) (traced_push lines l)
 
@@ -66,13 +66,16 @@ module _ (s : Traced) (now : State) (r : IsRecorded s now) (t : ℕ) (running : 
   abbrev Next : Item → ℕ → Type 0
   Next item var = Accesses item var × IsRacyNext s.history var (s.draws var) t (commit_of item) (entered item (Raised var) s)
 
+  -- an entry that is racy at the last place of its thread's list is racy at the place where the list ended before it
   moved : (e : Entry) (y : ℕ) → IsRacy (with_entry s.tracing.lists t e) (last_place (with_entry s.tracing.lists t e) t) y
       → IsRacy (with_entry s.tracing.lists t e) (end_place s.tracing.lists t) y
   moved e y racy = subst (λ c. IsRacy (with_entry s.tracing.lists t e) c y) (last_is s.tracing.lists t e) racy
 
+  -- the entry that is put last stands at the last place of its thread's list
   entry_there : (e : Entry) → EntryAt (with_entry s.tracing.lists t e) (last_place (with_entry s.tracing.lists t e) t) e
   entry_there e = subst (λ c. EntryAt (with_entry s.tracing.lists t e) c e) (sym (last_is s.tracing.lists t e)) (there s.tracing.lists t e)
 
+  -- if a line is rightly raised on a variable, it accesses the variable and is racy on it as the next access
   next_racy : (item : Item) (var : ℕ) → IsJudgedRightly (after_item t item (Raised var) s).tracing.lists
       (last_place (after_item t item (Raised var) s).tracing.lists t) item (Raised var) → Next item var
   next_racy (Acts act) var j = absurd (cc)
@@ -87,6 +90,7 @@ module _ (s : Traced) (now : State) (r : IsRecorded s now) (t : ℕ) (running : 
       ∙ racy_refused_on s now r t running reads writes var var (moved e var j.0)) in
       (a, (item_alike s now r t running (CommitsOn reads writes) (Raised var) e (entry_there e) var a).0 j.0)
 
+  -- a line whose entry is plain is no commit
   plain_entered : (item : Item) (judged : Judged) → IsPlain (entered item judged s) → commit_of item ≡ None
   plain_entered (Acts act) judged p = refl
   plain_entered (AccessTo x write) judged p = refl

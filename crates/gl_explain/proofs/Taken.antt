@@ -38,7 +38,7 @@ use Rattle.gl_explain.specs.declared.told.Kept.{Kept}
 use Rattle.gl_explain.specs.Marks.{plain_behind, IsMarked, IsPlacedIn, IsOfLine, AreOfLines, AreKept}
 use Rattle.gl_explain.specs.Told.{line_of, lines_of, told_of}
 
--- the list of events only grows
+-- what stands at a place of a list stands there with more put after
 get_grown : {A : Type 0} (xs more : List A) (i : ℕ) (x : A) → slice_get xs i ≡ Some x → slice_get (xs ++ more) i ≡ Some x
 get_grown [] more i x e = absurd (cc)
 get_grown (y ∷ xs) more zero x e = e
@@ -87,7 +87,7 @@ placed_grown lines l before m p =
       access = λ e. access_grown (history lines) more.0 (access_at before m) (p.access e);
     })
 
--- a draw of one of the lines, with one line more
+-- a draw that was made by one of the lines was made by one of them with one more
 of_line_grown : (lines : List Line) (l : Line) (x : ℕ) (d : Draw) (e : Entry) → IsOfLine lines x d e → IsOfLine (lines ++ l ∷ []) x d e
 of_line_grown lines l x d e o =
     let near = slice_get_within lines o.place o.line o.there in
@@ -113,7 +113,7 @@ IsSaidOf (CommitsOn reads writes) NoAccess = ⊥
 IsSaidOf (CommitsOn reads writes) Performed = Unit {0}
 IsSaidOf (CommitsOn reads writes) (Raised var) = Unit {0}
 
--- the draw of an access, and which entry it was made for
+-- a draw for one entry is for no other
 entry_is : (t q : ℕ) (d : Draw) (e f : Entry) → d ≡ draw t q (Entered f) → d.what ≡ Entered e → f ≡ e
 entry_is t q d e f is what = let same : Entered f ≡ Entered e = sym (ap (λ (z : Draw). z.what) is) ∙ what in cc
 
@@ -146,6 +146,7 @@ attempt_news t q p e ds false false d old = inl old
 
 -- a draw of the line that was just taken
 module _ (lines : List Line) (l : Line) where
+  -- of the lines with one more the first, as many as there were, are those that there were
   whole : take (length lines) (lines ++ l ∷ []) ≡ lines
   whole = take-append-le (length lines) lines (l ∷ []) (omega arith) ∙ take_all (length lines) lines (omega arith)
 
@@ -169,6 +170,7 @@ module _ (lines : List Line) (t : ℕ) (now : _) (r : IsRecorded (traced lines) 
   abbrev Goal : Item → Judged → Type 0
   Goal item judged = AreOfLines (lines ++ line item judged ∷ []) (after_item t item judged (traced lines)).draws
 
+  -- a draw of a performed access before the line was made by one of the lines with it
   kept_old : (item : Item) (judged : Judged) (x : ℕ) (d : Draw) (e : Entry) → Among (draws_of lines x) d → d.what ≡ Entered e
       → IsPerformed e → IsOfLine (lines ++ line item judged ∷ []) x d e
   kept_old item judged x d e among what performed = of_line_grown lines (line item judged) x d e (old x d e among what performed)
@@ -176,6 +178,7 @@ module _ (lines : List Line) (t : ℕ) (now : _) (r : IsRecorded (traced lines) 
   abbrev D : ℕ → Bool → Bool → Draw
   D x write raised = draw t (block_of t (traced lines)) (Entered (plain_entry x write raised (traced lines)))
 
+  -- with a performed plain access more, each draw of a performed access was made by one of the lines
   plain_made : (x : ℕ) (write : Bool) → Goal (AccessTo x write) Performed
   plain_made x write y d e among what performed = elim (plain_news (draws_of lines) x y (D x write false) d among) [
     | inl before ↦ kept_old (AccessTo x write) Performed y d e before what performed
@@ -185,6 +188,7 @@ module _ (lines : List Line) (t : ℕ) (now : _) (r : IsRecorded (traced lines) 
         (λ w. (subst (λ f. Writes f y) (sym is) w).1) (λ p. refl))
   ]
 
+  -- with a raised plain access more, each draw of a performed access was made by one of the lines
   plain_raised : (x : ℕ) (write : Bool) (var : ℕ) → Goal (AccessTo x write) (Raised var)
   plain_raised x write var y d e among what performed = elim (plain_news (draws_of lines) x y (D x write true) d among) [
     | inl before ↦ kept_old (AccessTo x write) (Raised var) y d e before what performed
@@ -193,6 +197,7 @@ module _ (lines : List Line) (t : ℕ) (now : _) (r : IsRecorded (traced lines) 
         let raised : true ≡ false = subst IsPerformed (sym is) performed in absurd (cc))
   ]
 
+  -- with an act more, each draw of a performed access was made by one of the lines
   act_made : (act : Act) (judged : Judged) → Goal (Acts act) judged
   act_made act judged x d e among what performed =
       kept_old (Acts act) judged x d e (subst (λ (ds : ℕ → List Draw). Among (ds x) d) (act_more t act (traced lines)).2 among) what
@@ -202,6 +207,7 @@ module _ (lines : List Line) (t : ℕ) (now : _) (r : IsRecorded (traced lines) 
     abbrev C : Draw
     C = draw t (traced lines).tracing.next (Entered (commit_entry reads writes (traced lines)))
 
+    -- with a performed commit more, each draw of a performed access was made by one of the lines
     commit_made : Goal (CommitsOn reads writes) Performed
     commit_made y d e among what performed =
         let s = traced lines in
@@ -220,6 +226,7 @@ module _ (lines : List Line) (t : ℕ) (now : _) (r : IsRecorded (traced lines) 
               (λ p. absurd (subst IsPlain (sym is) p)))
         ]
 
+    -- with a refused commit more, each draw of a performed access was made by one of the lines
     commit_refused : (var : ℕ) → Goal (CommitsOn reads writes) (Raised var)
     commit_refused var y d e among what performed =
         let s = traced lines in
@@ -246,6 +253,7 @@ module _ (lines : List Line) (l : Line) (sound : AreSound (lines ++ l ∷ [])) w
   thread_runs = let k = sound_traced lines (sound_front lines l sound)
       in (k.0, (k.1.recorded, runs (steps_of lines) k.0 k.1.state l.thread (last_runs lines l sound)))
 
+  -- a plain access that the line's thread makes behind the lines is an access of their history
   plain_placed : IsAccessOf (history lines) (plain_behind lines l.thread)
   plain_placed =
       let n = thread_runs in
@@ -258,6 +266,7 @@ module _ (lines : List Line) (l : Line) (sound : AreSound (lines ++ l ∷ [])) w
         commit = λ xs e. absurd (cc);
       }
 
+  -- a plain access that the line's thread makes behind the lines is an access of the history with the line
   plain_grown : IsAccessOf (history (lines ++ l ∷ [])) (plain_behind lines l.thread)
   plain_grown = let more = history_more lines l
       in subst (λ h. IsAccessOf h (plain_behind lines l.thread)) (sym more.1)
@@ -277,9 +286,11 @@ module _ (lines : List Line) (t : ℕ) (reads writes : List ℕ) where
   abbrev stamp : Stamp
   stamp = record { thread = t; event = Commits (with_all writes reads) }
 
+  -- a performed commit puts its event behind the history
   commit_history : history (lines ++ made ∷ []) ≡ history lines ++ stamp ∷ []
   commit_history = ap (λ (s : Traced). s.history) (traced_push lines made)
 
+  -- a performed commit is an access of the history with it
   commit_placed : IsAccessOf (history (lines ++ made ∷ [])) (access_at lines made)
   commit_placed = subst (λ h. IsAccessOf h (access_at lines made)) (sym commit_history) (record {
     event = stamp;
@@ -295,7 +306,7 @@ module _ (lines : List Line) (t : ℕ) (reads writes : List ℕ) where
       (λ q r at own. let near = slice_get_within (history lines ++ stamp ∷ []) q r at
       in omega (arith, length-append (history lines) (stamp ∷ []))))
 
--- the accesses of the line that was just taken
+-- the line that was just taken has its accesses in the history with it
 placed_last : (lines : List Line) (t : ℕ) (item : Item) (judged : Judged)
     → AreSound (lines ++ record { thread = t; item = item; judged = judged } ∷ [])
     → IsPlacedIn (history (lines ++ record { thread = t; item = item; judged = judged } ∷ [])) lines
@@ -326,9 +337,11 @@ module _ (lines : List Line) (kept : List Kept) (k : Kept) (sound : AreSound (li
   abbrev more : List Line
   more = lines ++ line_of k.told ∷ []
 
+  -- as many lines are kept as there are
   kept_length : length kept ≡ length lines
   kept_length = sym (length-map kept (λ (q : Kept). q.told)) ∙ sym (length-map (told_of kept) line_of) ∙ ap length are.lines_are
 
+  -- the first lines, at most all that there were, are the same with one more
   front : (i : ℕ) → i ≤ length lines → take i more ≡ take i lines
   front i le = take-append-le i lines (line_of k.told ∷ []) (omega arith)
 

@@ -26,7 +26,7 @@ pub both : (a b : Bool) (P Q : Type 0) → IsTrue a ↔ P → IsTrue b ↔ Q →
 both true b P Q p q = (λ t. (p.0 refl, q.0 t), λ w. q.1 w.1)
 both false b P Q p q = (λ t. absurd (cc), λ w. absurd (let n = p.1 w.0 in cc))
 
--- what is equivalent to what a test says
+-- a test that says one thing says what is equivalent to it
 pub same_test : (b : Bool) (P Q : Type 0) → IsTrue b ↔ P → (P → Q) → (Q → P) → IsTrue b ↔ Q
 same_test b P Q p to back = (λ t. to (p.0 t), λ q. p.1 (back q))
 

@@ -14,7 +14,7 @@ use Rattle.gl_places.specs.Places.{Before, IsFirstBy, seen}
 use Rattle.gl_flat.specs.Words.{FlatHolds, LookFailsAt, LooksHold, WordFailsFirst, WordsHold}
 use Rattle.gl_flat.proofs.OneHistory.{first_word_law, legal_law}
 
--- where the flat history holds, the first wrong look is the first wrong word
+-- where the flat history holds, the first wrong look is the first wrong word, and where no look is wrong, all words hold
 both_found : (R : Lists) → FlatHolds R → (found : Option StoredPlace) →
     MatchOption found (LooksHold R) (λ c. IsFirstBy Before (LookFailsAt R) (seen c)) →
     MatchOption found (WordsHold R) (λ c. WordFailsFirst R (seen c))

@@ -96,6 +96,7 @@ module _ (P : Bytecode) (steps t : ℕ) where
   leads more back rest same = record { back = without_trims back; same = ap without_trims same ∙ without_trims-append more back }
 
   module _ (front rest : List Entry) (p : Progress) (f : Follows P steps t front rest p) (few : touched p ≤ TX_VARIABLES) where
+    -- the entries of a way past the front of what is left have right beginnings
     way_right : (more back : List Entry) (q : Progress) → rest ≡ more ++ back → (way : Reaches P p (without_trims more) q)
         → EachBeginsRight P (entries_of way.exchanges)
     way_right more back q same way =
@@ -194,6 +195,7 @@ module _ (P : Bytecode) (steps t : ℕ) where
       (e : Entry) (rest more : List Entry) (p q r : Progress) → (IsTrim e → ⊥) → quiet_for p (e ∷ rest) (ask_of p.config.stage) ≡ None →
       told_one P (Made e) p ≡ Some q → Begun P p (e ∷ rest) (without_trims (e ∷ more)) r → Reaches P q (without_trims more) r
   rest_entry e rest more p q r not none first b = by_first b.first where
+    -- the way begins by no silent reply, so its rest leads on from q
     by_first : Quietly P p (e ∷ rest) (without_trims (e ∷ more)) r ⊎ ByEntry P p (e ∷ rest) (without_trims (e ∷ more)) r
         → Reaches P q (without_trims more) r
     by_first (inl w) = (let chosen = w.chosen in cc)
@@ -227,6 +229,7 @@ module _ (P : Bytecode) (steps t : ℕ) where
         (let w = f.over (e ∷ more) back r ending (ap (λ l. e ∷ l) same) (along_of more r along) over in
         to_end more r (begun_over front (e ∷ rest) p f few (e ∷ more) back r ending (ap (λ l. e ∷ l) same) w over));
   } where
+    -- a way along the front with e behind it, and more, is one along the front, with e and more behind it
     along_of : (more : List Entry) (r : Progress) → Along P steps t ((front ++ e ∷ []) ++ more) r → Along P steps t (front ++ (e ∷ more)) r
     along_of more r along = subst (λ l. Along P steps t l r) (behind_one front e more) along
 
@@ -256,6 +259,7 @@ module _ (P : Bytecode) (steps t : ℕ) where
     over = λ more back r ending same along over.
         f.over (Trim low ∷ more) back r ending (ap (λ l. Trim low ∷ l) same) (along_of more r along) over;
   } where
+    -- a way along the front with the trim behind it, and more, is one along the front, with the trim and more behind it
     along_of : (more : List Entry) (r : Progress) → Along P steps t ((front ++ Trim low ∷ []) ++ more) r
         → Along P steps t (front ++ (Trim low ∷ more)) r
     along_of more r along = subst (λ l. Along P steps t l r) (behind_one front (Trim low) more) along

@@ -31,7 +31,7 @@ front_within : (front rest : List Entry) → length front ≤ length (front ++ r
 front_within [] rest = omega arith
 front_within (e ∷ front) rest = (let more = front_within front rest in omega arith)
 
--- a longer beginning
+-- a beginning that is longer than the front is the front and then some of the rest
 take_longer : (front rest : List Entry) (m : ℕ) → length front < m → (k : ℕ) × (take m (front ++ rest) ≡ front ++ take (suc k) rest)
 take_longer [] rest zero less = absurd (omega arith)
 take_longer [] rest (suc m) less = (m, refl)
@@ -44,7 +44,7 @@ take_back zero es = refl
 take_back (suc k) [] = refl
 take_back (suc k) (e ∷ es) = ap (λ l. e ∷ l) (take_back k es)
 
--- the last parts of two lists
+-- two lists that are the same with one put last are the same, and so are the two that were put last
 last_same : (xs ys : List Entry) (e f : Entry) → xs ++ e ∷ [] ≡ ys ++ f ∷ [] → (xs ≡ ys) × (e ≡ f)
 last_same [] [] e f is = (refl, cc)
 last_same [] (y ∷ []) e f is = cc
@@ -57,7 +57,7 @@ last_same (x ∷ xs) (y ∷ ys) e f is =
     let more = last_same xs ys e f tails in
     (ap (λ h. h ∷ xs) heads ∙ ap (λ l. y ∷ l) more.0, more.1)
 
--- the last of what stands behind a front
+-- where a front, an entry and a rest are a list with one put last, that is the entry, or it is the last of the rest
 behind_front : (front rest base : List Entry) (e f : Entry) → front ++ (e ∷ rest) ≡ base ++ f ∷ []
     → ((rest ≡ []) × (base ≡ front) × (e ≡ f)) ⊎ ((more : List Entry) × (rest ≡ more ++ f ∷ []) × (base ≡ front ++ (e ∷ more)))
 behind_front [] [] [] e f is = inl (refl, refl, cc)
@@ -147,6 +147,7 @@ module _ (P : Bytecode) (steps t : ℕ) where
       by_begun (inl none) = (let some = entry in cc)
       by_begun (inr (q, b)) = none_begins (without_trims (e ∷ more)) q head (λ none. absurd (cc)) b
 
+    -- no longer beginning of the list than the front is made
     longest : (m : ℕ) → length front < m → m ≤ length (front ++ rest) → IsMadeUpTo P steps t (front ++ rest) m → ⊥
     longest m less within (r, along) = by_rest rest refl where
       parts : (k : ℕ) × (take m (front ++ rest) ≡ front ++ take (suc k) rest)

@@ -151,6 +151,7 @@ module _ (P : Bytecode) (steps t : ℕ) (es : List Entry) where
       → (length es - (n + k)) + answers_left q.config < (length es - n) + answers_left p.config
   turn_falls p q n k a (inl (none, g)) = (let less = one_falls P (Quiet g.reply) p q a.can.orderly g.first in omega (arith, none))
   turn_falls p q n k a (inr (one, g)) = by_way g.passes where
+    -- the list has an entry at n
     less : n < length es
     less = less_by es n g.entry g.later g.same
 

@@ -75,7 +75,7 @@ numeral_decimal n small = ((decimal_is_IsNumeral n (omega arith)).0.0, of_digits
 pub few_digits : (n : ℕ) → pos n ≤ℤ MOST_VALUE → n < 10 ^ 19
 few_digits n high = omega (arith, ints)
 
--- nor has one below 0 that is no less than the least value, its sign aside
+-- and one below 0 that is no less than the least value has, its sign aside, at most 19 digits
 few_digits_below : (n : ℕ) → LEAST_VALUE ≤ℤ negsuc n → suc n < 10 ^ 19
 few_digits_below n low = omega (arith, ints)
 

@@ -25,6 +25,7 @@ use Rattle.gl_judge.specs.Standing.{InfosStand, StandsFor, AsksFor}
 
 module _ (setting : Setting) (h : List Stamp) (x : ℕ) (ds : List Draw) (row : Row) (question : Question)
     (s : StandsFor setting h x ds row question.thread) (f : Entry) (asks : AsksFor question f x) where
+  -- if an Info of the row fails, the access is racy
   racy : SomeFails h row question → IsRacyNext h x ds question.thread question.commit f
   racy = next_fails_racy setting h s.now s.allowed question.thread s.running x ds s.holds row s.stands question refl f asks.kind
       asks.writes.0

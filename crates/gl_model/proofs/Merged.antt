@@ -20,6 +20,7 @@ right_alone left right ys y l r rises =
     rw (l, r) (stays_first ys y [] below)
 
 module _ (left right xs ys : List ℕ) (x y : ℕ) (l : left ≡ x ∷ xs) (r : right ≡ y ∷ ys) (rises : Rises right) where
+  -- all that are put in behind y are above y
   below : AllByRecursion (λ z. y < z) ys
   below = (rw r at rises).0
 
@@ -53,6 +54,7 @@ pub All-with_all : (P : ℕ → Type 0) (xs ys : List ℕ) → AllByRecursion P 
 All-with_all P [] ys all others = others
 All-with_all P (x ∷ xs) ys all others = All-with_all P xs (with_one x ys) all.1 (All-with_one P x ys all.0 others)
 
+-- if the list into which others are put rises, so does the whole
 pub Rises-with_all : (xs ys : List ℕ) → Rises ys → Rises (with_all xs ys)
 Rises-with_all [] ys rises = rises
 Rises-with_all (x ∷ xs) ys rises = Rises-with_all xs (with_one x ys) (Rises-with_one x ys rises)

@@ -21,12 +21,15 @@ pub record Placed {A : Type 0} (key : A → ℕ) (x : ℕ) (xs : List A) (i : �
   pub here : (d : A) → i < length xs → x ≤ key (get_or xs i d)
 
 module _ {A : Type 0} (key : A → ℕ) (p : A) where
+  -- a part whose variable is below that of the first is put before it
   with_part-above : (q : A) (qs : List A) → key p < key q → with_part key p (q ∷ qs) ≡ p ∷ (q ∷ qs)
   with_part-above q qs l = grind (arith, nat_tests)
 
+  -- a part whose variable is above that of the first is put into the rest
   with_part-below : (q : A) (qs : List A) → key q < key p → with_part key p (q ∷ qs) ≡ q ∷ with_part key p qs
   with_part-below q qs l = grind (arith, nat_tests)
 
+  -- a part with the variable of the first takes its place
   with_part-same : (q : A) (qs : List A) → key q ≡ key p → with_part key p (q ∷ qs) ≡ p ∷ qs
   with_part-same q qs e = grind (arith, nat_tests)
 
@@ -50,6 +53,7 @@ module _ {A : Type 0} (key : A → ℕ) (p : A) where
       rw (with_part-below x xs (below zero p (omega arith)))
       (ap (λ zs. x ∷ zs) (with_part-at xs i (omega arith) (λ k d l. below (suc k) d (omega arith)) (λ d l. above d (omega arith))))
 
+  -- where the list has a part of the variable at i and lower ones before it, putting the part in is setting it at i
   with_part-there : (xs : List A) (i : ℕ) → i < length xs → ((k : ℕ) (d : A) → k < i → key (get_or xs k d) < key p) → key (get_or xs i p)
       ≡ key p → set xs i p ≡ with_part key p xs
   with_part-there [] i n below here = absurd (omega arith)
@@ -60,6 +64,7 @@ module _ {A : Type 0} (key : A → ℕ) (p : A) where
 
   -- the parts stand at the head of an array
   module _ (parts : List A) (len i : ℕ) (long : len ≤ length parts) (placed : Placed key (key p) (take len parts) i) where
+    -- the head of the array has len parts
     head : length (take len parts) ≡ len
     head = length-take-le len parts long
 
@@ -72,6 +77,7 @@ module _ {A : Type 0} (key : A → ℕ) (p : A) where
     pub otherwise : (at d : A) → i < len → key (get_or parts i at) ≢ key p → key (get_or parts i d) ≢ key p
     otherwise at d l other same = other (ap key (get_or_default parts i at d (omega arith)) ∙ same)
 
+    -- if the part at i has another variable, that is above the part's
     above_here : ((d : A) → i < len → key (get_or parts i d) ≢ key p) → (d : A) → i < length (take len parts)
         → key p < key (get_or (take len parts) i d)
     above_here other d l =
@@ -113,7 +119,7 @@ module _ {A : Type 0} (key : A → ℕ) (p : A) where
             (All-with_one (λ x. x < VARIABLES) (key p) (map key xs) within old.2),
       )
 
--- the first part that passes a test
+-- where none of the first i passes the test, nor does what stands at i, none of the first i + 1 does
 pub find_more : {A : Type 0} (test : A → Bool) (xs : List A) (i : ℕ) (d : A) → i < length xs → find test (take i xs) ≡ None
     → test (get_or xs i d) ≡ false → find test (take (i + 1) xs) ≡ None
 find_more test xs i d n none fails = rw (take_more xs i d n, find-append test (take i xs) (get_or xs i d ∷ []), none, fails)

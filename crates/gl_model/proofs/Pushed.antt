@@ -149,6 +149,7 @@ set_kept f (x ∷ xs) zero new n same = ap (λ y. y ∷ map f xs) same
 set_kept f (x ∷ xs) (suc i) new n same = ap (λ ys. f x ∷ ys) (set_kept f xs i new (omega arith) same)
 
 module _ (items : List ThreadList) (i : ℕ) (at new : ThreadList) (n : i < length items) (is : at ≡ get_or items i at) where
+  -- the list stands at i, whatever is taken where there is none
   here : at ≡ get_or items i new
   here = is ∙ get_or_default items i at new n
 

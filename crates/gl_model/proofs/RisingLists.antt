@@ -125,12 +125,14 @@ not_there (y ∷ ys) x (suc i) rises below here (suc k) n e =
 -- the ids of a set of variables stand at the head of an array
 module _ (ids : List ℕ) (len i x : ℕ) (long : len ≤ length ids) (within : i ≤ length (take len ids)) (below : (k : ℕ) → k < i
     → get_or (take len ids) k 0 < x) (here : i < length (take len ids) → x ≤ get_or (take len ids) i 0) where
+  -- the head of the array has len ids
   head_length : length (take len ids) ≡ len
   head_length = length-take-le len ids long
 
   pub found_there : i < len → get_or ids i 0 ≡ x → take len ids ≡ with_one x (take len ids)
   found_there l e = sym (with_one-there (take len ids) x i (omega (arith, head_length)) below (get_or-take len ids i 0 l ∙ e))
 
+  -- if x does not stand at i, what stands there is above x
   above_here : (i < len → get_or ids i 0 ≢ x) → i < length (take len ids) → x < get_or (take len ids) i 0
   above_here other l =
       let l' : i < len = omega (arith, head_length) in
@@ -191,7 +193,7 @@ past_all [] x below = refl
 past_all (y ∷ ys) x below = rw (with_one-below x y ys (below zero (omega arith)))
     (ap (λ zs. y ∷ zs) (past_all ys x (λ k l. below (suc k) (omega arith))))
 
--- two lists have a number in common
+-- where none of the first i of a list is in another, nor what stands at i, none of the first i + 1 is
 pub meet_more : (xs ys : List ℕ) (i : ℕ) → i < length xs → ((x : ℕ) → Contains (take i xs) x → Contains ys x → ⊥)
     → (Contains ys (get_or xs i 0) → ⊥) → (x : ℕ) → Contains (take (i + 1) xs) x → Contains ys x → ⊥
 meet_more xs ys i n none not_this x = rw (take_more xs i 0 n)

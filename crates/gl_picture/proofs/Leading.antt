@@ -48,6 +48,7 @@ module _ (rows : List Told) (a b : Told) (i j : ℕ) where
       ⊎ (Met a.thread b.thread (handed_of a) (Some (Does (Begin 0))) × (HasRow rows b.thread 0 j → ⊥)))
       ⊎ (Met a.thread b.thread (Some (Does End)) (event_of b.item) × (HasRow rows a.thread (i + 1) (length rows) → ⊥))
 
+  -- if one of the three ways is there, row a leads to row b
   leads_some : Ways → Leads rows a b i j
   leads_some (inl (inl (e, f, given, taken, s))) = by_events e f given taken s
   leads_some (inl (inr ((e, f, given, taken, s), never))) =
@@ -56,6 +57,7 @@ module _ (rows : List Told) (a b : Told) (i j : ℕ) where
   leads_some (inr ((e, f, given, taken, s), never)) =
       from_last f taken never (let is : e ≡ Does End = cc in subst (λ x. SynchronizesWith (stamped a.thread x) (stamped b.thread f)) is s)
 
+  -- if row a leads to row b, one of the three ways is there
   some_leads : Leads rows a b i j → Ways
   some_leads (by_events e f given taken s) = inl (inl (e, f, given, taken, s))
   some_leads (to_first e given never s) = inl (inr ((e, Does (Begin 0), given, refl, s), never))

@@ -63,11 +63,13 @@ module _ (made : List (ℕ × List Entry)) (kept : IsRecord made) (listed : List
   abbrev ns : List ℕ
   ns = numbers_in us
 
+  -- no number among the record's positions is wrong
   right : (k : ℕ) → IsWrongAt ns k → ⊥
   right k wrong =
       let u = use_of_number us k wrong.number wrong.there in
       fails_not made kept listed u.0 (record { number = wrong.number; index = k; there = u.1; wrong = wrong })
 
+  -- there are as many numbers as uses
   many : length ns ≡ length us
   many = length-map us (λ (u : Use). u.1)
 
@@ -86,9 +88,11 @@ module _ (made : List (ℕ × List Entry)) (kept : IsRecord made) (listed : List
     long = ap length is ∙ set_length cs p c ∙ put.long;
     each = λ j q d less there. each j q d less there (cases_lt j k);
   } where
+    -- the new places are the old ones with c set at p
     in_new : (q : ℕ) → slice_get new q ≡ slice_get (slice_set cs p c) q
     in_new q = ap (λ (ds : List Place). slice_get ds q) is
 
+    -- each of the first k + 1 uses has its place put down at its number
     each : (j q : ℕ) (d : Place) → j < k + 1 → slice_get us j ≡ Some (d, q) → (j < k) ⊎ (k ≤ j) → slice_get new q ≡ Some d
     each j q d less there (inl lt) =
         let other : p ≢ q =
@@ -111,6 +115,7 @@ module _ (made : List (ℕ × List Entry)) (kept : IsRecord made) (listed : List
   -- all are put down
   pub put_all : (k : ℕ) (cs : List Place) → length us ≤ k → ArePut us k cs → AreEventPlaces (lists_of made) cs
   put_all k cs whole put p c = (event, place) where
+    -- if c is put down at p, it is the place of an event at position p
     event : slice_get cs p ≡ Some c → (s : Stamp) × IsEventAt (lists_of made) c p s
     event at =
         let has = slice_get_within cs p c at in
@@ -123,6 +128,7 @@ module _ (made : List (ℕ × List Entry)) (kept : IsRecord made) (listed : List
         let is : u.0 ≡ c = cc in
         rw (sym is) (event_of_use made kept j.0 p u.0 u.1)
 
+    -- if c is the place of an event at position p, it is put down at p
     place : (s : Stamp) × IsEventAt (lists_of made) c p s → slice_get cs p ≡ Some c
     place e =
         let k' = use_of_event made kept c p e.0 e.1 in

@@ -58,6 +58,7 @@ module _ (f : Entry → List ℕ) where
   abbrev pub GathersNext : ℕ → List (ℕ × List Entry) → Type 0
   GathersNext t ls = uses_of f (below (t + 1) ls) ≡ uses_of f (below t ls) ++ uses_from f t 0 (lists_of ls t)
 
+  -- if the first list is that of t and all others are of later threads, what is gathered up to t is what is below t and then that of t
   next_is_first : (t : ℕ) (l : ℕ × List Entry) (ls : List (ℕ × List Entry)) → l.0 ≡ t → AllByRecursion (λ s. l.0 < s) (map (λ l. l.0) ls)
       → GathersNext t (l ∷ ls)
   next_is_first t l ls same above =
@@ -67,6 +68,7 @@ module _ (f : Entry → List ℕ) where
       rw (within, out, here, none_below l.0 (t + 1) ls (omega arith) above, none_below l.0 t ls (omega arith) above)
       (append-nil (uses_from f l.0 0 l.1) ∙ ap (λ s. uses_from f s 0 l.1) same)
 
+  -- if that holds of the other lists, and the first is of another thread, it holds with the first list too
   next_is_later : (t : ℕ) (l : ℕ × List Entry) (ls : List (ℕ × List Entry)) → (l.0 < t) ⊎ (t < l.0) → GathersNext t ls
       → GathersNext t (l ∷ ls)
   next_is_later t l ls (inl lt) more =

@@ -96,6 +96,7 @@ module _ (made : List (ℕ × List Entry)) (kept : IsRecord made) where
   abbrev ns : List ℕ
   ns = numbers_in us
 
+  -- no use of a position stands twice among those of the record
   differs : Differ us
   differs = record_differ positions_on made kept.0 (λ t j e at. one_once (position_of e))
 
@@ -108,6 +109,7 @@ module _ (made : List (ℕ × List Entry)) (kept : IsRecord made) where
 
   -- ## A listed record fails nowhere
 
+  -- the history of the record has at most as many events as the record has positions
   length_of : (h : List Stamp) → IsEventList h R → length h ≤ length ns
   length_of h is = rw (sym (length-range_with_len 0 (length h)))
       (length-le_from_is_member nat_eq_equiv (range_with_len 0 (length h)) ns (once_distinct (range_with_len 0 (length h)) once) within)
@@ -138,9 +140,11 @@ module _ (made : List (ℕ × List Entry)) (kept : IsRecord made) where
 
   pub fails_not : Listed R → (c : Place) → PositionFailsAt made c → ⊥
   fails_not (h, is) c x = by_fault x.wrong.wrong where
+    -- the number that is wrong is that of the use
     number_is : x.wrong.number ≡ x.number
     number_is = (let one = number_of us x.index (c, x.number) x.there in let other = x.wrong.there in cc)
 
+    -- the number is neither too high nor there before
     by_fault : (length ns ≤ x.wrong.number) ⊎ ((j : ℕ) × (j < x.index) × (slice_get ns j ≡ Some x.wrong.number)) → ⊥
     by_fault (inl ge) =
         let e = event_of_use x.index x.number c x.there in
@@ -160,10 +164,12 @@ module _ (made : List (ℕ × List Entry)) (kept : IsRecord made) where
   -- ## A record that fails nowhere is listed
 
   module _ (nowhere : (c : Place) → PositionFailsAt made c → ⊥) where
+    -- no number among the record's positions is wrong
     right : (k : ℕ) → IsWrongAt ns k → ⊥
     right k wrong = (let u = use_of_number us k wrong.number wrong.there
         in nowhere u.0 (record { number = wrong.number; index = k; there = u.1; wrong = wrong }))
 
+    -- two events of one place and one position are the same
     same_entry : (c : Place) (p : ℕ) (s r : Stamp) → IsEventAt R c p s → IsEventAt R c p r → s ≡ r
     same_entry c p s r one other =
         let here = one.there in
@@ -181,6 +187,7 @@ module _ (made : List (ℕ × List Entry)) (kept : IsRecord made) where
           stamps : (t u : ℕ) (x y : Event) → t ≡ u → x ≡ y → stamp t x ≡ stamp u y
           stamps t u x y same equal = rw (same, equal) refl
 
+    -- two places of events at one position are the same
     once : (c d : Place) (p : ℕ) (s r : Stamp) → IsEventAt R c p s → IsEventAt R d p r → c ≡ d
     once c d p s r one other = by_order (cases_order j.0 k.0) where
       j : (i : ℕ) × (slice_get us i ≡ Some (c, p))
@@ -200,6 +207,7 @@ module _ (made : List (ℕ × List Entry)) (kept : IsRecord made) where
       by_order (inr (inl less)) = absurd (right k.0 (record { number = p; there = n_k; wrong = inr (j.0, less, n_j) }))
       by_order (inr (inr less)) = absurd (right j.0 (record { number = p; there = n_j; wrong = inr (k.0, less, n_k) }))
 
+    -- the record is listed
     listed : Listed R
     listed = (
       all.0,

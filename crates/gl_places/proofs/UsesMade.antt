@@ -294,7 +294,7 @@ ordered (x ∷ xs) ys one other across = (
   ordered xs ys one.1 other (λ u v in_xs in_ys. across u v (suc in_xs.0, in_xs.1) in_ys),
 )
 
--- those of one place, and then later ones
+-- of two places of one thread the one with the lower index, or an equal one, is not after the other
 not_later : (c d : Place) → c.thread ≡ d.thread → d.index ≤ c.index → Before c d → ⊥
 not_later c d same le (inl less) = omega arith
 not_later c d same le (inr both) = (let less = both.1 in omega arith)

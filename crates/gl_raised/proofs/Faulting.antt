@@ -35,7 +35,7 @@ use Rattle.gl_raised.specs.declared.access.Access.{Access}
 use Rattle.gl_raised.specs.declared.access.Claim.{Claim}
 use Rattle.gl_raised.proofs.Racing.{Judging, racy_told}
 
--- the events of a run of the machine are what it allows
+-- if each event of a list steps from one state to the next, the list is a run from the first of these states to the last
 run_from :
     (setting : Setting) (f : ℕ → State) (ys : List Stamp) (n m : ℕ) → m ≡ n + length ys
     → ((p q : ℕ) (s : Stamp) → slice_get ys p ≡ Some s → q ≡ n + p → (v : ℤ) × Step setting (f q) s v (f (q + 1)))
@@ -57,7 +57,7 @@ allowed_of setting R h is run = subst (λ o. Run setting o h (run.at (length h))
         let z : p ≡ q = omega arith in
         subst (λ k. (v : ℤ) × Step setting (run.at k) s v (run.at (k + 1))) z (value_of m.1.entry, run.steps m.0 p s m.1)
 
--- the race law of an access is that it names the least variable on which it is racy
+-- a plain entry is racy on no variable but its own
 plain_var : (R : Lists) (c : Place) (var nth : ℕ) (cached write raised : Bool) (value : ℤ)
     → EntryAt R c (Plain var nth cached write value raised) → (x : ℕ) → IsRacy R c x → var ≡ x
 plain_var R c var nth cached write raised value here x r =
@@ -107,7 +107,7 @@ least_as : (P Q : ℕ → Type 0) → ((x : ℕ) → P x ↔ Q x) → (o : Optio
 least_as P Q same None l = λ x q. l x ((same x).1 q)
 least_as P Q same (Some x) l = ((same x).0 l.0, λ y lt q. l.1 y lt ((same y).1 q))
 
--- of two places each is not before the other
+-- no two places are each before the other
 not_before : (c d : Place) → Before c d → Before d c → ⊥
 not_before c d (inl l) (inl m) = omega arith
 not_before c d (inl l) (inr m) = let z = m.0 in omega arith
@@ -121,6 +121,7 @@ module _ (R : Lists) (claims : List Claim) (old us : List Access) (rows before k
     (clocks : (h : List Stamp) → IsEventList h R → AreBlockClocks h rows) (first : (k : ℕ) (l : Claim) → slice_get claims k ≡ Some l
     → (u : ℕ) → cell before k u ≡ cell rows l.block u) (learned : ClaimsKnow rows us (length us) before known) (long : length least
     ≡ length claims) (found : AreLeast known us (length us) least) where
+  -- two claims of one place are the same claim
   one : (j k : ℕ) (l m : Claim) → slice_get claims j ≡ Some l → slice_get claims k ≡ Some m → seen l.place ≡ seen m.place → j ≡ k
   one j k l m a b same = elim (cases_lt j k) [
     | inl lt ↦ absurd (let w = gathered.rising j k l m a b lt
@@ -134,6 +135,7 @@ module _ (R : Lists) (claims : List Claim) (old us : List Access) (rows before k
     ]
   ]
 
+  -- what was gathered of the record is what the judging of its races asks for
   J : Judging run.0 R run.1.0 (run.1.2.at (length run.1.0)) claims us rows before known
   J =
       let k = clocks run.1.0 run.1.1 in record {
@@ -168,6 +170,7 @@ module _ (R : Lists) (claims : List Claim) (old us : List Access) (rows before k
         λ h. named ∙ least_one (IsRacy R (seen l.place)) (raised_on e) o (r.0 h) least',
       )
 
+  -- each claim has an answer among the least variables
   least_there : (k : ℕ) (l : Claim) → slice_get claims k ≡ Some l → (o : Option ℕ) × (slice_get least k ≡ Some o)
   least_there k l at = elim (slice_get_cases least k).1 [
     | inl some ↦ (some.0, some.2)

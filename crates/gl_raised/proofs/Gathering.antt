@@ -37,7 +37,7 @@ claim_cases [] l m (suc k) a = absurd (cc)
 claim_cases (x ∷ ls) l m zero a = inl a
 claim_cases (x ∷ ls) l m (suc k) a = elim (claim_cases ls l m k a) [ inl s ↦ inl s | inr n ↦ inr (ap suc n.0, n.1) ]
 
--- the block, with one entry more
+-- the first that is there of three options is the same, however they are grouped
 or_nested : (o p q : Option ℕ) → or_else (or_else o p) q ≡ or_else o (or_else p q)
 or_nested (Some x) p q = refl
 or_nested None p q = refl
@@ -103,12 +103,15 @@ next_before c t i (inr s) = inr (s.0, let w = s.1 in omega arith)
 module _ (R : Lists) (t i b : ℕ) (p : StoredPlace) (is_place : seen p ≡ record { thread = t; index = i }) (of_thread : p.thread ≡ t)
     (of_index : p.index ≡ i) (e : Entry) (there : slice_get (R t) i ≡ Some e) (is_block : b ≡ block_before (R t) (i + 1))
     (claims : List Claim) (accesses : List Access) (so_far : AreGathered R (record { thread = t; index = i }) claims accesses) where
+  -- the entry stands in the record at the stored place
   here : EntryAt R (seen p) e
   here = subst (λ c. EntryAt R c e) (sym is_place) there
 
+  -- an entry of the record at the stored place is this entry
   same_entry : (f : Entry) → EntryAt R (seen p) f → f ≡ e
   same_entry f a = let x = here in cc
 
+  -- if the entry is no access, what was gathered before it is all up to the next place
   without : (IsAccess e → ⊥) → AreGathered R (record { thread = t; index = i + 1 }) claims accesses
   without none = record {
     claim = λ k l a. (next_before (seen l.place) t i (so_far.claim k l a).0, (so_far.claim k l a).1);
@@ -124,6 +127,7 @@ module _ (R : Lists) (t i b : ℕ) (p : StoredPlace) (is_place : seen p ≡ reco
   abbrev its : Claim
   its = record { place = p; block = b; raised = raised_on e }
 
+  -- if the entry is an access, its claim is the one that names its place, its block and what it raised on
   its_claim : IsAccess e → IsClaimOf R its e
   its_claim is = record {
     there = here;
@@ -133,6 +137,7 @@ module _ (R : Lists) (t i b : ℕ) (p : StoredPlace) (is_place : seen p ≡ reco
         ∙ ap (λ u. block_before (R u) (i + 1)) (sym of_thread) ∙ ap (λ j. block_before (R p.thread) (j + 1)) (sym of_index);
   }
 
+  -- the accesses of the claim that was put last are those of this entry
   last : (a : Access) (k : ℕ) (l : Claim) (f : Entry) → k ≡ length claims → l ≡ its → EntryAt R (seen l.place) f
       → Contains (accesses_of k l.place.thread l.block f) a → Contains (accesses_of (length claims) t b e) a
   last a k l f at same there' c =
@@ -143,6 +148,7 @@ module _ (R : Lists) (t i b : ℕ) (p : StoredPlace) (is_place : seen p ≡ reco
       let c3 : Contains (accesses_of k t b e) a = subst (λ u. Contains (accesses_of k u b e) a) of_thread c2 in
       subst (λ j. Contains (accesses_of j t b e) a) at c3
 
+  -- if the entry is an access, then what was gathered, with its claim and its accesses put last, is all up to the next place
   with_one : IsAccess e → AreGathered R (record { thread = t; index = i + 1 }) (claims ++ its ∷ []) (accesses
       ++ accesses_of (length claims) t b e)
   with_one is = record {

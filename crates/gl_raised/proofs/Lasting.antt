@@ -84,9 +84,11 @@ noted_means a commit write t n m =
     )
 
 module _ (us : List Access) (i : ℕ) (a : Access) (here : slice_get us i ≡ Some a) where
+  -- what stands at the index i is this access
   same_access : (v : Access) → slice_get us i ≡ Some v → v ≡ a
   same_access v e = cc
 
+  -- what was performed since a tick among the first i accesses was so among one more
   since_old : (x t n : ℕ) (commit write : Bool) → IsPerformedSince us i x t commit write n → IsPerformedSince us (i + 1) x t commit write n
   since_old x t n commit write p = (p.0, earlier_old us i p.0 p.1, p.2, p.3, p.4, p.5, p.6, p.7)
 
@@ -139,6 +141,7 @@ module _ (us : List Access) (i : ℕ) (a : Access) (here : slice_get us i ≡ So
   racy_old : (known : List (List ℕ)) (k x : ℕ) → IsRacyClaim known us i k x → IsRacyClaim known us (i + 1) k x
   racy_old known k x (j, u, l, e, of, on, racy) = (j, u, omega arith, e, of, on, racy)
 
+  -- a claim that is racy on a variable with one access more was so before, or the access is of that claim and that variable and racy
   racy_cases : (known : List (List ℕ)) (k x : ℕ) → IsRacyClaim known us (i + 1) k x → IsRacyClaim known us i k x
       ⊎ ((a.claim ≡ k) × (a.var ≡ x) × IsRacyBy known us i a)
   racy_cases known k x (j, u, l, e, of, on, racy) = elim (cases_lt j i) [
@@ -150,12 +153,14 @@ module _ (us : List Access) (i : ℕ) (a : Access) (here : slice_get us i ≡ So
         (of, on, subst (λ m. IsRacyBy known us m u) s racy)))
   ]
 
+  -- where the access adds no racy variable to a claim, the claim's least racy variable stays the least
   least_grows : (known : List (List ℕ)) (k : ℕ) (o : Option ℕ) → ((x : ℕ) → (a.claim ≡ k) × (a.var ≡ x) × IsRacyBy known us i a → ⊥)
       → IsLeast (IsRacyClaim known us i k) o → IsLeast (IsRacyClaim known us (i + 1) k) o
   least_grows known k None none least = λ x p. elim (racy_cases known k x p) [ inl old ↦ least x old | inr now ↦ none x now ]
   least_grows known k (Some x) none least =
       (racy_old known k x least.0, λ y l p. elim (racy_cases known k y p) [ inl old ↦ least.1 y l old | inr now ↦ none y now ])
 
+  -- where the access is racy, its claim's least racy variable is the lesser of the one before and the access's own
   least_with : (known : List (List ℕ)) (o : Option ℕ) → IsRacyBy known us i a → IsLeast (IsRacyClaim known us i a.claim) o
       → IsLeast (IsRacyClaim known us (i + 1) a.claim) (least_of o a.var)
   least_with known None racy least = (

@@ -55,6 +55,7 @@ module _ (setting : Setting) (R : Lists) (h : List Stamp) (now : State) (is_list
     | inr lt ↦ thread_on p.event s p.reached p.here (is_list.listed d q s made) lt (event_thread made ∙ sym p.own)
   ]
 
+  -- what reaches an event precedes it
   reaches_precedes : (d : Place) (q : ℕ) (s : Stamp) → IsEventAt R d q s → Reaches h a q → Precedes h a d.thread q
   reaches_precedes d q s made r = record {
     position = q;

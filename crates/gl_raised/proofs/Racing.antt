@@ -183,6 +183,7 @@ pub record Judging (setting : Setting) (R : Lists) (h : List Stamp) (now : State
 
 module _ (setting : Setting) (R : Lists) (h : List Stamp) (now : State) (claims : List Claim) (us : List Access)
     (rows before known : List (List ℕ)) (J : Judging setting R h now claims us rows before known) where
+  -- along the list of each thread the positions of its events rise
   rise : PositionsRise R
   rise c d p q s r a b o = (J.form.formed c.thread).positions_rise c.index d.index p q a.entry b.entry a.there
       (subst (λ t. slice_get (R t) d.index ≡ Some b.entry) (sym o.0) b.there) o.1 a.position b.position
@@ -200,6 +201,7 @@ module _ (setting : Setting) (R : Lists) (h : List Stamp) (now : State) (claims 
     pub in_block : claimed.block ≡ block
     pub part : IsPart a.claim c.thread block e a
 
+  -- each of the accesses is one of an entry of the record at some place
   use_of : (a : Access) → Contains us a → (c : Place) × ((e : Entry) × IsUse a c e)
   use_of a i = (
     seen l.place,
@@ -244,6 +246,7 @@ module _ (setting : Setting) (R : Lists) (h : List Stamp) (now : State) (claims 
       block = (J.claim w.0 l w.1.1.1).1.block ∙ ap (λ o. unwrap_or o 0)
           (ap (λ n. last_position (take n (R l.place.thread))) (let z : l.place.index + 1 ≡ suc l.place.index = omega arith in z) ∙ b.1)
 
+  -- an entry that has a number on a variable has an access of that variable with that number among the accesses
   use_there : (c : Place) (e : Entry) → EntryAt R c e → (x n : ℕ) → NumberOn e x n → (a : Access) × Contains us a × (a.var ≡ x)
       × (a.nth ≡ n) × IsUse a c e
   use_there c e here x n number =
@@ -267,12 +270,15 @@ module _ (setting : Setting) (R : Lists) (h : List Stamp) (now : State) (claims 
           let f_is : f ≡ e = (let y = here in cc) in
           subst (IsUse a c) f_is (subst (λ z. IsUse a z f) d_is u)
 
+  -- an access among the accesses stands at some index of their list
   in_list : (a : Access) → Contains us a → (i : ℕ) × (slice_get us i ≡ Some a)
   in_list a (i, l, e) = (i, slice_get-get_or us i a l ∙ ap Some e)
 
+  -- what stands at an index of the list is one of the accesses
   of_list : (i : ℕ) (a : Access) → slice_get us i ≡ Some a → Contains us a
   of_list i a e = (i, slice_get_within us i a e, get_or_from_slice_get us i a a e)
 
+  -- two accesses of one claim are of one place and of one entry
   same_claim : (a b : Access) (c d : Place) (e f : Entry) → IsUse a c e → IsUse b d f → a.claim ≡ b.claim → (c ≡ d) × (f ≡ e)
   same_claim a b c d e f u v same =
       let at' : slice_get claims a.claim ≡ Some v.claimed = subst (λ k. slice_get claims k ≡ Some v.claimed) (sym same) v.at in
@@ -285,9 +291,11 @@ module _ (setting : Setting) (R : Lists) (h : List Stamp) (now : State) (claims 
   block_is : (a : Access) (c : Place) (e : Entry) → (u : IsUse a c e) → IsBlockOf R c u.block
   block_is a c e u = block_of_place R c.thread c.index u.block u.block_at
 
+  -- the event of a use's block stands in the history at the block's position
   block_event : (a : Access) (c : Place) (e : Entry) → (u : IsUse a c e) → EventAt h u.block (block_is a c e u).event
   block_event a c e u = let b = block_is a c e u in J.is_list.listed (record { thread = c.thread; index = b.index }) u.block b.event b.made
 
+  -- the event of a use's block is not the end of its thread
   block_goes_on : (a : Access) (c : Place) (e : Entry) → (u : IsUse a c e) → (block_is a c e u).event.event ≢ Does End
   block_goes_on a c e u = goes_on R J.form c e u.there u.is_access u.block (block_is a c e u)
 
@@ -298,6 +306,7 @@ module _ (setting : Setting) (R : Lists) (h : List Stamp) (now : State) (claims 
     pub same_tick : tick access ≡ a.tick
     pub plain : IsPlain e → access.variables ≡ None
 
+  -- a use whose entry is plain stands for an access, with the use's tick
   stood_plain : (a : Access) (c : Place) (e : Entry) → IsUse a c e → IsPlain e → Stood a c e
   stood_plain a c e u plain = record {
     access = record { thread = c.thread; block = u.block; variables = None };
@@ -314,6 +323,7 @@ module _ (setting : Setting) (R : Lists) (h : List Stamp) (now : State) (claims 
         | inr (inr k) ↦ absurd (not_plain_refused e plain k.0)
       ]
 
+  -- a use whose entry is a commit stands for an access, with the use's tick
   stood_commit : (a : Access) (c : Place) (e : Entry) → IsUse a c e → IsCommit e → Stood a c e
   stood_commit a c e u is =
       let v = commit_event R c e u.there is in
@@ -336,6 +346,7 @@ module _ (setting : Setting) (R : Lists) (h : List Stamp) (now : State) (claims 
         | inr (inr k) ↦ absurd (no_two e is k.0)
       ]
 
+  -- a use whose entry is plain or a commit stands for an access, with the use's tick
   stood : (a : Access) (c : Place) (e : Entry) → IsUse a c e → IsPlain e ⊎ IsCommit e → Stood a c e
   stood a c e u (inl p) = stood_plain a c e u p
   stood a c e u (inr k) = stood_commit a c e u k
@@ -354,6 +365,7 @@ module _ (setting : Setting) (R : Lists) (h : List Stamp) (now : State) (claims 
       subst (λ t. (tick s.access < clocks (take (w.block + 1) h) (Thread d.thread) t) ↔ Precedes h s.access d.thread w.block) same m in
       (λ l. m'.0 (let x = s.same_tick in omega arith), λ p. let y = m'.1 p in let x = s.same_tick in omega arith)
 
+  -- a claim knows at first what the clock of its block does
   first_row : (u : Access) (d : Place) (f : Entry) → (w : IsUse u d f) → (t : ℕ) → cell before u.claim t ≡ cell rows w.block t
   first_row u d f w t = J.first u.claim w.claimed w.at t ∙ ap (λ q. cell rows q t) w.in_block
 
@@ -385,12 +397,14 @@ module _ (setting : Setting) (R : Lists) (h : List Stamp) (now : State) (claims 
         λ b. k.1 (inl (subst (λ z. v.tick < z) (sym first) (row.1 (order.1 b)))),
       )
 
+  -- a plain entry's claim knows the tick of an access of another thread exactly where that access happens before the entry
   told_plain : (v : Access) (c : Place) (e : Entry) → Stood v c e → (u : Access) (d : Place) (f : Entry) → IsUse u d f → IsPlain f
       → c.thread ≢ d.thread → (v.tick < cell known u.claim c.thread) ↔ HappensBefore R c d
   told_plain v c e s u d f w plain apart =
       told_unrefused v c e s u d f w (λ r. not_plain_refused f plain r) apart
       (plain_told setting R h now J.is_list rise J.allowed c s.access s.stands d f w.there plain w.block (block_is u d f w) apart)
 
+  -- a commit's claim knows the tick of an access of another thread exactly where that access happens before the commit
   told_commit : (v : Access) (c : Place) (e : Entry) → Stood v c e → (u : Access) (d : Place) (f : Entry) → IsUse u d f → IsCommit f
       → c.thread ≢ d.thread → (v.tick < cell known u.claim c.thread) ↔ HappensBefore R c d
   told_commit v c e s u d f w is apart =
@@ -400,6 +414,7 @@ module _ (setting : Setting) (R : Lists) (h : List Stamp) (now : State) (claims 
       (commit_told setting R h now J.is_list rise J.allowed c s.access s.stands d f w.there is w.block m.1
       (subst (λ p. IsEventAt R d p m.1) same m.2))
 
+  -- an access that is marked as one of a commit and as performed is one of a commit
   commit_kind : (b : Access) (m : Place) (g : Entry) → IsUse b m g → b.commit ≡ true → b.performed ≡ true → IsCommit g
   commit_kind b m g u commit done = elim u.part.kind [
     | inl k ↦ absurd (let z = k.1 in cc)
@@ -407,6 +422,7 @@ module _ (setting : Setting) (R : Lists) (h : List Stamp) (now : State) (claims 
     | inr (inr k) ↦ absurd (let z = k.2 in cc)
   ]
 
+  -- an access of a commit is marked as one of a commit and as performed
   commit_flags : (b : Access) (m : Place) (g : Entry) → IsUse b m g → IsCommit g → (b.commit ≡ true) × (b.performed ≡ true)
   commit_flags b m g u is = elim u.part.kind [
     | inl k ↦ absurd (not_plain_commit g k.0 is)
@@ -414,6 +430,7 @@ module _ (setting : Setting) (R : Lists) (h : List Stamp) (now : State) (claims 
     | inr (inr k) ↦ absurd (no_two g is k.0)
   ]
 
+  -- an access of a refused commit is marked as one of a commit and as not performed
   refused_flags : (b : Access) (m : Place) (g : Entry) → IsUse b m g → IsRefusedCommit g → (b.commit ≡ true) × (b.performed ≡ false)
   refused_flags b m g u is = elim u.part.kind [
     | inl k ↦ absurd (not_plain_refused g k.0 is)
@@ -494,12 +511,14 @@ module _ (setting : Setting) (R : Lists) (h : List Stamp) (now : State) (claims 
 
   module _ (v : Access) (c : Place) (e : Entry) (vu : IsUse v c e) (plain : IsPlain e) (u : Access) (d : Place) (f : Entry)
       (w : IsUse u d f) (refused : IsRefusedCommit f) (apart : c.thread ≢ d.thread) where
+    -- the plain use stands for an access, with its tick
     its : Stood v c e
     its = stood_plain v c e vu plain
 
     abbrev Commits' : Type 0
     Commits' = ByCommit setting R h now J.is_list rise J.allowed c its.access its.stands d
 
+    -- what a refused commit's claim learns of the plain access comes from an earlier commit of a variable of both that the access reaches
     learn_out : IsLearned rows us (length us) u.claim c.thread v.tick → Commits'
     learn_out (j, a, l, at, of, commit, not_done, (b, (jb, lb, eb), on, bc, bp, less)) =
         let x = use_of a (of_list j a at) in
@@ -543,6 +562,7 @@ module _ (setting : Setting) (R : Lists) (h : List Stamp) (now : State) (claims 
           reached = (handed_reaches v c e its plain b y.0 g y.1.1 is m.0 m.1 m.2).0 less;
         }
 
+    -- where the plain access reaches a commit that is before the refused one on a variable of both, the refused one's claim learns its tick
     learn_in : Commits' → IsLearned rows us (length us) u.claim c.thread v.tick
     learn_in k =
         let o = k.edge.before in
@@ -570,6 +590,7 @@ module _ (setting : Setting) (R : Lists) (h : List Stamp) (now : State) (claims 
         let m = (handed_reaches v c e its plain b.0 k.commit o.first b.4 is k.position k.event k.made).1 k.reached in
         (ja.0, a.0, slice_get_within us ja.0 a.0 ja.1, ja.1, of, ak.0, ak.1, (b.0, (jb.0, near, jb.1), b.2 ∙ sym a.2, bk.0, bk.1, m))
 
+    -- a refused commit's claim knows the tick of a plain access of another thread exactly where the access happens before it
     told_refused : (v.tick < cell known u.claim c.thread) ↔ HappensBefore R c d
     told_refused =
         let t = refused_told setting R h now J.is_list rise J.allowed c its.access its.stands d f w.there refused w.block
@@ -592,6 +613,7 @@ module _ (setting : Setting) (R : Lists) (h : List Stamp) (now : State) (claims 
     | inr (inr k) ↦ told_refused v c e vu (elim one [ inl p ↦ p | inr p ↦ absurd (not_plain_refused f p k.0) ]) u d f w k.0 apart
   ]
 
+  -- an access that is not marked as one of a commit is of a plain entry
   plain_kind : (v : Access) (c : Place) (e : Entry) → IsUse v c e → v.commit ≡ false → IsPlain e
   plain_kind v c e vu other = elim vu.part.kind [
     | inl k ↦ k.0
@@ -599,6 +621,7 @@ module _ (setting : Setting) (R : Lists) (h : List Stamp) (now : State) (claims 
     | inr (inr k) ↦ absurd (let z = k.1 in cc)
   ]
 
+  -- an access of a plain entry is not marked as one of a commit
   plain_flag : (v : Access) (c : Place) (e : Entry) → IsUse v c e → IsPlain e → v.commit ≡ false
   plain_flag v c e vu plain = elim vu.part.kind [
     | inl k ↦ k.1
@@ -606,6 +629,7 @@ module _ (setting : Setting) (R : Lists) (h : List Stamp) (now : State) (claims 
     | inr (inr k) ↦ absurd (not_plain_refused e plain k.0)
   ]
 
+  -- an access that is marked as performed is of an entry that is plain or a commit and was performed
   done_kind : (v : Access) (c : Place) (e : Entry) → IsUse v c e → v.performed ≡ true → (IsPlain e ⊎ IsCommit e) × IsPerformed e
   done_kind v c e vu done = elim vu.part.kind [
     | inl k ↦ (inl k.0, k.3.0 done)
@@ -613,6 +637,7 @@ module _ (setting : Setting) (R : Lists) (h : List Stamp) (now : State) (claims 
     | inr (inr k) ↦ absurd (let z = k.2 in cc)
   ]
 
+  -- an access of an entry that was performed is marked as performed, and its entry is plain or a commit
   done_flag : (v : Access) (c : Place) (e : Entry) → IsUse v c e → IsPerformed e → (IsPlain e ⊎ IsCommit e) × (v.performed ≡ true)
   done_flag v c e vu done = elim vu.part.kind [
     | inl k ↦ (inl k.0, k.3.1 done)
@@ -621,6 +646,7 @@ module _ (setting : Setting) (R : Lists) (h : List Stamp) (now : State) (claims 
   ]
 
   module _ (k : ℕ) (l : Claim) (at : slice_get claims k ≡ Some l) (x : ℕ) where
+    -- if the claim is racy on a variable, so is its entry
     racy_in : IsRacyClaim known us (length us) k x → IsRacy R (seen l.place) x
     racy_in (j, u, near, here, of, on, (v, (i, lt, there), same_var, apart, done, conflict, least)) =
         let uu = use_of u (of_list j u here) in
@@ -671,6 +697,7 @@ module _ (setting : Setting) (R : Lists) (h : List Stamp) (now : State) (claims 
               subst (λ t. cell known u.claim t ≤ v.tick) vu.own least in omega arith;
         })
 
+    -- if the claim's entry is racy on a variable, so is the claim
     racy_out : IsRacy R (seen l.place) x → IsRacyClaim known us (length us) k x
     racy_out r =
         let o = r.before in

@@ -32,6 +32,7 @@ pub earlier_new : (us : List Access) (i : ℕ) (v : Access) → slice_get us i �
 earlier_new us i v e = (i, omega arith, e)
 
 module _ (rows : List (List ℕ)) (us : List Access) (i : ℕ) (a : Access) (here : slice_get us i ≡ Some a) where
+  -- what stands at the index i is this access
   same_access : (v : Access) → slice_get us i ≡ Some v → v ≡ a
   same_access v e = cc
 
@@ -39,6 +40,7 @@ module _ (rows : List (List ℕ)) (us : List Access) (i : ℕ) (a : Access) (her
   handed_old : (x u n : ℕ) → IsHandedOn rows us i x u n → IsHandedOn rows us (i + 1) x u n
   handed_old x u n (v, e, of, commit, done, l) = (v, earlier_old us i v e, of, commit, done, l)
 
+  -- what is handed on with one access more was handed on before, or the access is of a performed commit of that variable and hands it on
   handed_cases : (x u n : ℕ) → IsHandedOn rows us (i + 1) x u n → IsHandedOn rows us i x u n
       ⊎ ((a.var ≡ x) × (a.commit ≡ true) × (a.performed ≡ true) × (n < handed_on rows a u))
   handed_cases x u n (v, e, of, commit, done, l) = elim (earlier_cases us i v e) [
@@ -89,6 +91,8 @@ module _ (rows : List (List ℕ)) (us : List Access) (i : ℕ) (a : Access) (her
   learned_old : (k u n : ℕ) → IsLearned rows us i k u n → IsLearned rows us (i + 1) k u n
   learned_old k u n (j, w, l, e, of, commit, refused, h) = (j, w, omega arith, e, of, commit, refused, h)
 
+  -- what a claim learns with one access more it learned before, or the access is a refused one of that claim, and its variable was handed
+  -- it
   learned_cases : (k u n : ℕ) → IsLearned rows us (i + 1) k u n → IsLearned rows us i k u n
       ⊎ ((a.claim ≡ k) × (a.commit ≡ true) × (a.performed ≡ false) × IsHandedOn rows us i a.var u n)
   learned_cases k u n (j, w, l, e, of, commit, refused, h) = elim (cases_lt j i) [

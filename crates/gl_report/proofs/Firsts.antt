@@ -46,6 +46,7 @@ module _ {A : Type 0} (v : A → Entry) (es : List Entry) (slots : List (Option 
   -- one that has a slot: the slot keeps what it has, or else gets the entry
   module _ (a new : A) (at : ℕ) (is : position_of (v a) ≡ Some at) (within : at < length slots) (new_is : new
       ≡ unwrap_or (get_or slots at None) a) where
+    -- with the entry noted, each slot has the first of the entries, with this one, at its position
     noted_at : (p : ℕ) → p < length slots → option_map v (get_or (set slots at (Some new)) p None) ≡ find (is_event_at p) (es ++ v a ∷ [])
     noted_at p lt = by_place (cases_eq p at) where
       by_place : (p ≡ at) ⊎ (p ≢ at) → option_map v (get_or (set slots at (Some new)) p None) ≡ find (is_event_at p) (es ++ v a ∷ [])

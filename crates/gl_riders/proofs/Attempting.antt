@@ -54,7 +54,7 @@ same_nat n = eq-eqb n n refl
 
 -- ## Plain accesses
 
--- a repeat is allowed exactly where there is a number for it
+-- where there is a number for a repeat, the right allows it
 numbered : (r : Option (ℕ × Bool)) (write : Option ℤ) (n : ℕ) → repeat_number r write ≡ Some n → true ≡ allows r (is_some write)
 numbered None write n is = cc
 numbered (Some r) None n is = refl
@@ -142,7 +142,7 @@ access_answers P c x (Some b) (Raised k) own new none runs drawn first is = rw i
   drawn = drawn;
 })
 
--- a repeat
+-- a repeat outside an attempt, by a number that the list gives, is answered by what was seen
 pub repeat_answers :
     (P : Bytecode) (c : Config) (x nth : ℕ) (write : Option ℤ) (s : Seen) (own new : Own) → c.attempt ≡ None → life_of own.mine ≡ Running →
     own.drawn ≡ [] → repeat_number (right_of own.mine x) write ≡ Some nth → is_raised s ≡ false → new
@@ -185,7 +185,7 @@ repeat_answers P c x nth (Some b) (Value a) own new none runs drawn again calm i
 repeat_answers P c x nth None (Raised k) own new none runs drawn again calm is = cc
 repeat_answers P c x nth (Some b) (Raised k) own new none runs drawn again calm is = cc
 
--- the one or the other
+-- a plain access outside an attempt, whether it is a repeat or not, is answered by what was seen
 pub plain_answers :
     (P : Bytecode) (c : Config) (x : ℕ) (write : Option ℤ) (s : Seen) (own new : Own) → c.attempt ≡ None → life_of own.mine ≡ Running
     → own.drawn ≡ [] →
@@ -239,7 +239,7 @@ vars_looked : (ls : List Look) → map (λ w. w.0) (map look_pair ls) ≡ map (�
 vars_looked [] = refl
 vars_looked (l ∷ ls) = ap (λ xs. l.var ∷ xs) (vars_looked ls)
 
--- so many variables are touched
+-- the machine has touched as many variables as the attempt has
 touches : (c : Config) (a : Attempting) → touched (progress_of c (Some a)) ≡ size a
 touches c a = λ i. length (with_all (vars_written a.writes i) (vars_looked a.looks i))
 
@@ -362,6 +362,7 @@ module _ (P : Bytecode) (c : Config) (att : Attempt) (runs : c.attempt ≡ Some 
   abbrev p : Progress
   p = progress_of c (Some a)
 
+  -- a read of a variable that the attempt knows adds no look
   no_look : knows p x ≡ true → (value : ℤ) → p.looks ≡ looks_after p (Read x) (Answer value)
   no_look known value = rw (runs, known) refl
 
@@ -378,6 +379,7 @@ module _ (P : Bytecode) (c : Config) (att : Attempt) (runs : c.attempt ≡ Some 
         (no_look known value) refl refl
         (λ l. refl) (λ ls. refl) (rw same_new draws))
 
+    -- whether the attempt wrote the variable, looked at it or did neither, its read is answered so
     by_words : (w : Option Pair) (l : Option Look) → written a x ≡ w → looked a x ≡ l → ReadBy w l x value a own b new
         → IsAnswered P c (Read x) (Answer value) own new (Some a) (Some b)
     by_words (Some w) l is_w is_l r =
@@ -416,9 +418,11 @@ module _ (P : Bytecode) (c : Config) (att : Attempt) (runs : c.attempt ≡ Some 
       (write : Option ℤ) (own new : Own) → DrawsFor (Some a) own → new ≡ own → IsTooLarge a x →
       IsAnswered P c (access_ask x write) (Raise TX_TOO_LARGE) own new (Some a) (Some a)
   large_answers write own new draws same_new large = by_write write where
+    -- the attempt does not know the variable, and touches as many as it may
     quiet : (not (knows p x) && touched p == TX_VARIABLES && TX_TOO_LARGE == TX_TOO_LARGE) ≡ true
     quiet = rw (knows_in c a x, touches c a, large.new, large.full) refl
 
+    -- a read or a write of such a variable is answered by raising that the transaction is too large
     by_write : (w : Option ℤ) → IsAnswered P c (access_ask x w) (Raise TX_TOO_LARGE) own new (Some a) (Some a)
     by_write None =
         quiet_answers P c (Read x) (Raise TX_TOO_LARGE) own new (Some a) (Some a) (rw same_new refl) (rw runs quiet) (rw runs refl) tt tt

@@ -14,7 +14,7 @@ life_from-append : (life : Life) (xs ys : List Entry) → life_from life (xs ++ 
 life_from-append life [] ys = refl
 life_from-append life (x ∷ xs) ys = life_from-append (life_after life x) xs ys
 
--- how far the thread is after an entry more
+-- the life after one entry more is what the entry makes of the life before
 pub life_push : (es : List Entry) (e : Entry) → life_of (es ++ e ∷ []) ≡ life_after (life_of es) e
 life_push es e = life_from-append Unbegun es (e ∷ [])
 
@@ -33,7 +33,7 @@ right_from-append : (x : ℕ) (r : Option (ℕ × Bool)) (xs ys : List Entry) �
 right_from-append x r [] ys = refl
 right_from-append x r (e ∷ xs) ys = right_from-append x (right_after x r e) xs ys
 
--- the right on a variable after an entry more
+-- the right on a variable after one entry more is what the entry makes of the right before
 pub right_push : (es : List Entry) (e : Entry) (x : ℕ) → right_of (es ++ e ∷ []) x ≡ right_after x (right_of es x) e
 right_push es e x = right_from-append x None es (e ∷ [])
 

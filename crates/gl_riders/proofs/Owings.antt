@@ -113,7 +113,7 @@ pub has_word : (ws : Words) (own : Own) (x n : ℕ) (write : Option ℤ) → Own
     → HasWord ws own.mine x
 has_word ws own x n write owns may = (let r = right_there (right_of own.mine x) n write may in owns.kept x (n, r.by_write) r.is)
 
--- what the table asks of a repeat
+-- a running thread that holds nothing and has a number may repeat, where a read has the value of its last access
 may_cache :
     (v : PassView) (x n : ℕ) (write : Option ℤ) (value : ℤ) → v.own.held ≡ [] → life_of v.own.mine ≡ Running
     → repeat_number (right_of v.own.mine x) write ≡ Some n →

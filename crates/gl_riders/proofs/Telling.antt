@@ -48,9 +48,11 @@ record Tells (c : Config) (life : Life) (levels : List ℕ) (ask : Ask) (act : A
   changes : levels_act levels act ≡ levels_told ask reply levels
 
 module _ (c : Config) (none : c.attempt ≡ None) (life : Life) (levels : List ℕ) where
+  -- an exit of a monitor is told as a release, or as the failure that the thread does not own it
   exit_tells : (o code : ℕ) → life ≡ Running → code ≡ (if slice_index levels o == 0 then not_owner else 0) → levels ≡ c.levels →
       Tells c life levels (Exit o) (if code == 0 then Rel o else Fail not_owner) (if code == 0 then pos 0 else pos o) (go_or code)
   exit_tells o code runs is same = by_level (slice_index levels o == 0) refl is where
+    -- so it is, whether the thread is in the monitor or not
     by_level : (b : Bool) → (slice_index levels o == 0) ≡ b → code ≡ (if b then not_owner else 0) →
         Tells c life levels (Exit o) (if code == 0 then Rel o else Fail not_owner) (if code == 0 then pos 0 else pos o) (go_or code)
     by_level true out five = rw five (record {
@@ -69,6 +71,7 @@ module _ (c : Config) (none : c.attempt ≡ None) (life : Life) (levels : List �
       changes = refl;
     })
 
+  -- a fork is told as the fork of the child that the value names, or as the failure that there is no room for a thread
   fork_tells : (f : ℕ) (a : ℤ) (code : ℕ) (value : ℤ) → life ≡ Running → ((code ≡ 0) × (value ≡ pos (child_in value)))
       ⊎ (code ≡ threads_full) →
       Tells c life levels (Fork f a) (if code == 0 then Forked (child_in value) f else Fail threads_full) (if code == 0 then a else pos 0)
@@ -84,6 +87,7 @@ module _ (c : Config) (none : c.attempt ≡ None) (life : Life) (levels : List �
   fork_tells f a code value runs (inr e) = rw e
       (record { gives = refl; fits = refl; leaves = tt; lives = λ at. rw runs refl; changes = refl })
 
+  -- a join is told as the join, or as the failure that the thread is none to join
   join_tells : (u code : ℕ) → life ≡ Running → (code ≡ 0) ⊎ (code ≡ bad_thread) →
       Tells c life levels (Join u) (if code == 0 then Joined u else Fail bad_thread) (if code == 0 then pos 0 else pos u) (go_or code)
   join_tells u code runs (inl z) = rw z (record
@@ -96,6 +100,7 @@ module _ (c : Config) (none : c.attempt ≡ None) (life : Life) (levels : List �
     changes = refl;
   })
 
+  -- an allocation is told as the allocation, or as the failure that the heap is full
   alloc_tells : (k code : ℕ) (value : ℤ) → life ≡ Running → (code ≡ 0) ⊎ (code ≡ heap_full) →
       Tells c life levels (Alloc k) (if code == 0 then Allocated k else Fail heap_full) (if code == 0 then value else pos k)
       (answer_or code value)
@@ -104,6 +109,7 @@ module _ (c : Config) (none : c.attempt ≡ None) (life : Life) (levels : List �
   alloc_tells k code value runs (inr e) = rw e
       (record { gives = rw (same_int (pos k)) refl; fits = refl; leaves = tt; lives = λ at. rw runs refl; changes = refl })
 
+  -- an input is told as taken, or as the failure that the input has ended
   input_tells : (code : ℕ) (value : ℤ) → life ≡ Running → (code ≡ 0) ⊎ ((code ≡ input_end) × (value ≡ pos 0)) →
       Tells c life levels Input (if code == 0 then Taken else Fail input_end) value (answer_or code value)
   input_tells code value runs (inl z) = rw z (record { gives = refl; fits = refl; leaves = tt; lives = λ at. rw runs refl; changes = refl })

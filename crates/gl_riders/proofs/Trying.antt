@@ -88,6 +88,7 @@ module _ (P : Bytecode) (z : TableView) (c : Config) where
   IsRun TxBegin = Unit {0}
   IsRun (TxEnd keep) = Unit {0}
 
+  -- where the ask is one of a thread that runs, the thread runs
   run_life : (ask : Ask) (life : Life) → IsRun ask → LifeFor ask life → life ≡ Running
   run_life Begin life run for = absurd run
   run_life Go life run for = absurd run
@@ -107,6 +108,7 @@ module _ (P : Bytecode) (z : TableView) (c : Config) where
   run_life TxBegin life run for = for
   run_life (TxEnd keep) life run for = for
 
+  -- an ask of a thread that runs asks something of the table
   run_asks : (ask : Ask) → IsRun ask → IsAsk ask
   run_asks Go run = absurd run
   run_asks Begin run = absurd run
@@ -132,6 +134,7 @@ module _ (P : Bytecode) (z : TableView) (c : Config) where
       let run' : IsRun (ask_of c.stage) = rw is at run in
       run_life (ask_of c.stage) (life_of own.mine) run' (rides_life P z.id c own txn rides (run_asks (ask_of c.stage) run'))
 
+  -- a read or a write of a variable is an ask of a thread that runs
   access_runs : (x : ℕ) (write : Option ℤ) → IsRun (access_ask x write)
   access_runs x None = tt
   access_runs x (Some a) = tt
@@ -140,6 +143,7 @@ module _ (P : Bytecode) (z : TableView) (c : Config) where
       → Rides P z.id c own txn → life_of own.mine ≡ Running
   access_life own txn x write is rides = rides_run own txn (access_ask x write) is rides (access_runs x write)
 
+  -- the variable of a read or a write in range is one that there is
   near_by : (x : ℕ) (write : Option ℤ) → AsksInRange P (access_ask x write) → x < VARIABLES
   near_by x None near = near
   near_by x (Some a) near = near
@@ -151,6 +155,7 @@ module _ (P : Bytecode) (z : TableView) (c : Config) where
   pub outside_draws : (own : Own) (txn : Option Attempting) → txn ≡ None → Rides P z.id c own txn → own.drawn ≡ []
   outside_draws own txn idle rides = no_draws txn own idle rides.drawn
 
+  -- an option that has nothing is none
   none_of : {A : Type 0} (o : Option A) → is_some o ≡ false → o ≡ None
   none_of None is = refl
   none_of (Some a) is = cc
@@ -177,14 +182,17 @@ module _ (P : Bytecode) (z : TableView) (c : Config) where
 
   -- ## Attempts
 
+  -- an option that has something is some attempt
   some_of : (o : Option Attempt) → is_some o ≡ true → (a : Attempt) × (o ≡ Some a)
   some_of None is = cc
   some_of (Some a) is = (a, refl)
 
+  -- where the pass is in an attempt, so is the machine
   in_attempt : (own : Own) (txn : Option Attempting) (a : Attempting) → txn ≡ Some a → Rides P z.id c own txn → (att : Attempt)
       × (c.attempt ≡ Some att)
   in_attempt own txn a is rides = some_of c.attempt (sym rides.running ∙ ap is_some is)
 
+  -- where the pass is in an attempt, what it drew is what the attempt's looks have
   draws_of : (own : Own) (txn : Option Attempting) (a : Attempting) → txn ≡ Some a → Rides P z.id c own txn → DrawsFor (Some a) own
   draws_of own txn a is rides = (let d : DrawsFor (Some a) own = (rw is at rides.drawn) in d)
 

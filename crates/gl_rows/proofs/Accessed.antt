@@ -274,10 +274,12 @@ module _ (p : PassView) (x : ℕ) (row : Row) (tail : ℕ) (known : List (ℕ ×
     pub spare : r.spare ≡ p.spare - 1
     pub cost : r.moves ≡ moved 2 (moved 1 walker.moves)
 
+  -- a test or false is the test
   or_false : (b : Bool) → (b || false) ≡ b
   or_false true = refl
   or_false false = refl
 
+  -- where one object alone is held, none is without it
   none_left : (k : ℕ) (h : Held) → h.object ≡ k → without k (h ∷ []) ≡ []
   none_left k h e = ap (λ b. if not b then h ∷ [] else []) (eq-eqb h.object k e)
 
@@ -317,6 +319,7 @@ module _ (p : PassView) (x : ℕ) (row : Row) (tail : ℕ) (known : List (ℕ ×
 module _ (setting : Setting) (p : PassView) (x : ℕ) (row : Row) (tail : ℕ) (known : List (ℕ × Stamp)) (walker : PassView)
     (runs : life_of p.own.mine ≡ Running) (nth : ℕ) (q : Question) (near : p.own.id < THREADS) (by : q.thread ≡ p.own.id) (plain : q.commit
     ≡ None) (least : OwnLeast setting p.own.id p.own.mine q.held) where
+  -- the last event among the pass's own entries is that of its block
   last : last_position p.own.mine ≡ Some (block_of p.own.mine)
   last = let b = has_block p.own.mine runs in block_is p.own.mine b.0 b.1
 
@@ -329,6 +332,7 @@ module _ (setting : Setting) (p : PassView) (x : ℕ) (row : Row) (tail : ℕ) (
   abbrev Fits : Bool → Bool → ℤ → List Stamp → Type 0
   Fits write raised value l = IsFitting setting (shelf p.own.id (p.own.mine ++ Plain x nth false write value raised ∷ [])) tail known l
 
+  -- a new Info for the question at the position that was seen stands for the access over each fitting list
   stands : (i : Info) → IsNewInfo q tail i → (write raised : Bool) (value : ℤ) → q.write ≡ write → (l : List Stamp)
       → Fits write raised value l → InfoFor setting l i (access_drawn (drawn write raised value)) write
   stands i n write raised value w l f =
@@ -343,6 +347,7 @@ module _ (setting : Setting) (p : PassView) (x : ℕ) (row : Row) (tail : ℕ) (
       (λ y. subst (λ t. Has i.set y ↔ InitialLockset t None y) by (subst (λ v. Has i.set y ↔ InitialLockset q.thread v y) plain (n.set y)))
       (subst (OwnLeast setting p.own.id p.own.mine) (sym n.held) least) l f
 
+  -- the row after the access stands for the draws with the access's own over each fitting list
   follows : (write raised : Bool) (value : ℤ) → q.write ≡ write → (write ≡ false → raised ≡ false → value ≡ row.value) → (new : Row)
       → RowAfter row (record { write = write; value = value; raised = raised }) q tail new → (l : List Stamp) → Fits write raised value l
       → (ds : List Draw) → RowStands setting l x ds row

@@ -60,6 +60,7 @@ module _ (l : List Stamp) (from to : ℕ) (window : List Stamp) (is : drop from 
         set = λ y. subst (λ (xs : List Stamp). Has new.set y ↔ AfterAll (Has old.set) xs y) same (w.set y);
       }
 
+  -- an Info that may be there, moved over the window, is moved over the events of the list
   kept_moved_to : (o n : Option Info) → ((i : Info) → o ≡ Some i → (from ≤ i.pos) × (i.pos ≤ length l)) → AreMovedTo from to window o n
       → AreMoved l o n
   kept_moved_to None None at m = tt
@@ -78,10 +79,12 @@ module _ (l : List Stamp) (from to : ℕ) (window : List Stamp) (is : drop from 
 
 -- none of them stands before the position then
 module _ (from to : ℕ) (window : List Stamp) where
+  -- an Info that was moved up to a position stands at it or behind it
   info_above : (old new : Info) → IsMovedTo from to window old new → to ≤ new.pos
   info_above old new (inl s) = let le = s.0 in let same = ap (λ (i : Info). i.pos) s.1 in omega arith
   info_above old new (inr (lt, w)) = let at = w.pos in omega arith
 
+  -- an Info that may be there, moved up to a position, stands at it or behind it
   kept_above : (o n : Option Info) → AreMovedTo from to window o n → (i : Info) → n ≡ Some i → to ≤ i.pos
   kept_above None None m i e = absurd (cc)
   kept_above None (Some n) m i e = absurd m

@@ -66,9 +66,11 @@ module _ (setting : Setting) (t p x nth : ℕ) (es : List Entry) (write raised :
   pub still_last : last_position (es ++ e ∷ []) ≡ Some p
   still_last = last_push es e ∙ last
 
+  -- the thread's entries with the access have no end among them
   not_over : IsNotOver (es ++ e ∷ [])
   not_over i f a is = elim (at_cases es e f i a) [ inl old ↦ goes_on i f old is | inr new ↦ (let k : IsEnd e = rw new.1 at is in k) ]
 
+  -- over each fitting list the access was made in the block at p
   made_there : (l : List Stamp) → Fits l → IsMade l (access_of d)
   made_there l f =
       let k = last_own l t (es ++ e ∷ []) f.own p still_last in
@@ -100,10 +102,12 @@ module _ (setting : Setting) (t p x nth : ℕ) (es : List Entry) (value : ℤ) (
       → RowStands setting l x ds row →
       RowStands setting l x (draw t p (Entered (Plain x nth false write value raised)) ∷ ds) row'
 
+  -- a raised access is no performed write
   none_written : (write : Bool) → is_write x (Entered (Plain x nth false write value true)) ≡ false
   none_written true = refl
   none_written false = refl
 
+  -- a raised access is no performed read
   none_read : (write : Bool) → is_read x (Entered (Plain x nth false write value true)) ≡ false
   none_read true = refl
   none_read false = refl

@@ -69,6 +69,7 @@ not_two s a b one two = sym one ∙ two
 -- ## The causes
 
 module _ (asked : Option Command) (source_before source_now sink_before sink_now : ℕ) (before now : Option (List ℕ)) where
+  -- the answer of a page that was written, or could not be, has the causes of its status
   page_causes : (p : Page) (a : Answer) → (source_now ≡ source_before) × IsPageStatus asked p.status
       → (a.kept ≡ p.kept) × (IsWritten p a sink_before sink_now before now ⊎ IsCut p a sink_before sink_now before now)
       → HasCauses asked source_before source_now sink_before sink_now a.status

@@ -110,6 +110,7 @@ module _ (settled : LastIsSettled) (apart : (text : List ℕ) (trace : List Trac
     (traces : (text : List ℕ) (a b : List TraceLine) → IsTrace text a → IsTrace text b → a ≡ b)
     (range : (text : List ℕ) (trace : List TraceLine) → IsTrace text trace → All IsStep (steps_of trace))
     (clean : (text : List ℕ) (trace : List TraceLine) → IsTrace text trace → AreClean (steps_of trace)) where
+  -- two answers of one trace that is accepted have the same status, bytes and what is kept
   accepted_same : (keep : Keep) (input : List ℕ) (s t : ℕ) (a b : List ℕ) (j k : Option Kept) → AcceptsTrace keep input s a j
       → AcceptsTrace keep input t b k
       → (s ≡ t) × (a ≡ b) × (j ≡ k)
@@ -125,6 +126,7 @@ module _ (settled : LastIsSettled) (apart : (text : List ℕ) (trace : List Trac
         one_kept keep (map line_of y.said) j k (subst (λ said. KeepsRecord keep (map line_of said) j) same x.kept_is) y.kept_is,
       )
 
+  -- two answers of one text that is refused have the same status, bytes and what is kept
   refused_same : (input : List ℕ) (s t : ℕ) (a b : List ℕ) (j k : Option Kept) → RefusesTrace input s a j → RefusesTrace input t b k
       → (s ≡ t) × (a ≡ b) × (j ≡ k)
   refused_same input s t a b j k one two =

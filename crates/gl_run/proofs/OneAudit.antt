@@ -57,6 +57,7 @@ module _ (apart : TextsAreApart) (faults : FaultsAreOne) (texts : TextsAreOne) (
       let program : one.program ≡ P = same_program one.program P same.0 in
       right_of one.program P one.inputs xs one.steps m one.made R one.finding program same.1 same.2 same.3 one.right
 
+  -- two answers of one audited text have the same status, bytes and what is kept
   audited_same : (input : List ℕ) (s t : ℕ) (a b : List ℕ) (j k : Option Kept) → AcceptsAudit input s a j → AcceptsAudit input t b k
       → (s ≡ t) × (a ≡ b) × (j ≡ k)
   audited_same input s t a b j k one two =
@@ -79,6 +80,7 @@ module _ (apart : TextsAreApart) (faults : FaultsAreOne) (texts : TextsAreOne) (
             ]
       ]
 
+  -- the status of an audited text is that of no fault exactly where the record that it says is lawful
   accepted_exact : (input : List ℕ) (P : Bytecode) (inputs : List ℤ) (steps : ℕ) (made : List (ℕ × List Entry)) (status : ℕ)
       (bytes : List ℕ) (kept : Option Kept) → IsAuditText input P inputs steps made → AcceptsAudit input status bytes kept
       → (status ≡ ALL_WELL) ↔ LawfulOf P inputs steps (lists_of made)

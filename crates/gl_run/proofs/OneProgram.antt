@@ -51,6 +51,7 @@ module _ (apart : (text : List ℕ) (program : Bytecode) (inputs : List ℤ) (li
   pub listings_apart : ListingsAreApart
   listings_apart input s t a b j k one two = apart input one.program one.inputs two.line two.kind one.meaning two.fault
 
+  -- two answers of one listed program have the same status, bytes and what is kept
   listed_same : (input : List ℕ) (s t : ℕ) (a b : List ℕ) (j k : Option Kept) → AcceptsProgram input s a j → AcceptsProgram input t b k
       → (s ≡ t) × (a ≡ b) × (j ≡ k)
   listed_same input s t a b j k one two =
@@ -74,6 +75,7 @@ module _ (apart : (text : List ℕ) (program : Bytecode) (inputs : List ℤ) (li
   pub runs_apart : RunsAreApart
   runs_apart options input s t a b j k one two = apart input one.program one.inputs two.line two.kind one.meaning two.fault
 
+  -- two answers of one program that was run, with the same kept, have the same status and bytes
   ran_same : (options : RunOptions) (input : List ℕ) (s t : ℕ) (a b : List ℕ) (kept : Option Kept) → AcceptsRun options input s a kept
       → AcceptsRun options input t b kept → (s ≡ t) × (a ≡ b)
   ran_same options input s t a b kept one two =
@@ -162,6 +164,7 @@ no_load : (load : LoadOptions) (asked : Option Command) → asked ≡ Some (comm
 no_load load asked is none = let runs : run_part asked ≡ Some (commands.Load load) = ap run_part is in cc
 
 module _ (checks : ChecksAreOne) (listings : ListingsAreOne) (audits : AuditsAreOne) (runs : RunsAreTold) (loads : LoadsAreTold) where
+  -- a command that is no run and no load has one answer to a text
   texts_one : (keep : Keep) (asked : Option Command) (command : Command) (input : List ℕ) → asked ≡ Some command → run_part asked ≡ None
       → IsOneAnswer (AnswersText keep command input)
   texts_one keep asked commands.Check input is none = checks keep input
@@ -170,6 +173,7 @@ module _ (checks : ChecksAreOne) (listings : ListingsAreOne) (audits : AuditsAre
   texts_one keep asked (commands.Load load) input is none = absurd (no_load load asked is none)
   texts_one keep asked commands.Audit input is none = audits input
 
+  -- of each command's answer to a text what is kept tells the status and the bytes
   texts_told : (keep : Keep) (command : Command) (input : List ℕ) → IsToldByKept (AnswersText keep command input)
   texts_told keep commands.Check input s t a b kept one two = let same = checks keep input s t a b kept kept one two in (same.0, same.1)
   texts_told keep commands.List input s t a b kept one two = let same = listings input s t a b kept kept one two in (same.0, same.1)

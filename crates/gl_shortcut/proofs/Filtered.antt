@@ -39,6 +39,7 @@ one_left_out p s e = rw e refl
 
 module _ (p : Stamp → Bool) (S T : Elements) (xs : List Stamp) (i : ℕ) (s : Stamp) (n : i < length xs) (is : s ≡ get_or xs i s)
     (before : (y : Element) → T y ↔ AfterAll S (filter p (take i xs)) y) where
+  -- the first i + 1 events are the first i and this one
   more : take (i + 1) xs ≡ take i xs ++ s ∷ []
   more = take_more xs i s n ∙ ap (λ x. take i xs ++ x ∷ []) (sym is)
 

@@ -23,9 +23,11 @@ use Rattle.gl_shortcut.specs.Ordering.{IsOfNext, IsOrderedBefore}
 
 module _ (setting : Setting) (h : List Stamp) (i : Info) (a : Access) (write : Bool) (stands : InfoFor setting h i a write) (q : Question)
     (next : IsOfNext setting h q) where
+  -- after the events the Info's set has exactly what the access's lockset has
   here : (y : Element) → set_after h i y ↔ LocksetAt h a (length h) y
   here y = walk_on setting h i a write stands y
 
+  -- the access's block is a position of the list
   near : a.block < length h
   near = slice_get_within h a.block stands.access.event stands.access.there
 
@@ -61,6 +63,7 @@ module _ (setting : Setting) (h : List Stamp) (i : Info) (a : Access) (write : B
       starts None e = absurd (cc)
       starts (Some ws) e = inr (inl refl)
 
+  -- where the access and the next one are commits, the test passes
   both_pass : (v : Option (List ℕ)) → IsSome a.variables → IsSome v → IsOrderedOrExcepted (set_after h i) q.thread v
   both_pass None some none = absurd (cc)
   both_pass (Some xs) some one = inl (has_mark some)

@@ -20,11 +20,13 @@ abbrev pub IsStep : Setting → ℕ → ListView → Act → ℤ → State → T
 IsStep setting t l' act value now = (new : State) × Step setting now (record { thread = t; event = Does act }) value new × IsStateOf l' new
 
 module _ {A : Type 0} where
+  -- a list with x set at a place that it has has x there
   set_here : (l : List A) (o : ℕ) (x d : A) → o < length l → slice_index_or (slice_set l o x) o d ≡ x
   set_here [] o x d near = absurd (omega arith)
   set_here (y ∷ l) zero x d near = refl
   set_here (y ∷ l) (suc o) x d near = set_here l o x d (omega arith)
 
+  -- a list with x set at a place has at each other place what it had
   set_else : (l : List A) (o k : ℕ) (x d : A) → k ≢ o → slice_index_or (slice_set l o x) k d ≡ slice_index_or l k d
   set_else [] o k x d ne = refl
   set_else (y ∷ l) zero zero x d ne = absurd (ne refl)

@@ -46,6 +46,7 @@ module _ (me : table.Me Slot View) (t : ℕ) (mine : List Entry) (seen : ℕ) (o
   abbrev now : View
   now = caught_up me.0 t mine
 
+  -- the entry by which an attempt may be dropped may be added to the view
   may_add : (tx : Tx) (why : Why) → MayAbortAs (shelf t mine) now tx why → (u : View) → u ≡ adds_one now t mine (Abort tx why)
       → MayAdd now (Abort tx why) u
   may_add tx (Changed var read found) m u added = (
@@ -78,18 +79,22 @@ module _ (me : table.Me Slot View) (t : ℕ) (mine : List Entry) (seen : ℕ) (o
   abort_kept tx (Raised var) m = let f = m.3 trace_setting in let r = f.drop.rows var f.touches
       in held_near me.1 order now.held p.out r.one var r.held r.object
 
+  -- the entry leaves how far the pass has seen
   same_seen : (tx : Tx) (why : Why) → (adds_one now t mine (Abort tx why)).seen ≡ now.seen
   same_seen tx (Changed var read found) = refl
   same_seen tx (Raised var) = refl
 
+  -- the entry leaves whether the pass is quiet
   same_quiet : (tx : Tx) (why : Why) → (adds_one now t mine (Abort tx why)).quiet ≡ now.quiet
   same_quiet tx (Changed var read found) = refl
   same_quiet tx (Raised var) = refl
 
+  -- the entry leaves which words are stored
   same_stored : (tx : Tx) (why : Why) → (adds_one now t mine (Abort tx why)).stored ≡ now.stored
   same_stored tx (Changed var read found) = refl
   same_stored tx (Raised var) = refl
 
+  -- with the entry all that is held is still out
   gone : (tx : Tx) (why : Why) → AreOut me.1 order (adds_one now t mine (Abort tx why)).held
   gone tx (Changed var read found) = out.out_mapped me.1 order now.held p.out
       (with_drew (var ∷ []) (draw t (block_of mine) (Looked found))) (λ h. refl)

@@ -38,6 +38,7 @@ use Rattle.gl_rule.proofs.Turning.{takes_turn, leaves_turn}
 
 module _ (key : Key) (slots id : ℕ) (me : table.Me Slot View) (t : ℕ) (es : List Entry) (u : View) (told : u ≡ caught_up me.0 t es)
     (ready : IsReady me.0 t es) where
+  -- what the rule allows once the thread's entries are added to the view it allows before
   as_told : (i : ℕ) (f : ℕ → ℕ) (tells : View → ℕ → table.Me Slot View → Type 0)
       → table.Allows (Rule key) slots id (caught_up me.0 t es, me.1) i f (tells (caught_up me.0 t es))
       → table.Allows (Rule key) slots id me i f (tells u)

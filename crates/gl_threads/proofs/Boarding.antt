@@ -71,9 +71,11 @@ this_worker W c n this = (let e : (n % W == c) ≡ true = eq-eqb (n % W) c this 
 
 -- worker c has another crew, which is this one
 module _ (crews : List Crew) (c : ℕ) (crew : Crew) (less : c < length crews) where
+  -- worker c has the crew that was set
   here : (d : Crew) → slice_index_or (slice_set crews c crew) c d ≡ crew
   here d = get_or-set_same crews c crew d less
 
+  -- each other worker has the crew that it had
   elsewhere : (j : ℕ) (d : Crew) → j ≢ c → slice_index_or (slice_set crews c crew) j d ≡ slice_index_or crews j d
   elsewhere j d other = get_or-set_other crews c j crew d other
 

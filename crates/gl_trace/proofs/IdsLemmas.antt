@@ -11,7 +11,7 @@ use Rattle.gl_trace.specs.Ids.{operand_of, ids_of, with_first, kept_set, set_of,
 use Rattle.gl_trace.specs.Kept.{with_last}
 use Rattle.gl_trace.specs.Phrase.{◌>>=◌}
 
--- what `first_part` answers
+-- bytes with a comma are split into what stands before the first one and the pieces of what stands after it
 pub first_split : (bs front back : List ℕ) (n : ℕ) → position is_comma bs ≡ Some n → front ≡ take n bs → back ≡ drop (n + 1) bs
     → slice_split is_comma bs ≡ front ∷ slice_split is_comma back
 first_split bs front back n found f b =
@@ -26,7 +26,7 @@ first_split bs front back n found f b =
 pub last_split : (bs : List ℕ) → position is_comma bs ≡ None → slice_split is_comma bs ≡ bs ∷ []
 last_split bs none = split_none is_comma bs (place_none is_comma bs none)
 
--- where no number reaches n, all are below it
+-- where no number reaches n, the first is below it, and none of the rest reaches it
 below_of : (xs : List ℕ) (n : ℕ) (x : ℕ) → (nat_le n x || list_any (λ y. nat_le n y) xs) ≡ false → (x < n)
     × (list_any (λ y. nat_le n y) xs ≡ false)
 below_of xs n x none =
@@ -59,7 +59,7 @@ falls_push (x ∷ xs) n some =
       | inr e ↦ and_right (list_all (λ y. nat_lt x y) (xs ++ n ∷ [])) (rises (xs ++ n ∷ [])) (falls_push xs n e)
     ]
 
--- it is put behind them
+-- a number above all of a list is put in at its end
 goes_last : (xs : List ℕ) (n : ℕ) → list_any (λ x. nat_le n x) xs ≡ false → with_one n xs ≡ xs ++ n ∷ []
 goes_last [] n none = refl
 goes_last (x ∷ xs) n none =
@@ -68,7 +68,7 @@ goes_last (x ∷ xs) n none =
     let over : nat_lt n x ≡ false = le-ltb n x (omega arith) in
     rw (apart, over) (ap (λ l. x ∷ l) (goes_last xs n rest))
 
--- what `put_last` answers
+-- a list with a number at its end that is not above all the others is no set
 pub falls : (xs : List ℕ) (n : ℕ) → list_any (λ x. nat_le n x) xs ≡ true → None ≡ as_set (xs ++ n ∷ [])
 falls xs n some = rw (and_left (rises (xs ++ n ∷ [])) (nat_le (length (xs ++ n ∷ [])) TX_VARIABLES) (falls_push xs n some)) refl
 
@@ -109,6 +109,7 @@ below_last (x ∷ (y ∷ ys)) n (suc k) r less over end =
     let less' : x < y = ltb-true x y up in
     rw (lt-leb n x (omega arith)) (below_last (y ∷ ys) n k others (omega arith) over (omega arith))
 
+-- in a list that rises the last reaches n exactly where some number does
 pub last_reaches : (xs : List ℕ) (n : ℕ) → rises xs ≡ true → 0 < length xs → nat_le n (get_or xs (length xs - 1) 0)
     ≡ list_any (λ x. nat_le n x) xs
 last_reaches xs n r some =
@@ -178,6 +179,6 @@ after_none : (r : Result (List ℕ) ℕ) → after [] r ≡ r
 after_none (Ok ys) = refl
 after_none (Err kind) = refl
 
--- the whole of a list, before its first word
+-- the words of a list, put in one after another where nothing was, leave the set that the list says
 pub put_whole : (word : List ℕ) → put_rest (Some []) (list_words word) ≡ set_of word
 put_whole word = put_all [] (list_words word) ∙ ap kept_set (after_none (ids_of (list_words word)))

@@ -27,7 +27,7 @@ or_none false b e = (refl, e)
 
 -- ---- words with a space between
 
--- the first comment behind a word is that of the rest
+-- before the first hash of a word, a blank and more stand the word, the blank and what stands before the first hash of the rest
 hash_behind : (w rest : List ℕ) → list_any is_end w ≡ false → before_first is_hash (w ++ 32 ∷ rest) ≡ w ++ 32 ∷ before_first is_hash rest
 hash_behind [] rest e = ap (λ k. take k (32 ∷ rest)) (let z : 1 + position_or_len is_hash rest
     ≡ suc (position_or_len is_hash rest) = omega arith in z)
@@ -37,7 +37,7 @@ hash_behind (x ∷ xs) rest e =
     let more : position_or_len is_hash ((x ∷ xs) ++ 32 ∷ rest) ≡ suc (position_or_len is_hash (xs ++ 32 ∷ rest)) = rw here (omega arith) in
     ap (λ k. take k ((x ∷ xs) ++ 32 ∷ rest)) more ∙ ap (λ zs. x ∷ zs) (hash_behind xs rest both.1)
 
--- a word has nothing after a hash
+-- all of a word stands before any hash
 hash_none : (w : List ℕ) → list_any is_end w ≡ false → before_first is_hash w ≡ w
 hash_none [] e = refl
 hash_none (x ∷ xs) e =
@@ -66,13 +66,13 @@ front : (w : List ℕ) (ws : List (List ℕ)) → is_some_word w ≡ true → fi
 front [] ws e = absurd (cc)
 front (x ∷ xs) ws e = refl
 
--- a word and a space at the front
+-- the words of a word, a space and more are that word and the words of the rest
 pub words_behind : (word rest : List ℕ) → IsWord word → words (word ++ 32 ∷ rest) ≡ word ∷ words rest
 words_behind word rest is =
     ap parts (hash_behind word rest is.1) ∙ ap (filter is_some_word) (split_behind word (before_first is_hash rest) is.1)
     ∙ front word (slice_split is_blank (before_first is_hash rest)) is.0
 
--- a word alone
+-- the words of a word alone are that word
 pub words_last : (word : List ℕ) → IsWord word → words word ≡ word ∷ []
 words_last word is = ap parts (hash_none word is.1) ∙ ap (filter is_some_word) (split_none word is.1) ∙ front word [] is.0
 
@@ -83,7 +83,7 @@ pub none_in_both : (p : ℕ → Bool) (xs ys : List ℕ) → list_any p xs ≡ f
 none_in_both p [] ys e f = f
 none_in_both p (x ∷ xs) ys e f = let both = or_none (p x) (list_any p xs) e in rw (both.0, none_in_both p xs ys both.1 f) refl
 
--- a word is plain, and so are words with spaces between
+-- a word is plain
 pub word_plain : (word : List ℕ) → IsWord word → IsPlain word
 word_plain word is = fewer_pass is_end is_special (λ x f. (or_none (is_blank x) (is_special x) f).1) word is.1
 
@@ -145,7 +145,7 @@ usual : (t v n : List ℕ) (thread k : ℕ) (verb : Verb) → operand_of (THREAD
 unfolding step_said verb_said
 usual t v n thread k verb a b c = rw (a, b, c) refl
 
--- a line of three words
+-- a text that begins with three such words and a line feed has a first line that says that step
 pub usual_line : (text r q rest t v n : List ℕ) (thread k : ℕ) (verb : Verb) → Begins text t 32 r → Begins r v 32 q → Begins q n 10 rest
     → operand_of (THREADS - 1) t ≡ Ok thread → form_of v ≡ Ok (One verb) → operand_of (most_of verb) n ≡ Ok k
     → (line : List ℕ) × IsFirstLine text line rest × (said (words line) ≡ Ok (Some (thread, item_of verb k)))
@@ -185,7 +185,7 @@ digits_word (b ∷ bs) e =
     let both = and_parts (is_ascii_digit b) (list_all is_ascii_digit bs) e in
     rw ((digit_word b both.0).0, digits_word bs both.1) refl
 
--- the test of magnitudes, where all is a digit
+-- one to four digits, of a value that is at most the greatest, are a word and are read as that value
 pub digits_number : (ds : List ℕ) (most : ℕ) → 0 < length ds → length ds ≤ 4 → list_all is_ascii_digit ds ≡ true → digits_value ds ≤ most
     → IsWord ds × (operand_of most ds ≡ Ok (digits_value ds))
 digits_number [] most some few all le = absurd (omega arith)
@@ -198,7 +198,7 @@ digits_number (b ∷ bs) most some few all le =
     let size : magnitude_of (b ∷ bs) ≡ Some (digits_value (b ∷ bs)) = rw (there, short, all) refl in
     ((refl, digits_word (b ∷ bs) all), rw (minus, size, low, below) refl)
 
--- so many digits at the front
+-- one to four digits at the front of a text, of a value that is at most the greatest, are a word and are read as that value
 pub digits_front : (text : List ℕ) (count value most : ℕ) → 0 < count → count ≤ 4 → count ≤ length text
     → list_all is_ascii_digit (take count text) ≡ true → value ≡ digits_value (take count text) → value ≤ most
     → IsWord (take count text) × (operand_of most (take count text) ≡ Ok value)
@@ -207,7 +207,7 @@ digits_front text count value most some few within all is le =
     let d = digits_number (take count text) most (omega arith) (omega arith) all (omega arith) in
     (d.0, d.1 ∙ ap Ok (sym is))
 
--- and what stops them
+-- a text is its front, the byte that stops it and the rest
 pub stop_behind : (text rest : List ℕ) (count stop : ℕ) → drop count text ≡ stop ∷ rest → text ≡ take count text ++ stop ∷ rest
 stop_behind text rest count stop e = sym (take-append-drop count text) ∙ ap (λ zs. take count text ++ zs) e
 

@@ -37,7 +37,7 @@ has_minus bs = list_any (λ b. b == 45) bs
 minus_free : (ds : List ℕ) → list_all is_ascii_digit ds ≡ true → has_minus ds ≡ false
 minus_free = digits_none (λ b. b == 45) (λ b l h. ne_eqb b 45 (λ e. omega arith))
 
--- a text without a minus is none
+-- bytes without a minus are not a minus alone
 not_minus : (bs : List ℕ) → has_minus bs ≡ false → bytes_eq bs (codes "-") ≡ false
 not_minus [] e = refl
 not_minus (b ∷ bs) e = by (b == 45) refl e
@@ -95,6 +95,7 @@ module _ (text kept rest w : List ℕ) (stop : ℕ) (more' : List ℕ) (id : ℕ
     (b : Begins rest w stop more') (value : operand_of (VARIABLES - 1) w ≡ Ok id) (digits : list_all is_ascii_digit w ≡ true)
     (put : Some new
     ≡ with_last (Some kept) id) where
+  -- the new list is the kept one with the number behind it, and is a set
   is_new : (new ≡ kept ++ id ∷ []) × (is_set (kept ++ id ∷ []) ≡ true)
   is_new = set_new new (kept ++ id ∷ []) put
 
@@ -115,6 +116,7 @@ module _ (text kept rest w : List ℕ) (stop : ℕ) (more' : List ℕ) (id : ℕ
     set = ap is_set is_new.0 ∙ is_new.1;
   }
 
+  -- if a word is not empty, it is not empty with more before it
   some_more : (xs : List ℕ) → is_some_word w ≡ true → is_some_word (xs ++ w) ≡ true
   some_more [] e = e
   some_more (x ∷ xs) e = refl

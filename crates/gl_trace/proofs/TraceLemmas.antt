@@ -87,7 +87,7 @@ read_on text line n rest old new before o reads says clean adds =
       clean = below_more (λ i. fault_at (lines text) i ≡ None) n reads.clean here;
     }
 
--- a line without words
+-- a line that says nothing, and has no fault, is read and leaves what was said
 pub read_silent : (text line : List ℕ) (n : ℕ) (rest : List (List ℕ)) (old : List TraceLine) (standing : Standing)
     → Reads text n (line ∷ rest) old standing → n + 1 ≤ TRACE_LINES → said (words line) ≡ Ok None → line_fault (steps_of old) (n + 1) line
     ≡ None
@@ -146,7 +146,7 @@ clean_push steps s clean none = λ k r e.
           rw (before, ← same) none
     ]
 
--- one line more
+-- lines of a trace with one more that is in range, of a kept item and without a fault are lines of a trace
 well_more : (old new : List TraceLine) (m : ℕ) (s : Step) → AreLines old → length old < TRACE_LINES → IsStep s → IsItemKept s.1
     → step_fault (steps_of old) s.0 s.1 ≡ None → new ≡ old ++ (m, s.0, s.1) ∷ [] → AreLines new
 well_more old new m s well few range kept none adds =
@@ -180,7 +180,7 @@ read_step text line n rest old new before after s reads few says clean adds trac
       well = well_more old new (n + 1) s reads.well (omega (arith, reads.counted)) range kept none adds;
     }
 
--- the end of the text
+-- a text that is not too long and of which no line is left is a trace of the lines that were kept
 pub read_all : (text : List ℕ) (n : ℕ) (kept : List TraceLine) (standing : Standing) → Reads text n [] kept standing
     → length text ≤ TRACE_BYTES → IsTrace text kept
 read_all text n kept standing reads short =
@@ -191,7 +191,7 @@ read_all text n kept standing reads short =
       all = reads.said ∙ ap (lines_from 1) (take_all n (lines text) past);
     }
 
--- the first line that has a fault
+-- a line with a fault, where those before it were read, is the first that has one
 pub read_fault : (text line : List ℕ) (n kind : ℕ) (rest : List (List ℕ)) (kept : List TraceLine) (standing : Standing)
     → Reads text n (line ∷ rest) kept standing → line_fault (steps_of kept) (n + 1) line ≡ Some kind → IsFirst (lines text) n kind
 read_fault text line n kind rest kept standing reads fault =
@@ -203,7 +203,7 @@ read_fault text line n kind rest kept standing reads fault =
       before = reads.clean;
     }
 
--- the same where the line is numbered m, and so many were given
+-- a line that says a step, and has no fault, is read, where it is numbered m and so many were given
 pub numbered_step : (text line : List ℕ) (n m given : ℕ) (rest : List (List ℕ)) (old : List TraceLine) (before after : Standing) (s : Step)
     → m ≡ n + 1 → given ≡ m → Reads text n (line ∷ rest) old before → m ≤ TRACE_LINES → said (words line) ≡ Ok (Some s)
     → line_fault (steps_of old) m line ≡ None

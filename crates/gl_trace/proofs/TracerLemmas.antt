@@ -130,7 +130,7 @@ in_push : (x y : ℕ) (xs : List ℕ) → is_in x (xs ++ y ∷ []) ≡ (is_in x 
 in_push x y [] = elim (cases_Bool (x == y)) [ inl e ↦ rw e refl | inr e ↦ rw e refl ]
 in_push x y (z ∷ zs) = elim (cases_Bool (x == z)) [ inl e ↦ rw e refl | inr e ↦ rw e (in_push x y zs) ]
 
--- where number k of the variables is drawn
+-- on the variable at k no look number is drawn by the looks before it
 pub drawn_none : (items ids : List ℕ) (k : ℕ) → items ≡ ids → Rises ids → k < length items → look_count (take k ids) (get_or items k 0) ≡ 0
 drawn_none items ids k same rises h =
     let there : k < length ids = omega (arith, ap length same) in
@@ -154,7 +154,7 @@ drawn_next items ids k x same rises h =
       | inr e ↦ elim (cases_Bool (is_in x (take k ids))) [ inl f ↦ rw (e, f) refl | inr f ↦ rw (e, f) refl ]
     ]
 
--- one number more on the variable v
+-- with one number more on the variable at k, the numbers are the old ones and those of the looks up to that one
 pub one_drawn : (numbers : List ℕ) (old : ℕ → ℕ) (items ids : List ℕ) (k : ℕ) → items ≡ ids → Rises ids → k < length items
     → get_or items k 0 < length numbers
     → ((x : ℕ) → x < VARIABLES → slice_index numbers x ≡ old x + look_count (take k ids) x)
@@ -211,7 +211,7 @@ own_all rs (w ∷ ws) x =
       | inr e ↦ elim (cases_Bool (is_in x rs)) [ inl f ↦ rw (e, f) refl | inr f ↦ rw (e, f) refl ]
     ]
 
--- a commit draws a number of its own on each variable that it reads or writes
+-- a commit's own numbers are counted as looks at what it reads and writes together are
 pub own_is_all : (rs ws : List ℕ) (x : ℕ) → look_count (with_all ws rs) x ≡ own_count rs ws x
 own_is_all rs ws x =
     ap (λ b. if b then 1 else 0) (own_all rs ws x)
@@ -220,7 +220,7 @@ own_is_all rs ws x =
       | inr e ↦ elim (cases_Bool (is_in x ws)) [ inl f ↦ rw (e, f) refl | inr f ↦ rw (e, f) refl ]
     ]
 
--- there is room for one number more
+-- on the variable at k there are still fewer numbers than the most that there may be
 pub room_at : (numbers : List ℕ) (old : ℕ → ℕ) (items ids : List ℕ) (k most : ℕ) → items ≡ ids → Rises ids → k < length items
     → ((x : ℕ) → x < VARIABLES → slice_index numbers x ≡ old x + look_count (take k ids) x) → ((x : ℕ) → x < VARIABLES → old x < most)
     → (v : ℕ) → v ≡ get_or items k 0 → v < VARIABLES → get_or numbers v 0 < most
@@ -230,7 +230,7 @@ room_at numbers old items ids k most same rises h inv low v is below =
     let small : old v < most = low v below in
     omega arith
 
--- a thread has ended
+-- with thread t marked, the marks say of each thread whether it is t or had ended before
 pub ended_mark : (xs : List Bool) (t u v : ℕ) (f : ℕ → Bool) → v ≡ t → t < length xs → get_or xs u false ≡ f u
     → get_or (slice_set xs v true) u false ≡ (if u == t then true else f u)
 ended_mark xs t u v f is there was =
@@ -316,7 +316,7 @@ line_at ls js well judged k dl dj h =
       suits = judged.suits k l j line said;
     }
 
--- the lines from k on, and their first
+-- the judged lines from k on are the one at k and those behind it
 pub lines_left : (ls : List TraceLine) (js : List Judged) → length js ≡ length ls → (k : ℕ) (dl : TraceLine) (dj : Judged) → k < length ls
     → judged_lines (drop k ls) (drop k js) ≡ (get_or ls k dl, get_or js k dj) ∷ judged_lines (drop (k + 1) ls) (drop (k + 1) js)
 lines_left ls js count k dl dj h =

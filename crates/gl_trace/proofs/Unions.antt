@@ -3,7 +3,7 @@ use Rattle.std.proofs.Common.{◌≡◌, ◌+◌, ◌≤◌, ℕ, List, [], ◌�
 use Rattle.std.proofs.lemmas.Bool.{cases_Bool, le-ltb}
 use Rattle.gl_model.specs.Rising.{with_one, with_all}
 
--- with one put in, or many, a list is longer by so many at most
+-- with one put in, a list is longer by one at most
 one_longer : (x : ℕ) (ys : List ℕ) → length (with_one x ys) ≤ length ys + 1
 one_longer x [] = omega arith
 one_longer x (y ∷ ys) =
@@ -16,6 +16,7 @@ one_longer x (y ∷ ys) =
           ]
     ]
 
+-- with many put in, a list is longer by so many at most
 all_longer : (xs ys : List ℕ) → length (with_all xs ys) ≤ length ys + length xs
 all_longer [] ys = omega arith
 all_longer (x ∷ xs) ys = let one = one_longer x ys in let rest = all_longer xs (with_one x ys) in omega arith
