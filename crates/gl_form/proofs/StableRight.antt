@@ -93,7 +93,7 @@ module _ (es : List Entry) (i x k : ℕ) (write : Bool) where
   -- not
   at_giver : (j : ℕ) (e : Entry) (g : Gives e x) → j < i → At es j e → Clear (suc j) → Either
   at_giver j e g less at clear = by_parts (either_nat g.number k) (enough_or_not g.write) where
-    -- it has the right where the number given is k and the right is enough, and else it has not
+    -- whether the number given is k or not, and the right enough or not: an access at place i has the right or not
     by_parts : (g.number ≡ k) ⊎ (g.number ≡ k → ⊥) → (write ≡ true → g.write ≡ true) ⊎ ((write ≡ true → g.write ≡ true) → ⊥) → Either
     by_parts (inl same) (inl enough) = inl (record {
       index = j;

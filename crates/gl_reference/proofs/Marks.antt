@@ -42,7 +42,7 @@ below_or_last : (k p : ℕ) → k ≤ p → (k < p) ⊎ (k ≡ p)
 below_or_last k p le = elim (eq-or-lt_of_le le) [ inl same ↦ inr same | inr l ↦ inl l ]
 
 module _ (h : List Stamp) (a : Access) (marks : List Bool) (are : AreMarks h a marks) where
-  -- the access reaches the first event that has no mark yet, if the access or a marked event orders it directly
+  -- the access reaches the first event of which the marks do not speak, if the access or a marked event orders it directly
   into_reached : (s : Stamp) → EventAt h (length marks) s → Starts a (length marks) s ⊎ HasMarked h marks (λ r. Leads r s)
       → Reaches h a (length marks)
   into_reached s here (inl (l, inl own)) = own_later s here l own
@@ -54,7 +54,7 @@ module _ (h : List Stamp) (a : Access) (marks : List Bool) (are : AreMarks h a m
       let l = slice_get_within marks p true marked in
       edge_on r s ((are.right p l).0 marked) there here l edge
 
-  -- if the access reaches the first event that has no mark yet, the access or a marked event orders it directly
+  -- if the access reaches the first event of which the marks do not speak, the access or a marked event orders it directly
   out_of_reached : (q : ℕ) (s : Stamp) → q ≡ length marks → EventAt h q s → Reaches h a q → Starts a q s
       ⊎ HasMarked h marks (λ r. Leads r s)
   out_of_reached q s is here (own_later r there l own) =

@@ -277,7 +277,7 @@ module _ (key : Key) (w : World) (st : table.State Slot View) (id : ℕ) (v : Vi
         by true c = let r = open_row y c in ap (last_write y) (after_in y c r.0 r.1) ∙ write_past y d r.0 (B.unwritten y)
             ∙ sym (ap (last_write y) r.1 ∙ write_past y (draw s.thread p Open) r.0 refl)
 
-    -- each draw of the thread then was there before, or has no repeats and none in the thread's list
+    -- each draw of the thread then was there before, or neither it nor the thread's list has repeats of its number
     repeats_after : (y k : ℕ) (g : Draw) → DrawAt (after y) k g → g.thread ≡ s.thread → DrawAt (w.draws y) k g
         ⊎ ((g.repeats ≡ []) × (repeats_of y k s.marked ≡ []))
     repeats_after y k g at own = by (is_in y zs) refl
@@ -334,7 +334,7 @@ module _ (key : Key) (w : World) (st : table.State Slot View) (id : ℕ) (v : Vi
     home_at (suc x) slot.Empty same q = absurd q
     home_at (suc x) (slot.List l) same q = absurd q
 
-    -- a held object stands then with what is drawn on it then, if each row is then held rightly with that
+    -- a held object that stands with drew stands then with drew', if a row that is held rightly with drew is so then with drew'
     held_at : (drew drew' : Option Draw) (k : ℕ) (y : Slot)
         → ((x : ℕ) (row : Row) → k ≡ suc x → RowHeld key.setting w x drew row → RowHeld key.setting w' x drew' row)
         → StandsHeld key.setting w b.hold drew k y → StandsHeld key.setting w' b.hold drew' k y
@@ -358,7 +358,8 @@ module _ (key : Key) (w : World) (st : table.State Slot View) (id : ℕ) (v : Vi
             let was : w.draws y ≡ draw s.thread p Open ∷ r.before = r.draws_are ∙ ap (λ z. with_draw z r.before) (may.each g y has is c) in
             rw o (record { before = r.before; draws_are = after_in y c r.before was; stands = r.stands })
 
-    -- where the draws of a held row's variable are then ds and below the one made on the row, they were ds below it before
+    -- where the draws of a held row's variable are then ds with what is drawn on the row on top, they were ds before with what was drawn on
+    -- it on top
     behind_same : (g : Held) (y : ℕ) (ds : List Draw) → Contains v.held g → g.object ≡ suc y → after y ≡ with_draw (drew_commit zs d g) ds
         → w.draws y ≡ with_draw g.drew ds
     behind_same g y ds has is q = by (is_in y zs) refl
@@ -382,7 +383,8 @@ module _ (key : Key) (w : World) (st : table.State Slot View) (id : ℕ) (v : Vi
         by false c = inl (after_out y c)
         by true c = let r = may.rows y c in inr (r.one, r.held, r.object)
 
-    -- where P of a held object gives Q of it with what is drawn on it then, P of all that are held gives Q of all of them so
+    -- where P of a held object gives Q of it with its new draw, P of all objects in a list of held ones gives Q of all of them with their
+    -- new draws
     held_map : (P Q : Held → Type 0) → ((g : Held) → Contains v.held g → P g → Q (with_drew zs d g)) → (xs : List Held)
         → ((g : Held) → Contains xs g → Contains v.held g) → All P xs → All Q (map (with_drew zs d) xs)
     held_map P Q f [] sub all = Rattle.std.proofs.lemmas.List.Elements.All-nil Q
