@@ -132,8 +132,8 @@ module _ (R : Lists) (walk : IsWalkable R) (t p : ℕ) (s : Stamp) (i : ℕ) (ma
         word_among R (IsWalked R p k) (λ d. InFlatOrder R d (here k)) x (word_in words x) (walked_before R h is_list rise (here k) p b)
         (λ d u before wr. before_walked R h is_list rise (here k) p b d before) (w.words x near)
 
-    -- where each read of the entry at k has its word, and the table afterwards has the words past that entry, the walk has come to place k
-    -- + 1
+    -- where each read of the entry at k has its word, and the table afterwards has the
+    -- words past that entry, the walk has come to place k + 1
     agree : (after : List ℤ) → AgreesWith (word_in words) e → ((x : ℕ) → x < VARIABLES → word_in after x ≡ words_past (word_in words) e x) →
         HasWalked R p (k + 1) after
     agree after agrees past = record { words = more; right = right }

@@ -89,8 +89,8 @@ module _ (es : List Entry) (i x k : ℕ) (write : Bool) where
     | inr not' ↦ inl (λ is. absurd (not' is))
   ]
 
-  -- where the entry at j gives a right on x, and between j and i nothing is an event or gives one, an access at place i has the right or
-  -- not
+  -- where the entry at j gives a right on x, and between j and i nothing is an event
+  -- or gives one, an access at place i has the right or not
   at_giver : (j : ℕ) (e : Entry) (g : Gives e x) → j < i → At es j e → Clear (suc j) → Either
   at_giver j e g less at clear = by_parts (either_nat g.number k) (enough_or_not g.write) where
     -- whether the number given is k or not, and the right enough or not: an access at place i has the right or not
@@ -127,8 +127,8 @@ module _ (es : List Entry) (i x k : ℕ) (write : Bool) where
   down : (j : ℕ) → j ≤ i → Clear j → Either
   down zero le clear = inr (λ h. clear.gives h.index k h.entry h.by_write h.there (omega arith) h.before h.gives)
   down (suc j) le clear = by_entry (slice_get es j) refl (λ c. down j (omega arith) c) where
-    -- whether the entry at j, which is no event, gives a right on x or not: the access has the right or not, if that is known where all is
-    -- clear from j on
+    -- whether the entry at j, which is no event, gives a right on x or not: the access has
+    -- the right or not, if that is known where all is clear from j on
     by_gives : (e : Entry) → At es j e → position_of e ≡ None → Gives e x ⊎ (Gives e x → ⊥) → (Clear j → Either) → Either
     by_gives e at none (inl g) more = at_giver j e g le at clear
     by_gives e at none (inr not') more = more (further j (λ f there. let same : e ≡ f = cc in

@@ -57,8 +57,8 @@ module _ {A : Type 0} (f g : A → ℕ) (y : ℕ) where
     later : IsPick xs p → IsPick (x ∷ xs) p
     later l = record { place = suc l.place; item = l.item; there = l.there; var = l.var; number = l.number }
 
-    -- where g of x is y: what stands in f of x and the picks of the rest is a pick of the whole list, if all that is picked from the rest
-    -- is a pick of it
+    -- where g of x is y: what stands in f of x and the picks of the rest is a pick of the
+    -- whole list, if all that is picked from the rest is a pick of it
     first : (k : ℕ) → slice_get (f x ∷ picks xs) k ≡ Some p → (g x == y) ≡ true → (IsAmong (picks xs) p → IsPick xs p) → IsPick (x ∷ xs) p
     first zero at e more = record { place = 0; item = x; there = refl; var = eqb-true (g x) y e; number = cc }
     first (suc k) at e more = later (more (k, at))

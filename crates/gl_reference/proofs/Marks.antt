@@ -141,8 +141,8 @@ module _ (h : List Stamp) (a : Access) (marks : List Bool) (are : AreMarks h a m
       → IsTrue (b || t) ↔ HappensBeforeNext h a u None
   plain_next u b t own thread = either b t _ _ own (λ x. (thread_iff u).0 (thread.0 x), λ w. thread.1 ((thread_iff u).1 w))
 
-  -- the access happens before the next commit of u on xs if it is of u, if it reaches an event of u, if it is a commit on one of xs, or if
-  -- a commit with one of xs is marked
+  -- the access happens before the next commit of u on xs if it is of u, if it reaches an event of u,
+  -- if it is a commit on one of xs, or if a commit with one of xs is marked
   into_next : (u : ℕ) (xs : List ℕ) → (((a.thread ≡ u) ⊎ ReachesThread h a u) ⊎ IsCommitOn a xs) ⊎ HasMarked h marks (IsCommitWith xs)
       → HappensBeforeNext h a u (Some xs)
   into_next u xs (inl (inl (inl own))) = inl own
@@ -151,8 +151,8 @@ module _ (h : List Stamp) (a : Access) (marks : List Bool) (are : AreMarks h a m
   into_next u xs (inr (q, (s, marked, there, (ys, x, event, one, other)))) =
       inr (inr (inr (q, (s, (ys, (x, there, event, one, other, of_marked q marked))))))
 
-  -- if the access happens before the next commit of u on xs, it is of u, or reaches an event of u, or is a commit on one of xs, or a commit
-  -- with one of xs is marked
+  -- if the access happens before the next commit of u on xs, it is of u, or reaches an event of
+  -- u, or is a commit on one of xs, or a commit with one of xs is marked
   out_of_next : (u : ℕ) (xs : List ℕ) → HappensBeforeNext h a u (Some xs) → (((a.thread ≡ u) ⊎ ReachesThread h a u) ⊎ IsCommitOn a xs)
       ⊎ HasMarked h marks (IsCommitWith xs)
   out_of_next u xs (inl own) = inl (inl (inl own))

@@ -178,8 +178,8 @@ module _ (s : Traced) (now : State) (r : IsRecorded s now) (t : ℕ) (running : 
       racy_draw s.history s.draws ps are (next_part y) (entered (CommitsOn reads writes) judged s) (not_plain judged)
       (part_writes judged y c) racy
 
-  -- what was done with the commit judges it right: performed, it is racy on none of its variables; raised, it is so on the variable named,
-  -- the least such one
+  -- what was done with the commit judges it right: performed, it is racy on none of its
+  -- variables; raised, it is so on the variable named, the least such one
   commit_judged : (h' : List Stamp) (ps' : List Performed) (judged : Judged) → Rises (with_all writes reads)
       → CommitDone s.history ps t (with_all writes reads) writes judged h' ps' → IsJudgedBy (Racy judged) (CommitsOn reads writes) judged
   commit_judged h' ps' NoAccess rising d = d

@@ -121,8 +121,8 @@ module _ (key : Key) (w : World) (st : table.State Slot View) (id : ℕ) (v : Vi
   fits : ShelfFits w.log w.seat id s
   fits = only_shelf (ShelfFits w.log w.seat id) v s one mine.positions.shelves
 
-  -- on each variable of the attempt the mark for its end stands last among the draws, and the row, as it was taken, is that of the draws
-  -- below
+  -- on each variable of the attempt the mark for its end stands last among the draws,
+  -- and the row, as it was taken, is that of the draws below
   row_at : (y : ℕ) (c : is_in y (variables_of tx) ≡ true) → (ds : List Draw) × (w.draws y ≡ draw s.thread p Open ∷ ds)
       × RowStands key.setting w.log y ds (may.drop.rows y c).row
   row_at = open_row key w st id v s tx (Raised var) (variables_of tx) p one may.drop H here
@@ -150,8 +150,8 @@ module _ (key : Key) (w : World) (st : table.State Slot View) (id : ℕ) (v : Vi
   abbrev f : Entry
   f = Abort tx (Raised var)
 
-  -- where all that was seen is true of a list whose first m events are l: over l the refused attempt is racy on var, and on no lower
-  -- variable of its own
+  -- where all that was seen is true of a list whose first m events are l: over l the
+  -- refused attempt is racy on var, and on no lower variable of its own
   tested : (l more : List Stamp) → length l ≡ m → Seen (l ++ more) → (y : ℕ) (c : is_in y (variables_of tx) ≡ true)
       → (y ≡ var → IsRacyNext l y (row_at y c).0 s.thread (Some (variables_of tx)) f)
       × (y < var → IsRacyNext l y (row_at y c).0 s.thread (Some (variables_of tx)) f → ⊥)

@@ -108,8 +108,8 @@ module _ (key : Key) (w : World) (b : Board) (id : ℕ) (v : View) (s : Shelf) (
   draws : ShelfDraws w.draws v.drawn s
   draws = only_shelf (ShelfDraws w.draws v.drawn) v s one mine.numbers.shelves
 
-  -- on each variable of the commit the mark for its end stands last among the draws, and the row, as it was taken, is that of the draws
-  -- below
+  -- on each variable of the commit the mark for its end stands last among the draws,
+  -- and the row, as it was taken, is that of the draws below
   open_row : (y : ℕ) (c : is_in y ys ≡ true) → (ds : List Draw) × (w.draws y ≡ draw s.thread p Open ∷ ds)
       × RowStands key.setting w.log y ds (may.rows y c).row
   open_row y c = let r = may.rows y c in held_open key.setting w b.hold r.one.drew r.one.object y (draw s.thread p Open) r.one.taken r.row

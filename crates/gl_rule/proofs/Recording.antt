@@ -358,8 +358,8 @@ module _ (key : Key) (w : World) (st : table.State Slot View) (id : ℕ) (v : Vi
             let was : w.draws y ≡ draw s.thread p Open ∷ r.before = r.draws_are ∙ ap (λ z. with_draw z r.before) (may.each g y has is c) in
             rw o (record { before = r.before; draws_are = after_in y c r.before was; stands = r.stands })
 
-    -- where the draws of a held row's variable are then ds with what is drawn on the row on top, they were ds before with what was drawn on
-    -- it on top
+    -- where the draws of a held row's variable are then ds with what is drawn on the row
+    -- on top, they were ds before with what was drawn on it on top
     behind_same : (g : Held) (y : ℕ) (ds : List Draw) → Contains v.held g → g.object ≡ suc y → after y ≡ with_draw (drew_commit zs d g) ds
         → w.draws y ≡ with_draw g.drew ds
     behind_same g y ds has is q = by (is_in y zs) refl
@@ -383,8 +383,8 @@ module _ (key : Key) (w : World) (st : table.State Slot View) (id : ℕ) (v : Vi
         by false c = inl (after_out y c)
         by true c = let r = may.rows y c in inr (r.one, r.held, r.object)
 
-    -- where P of a held object gives Q of it with its new draw, P of all objects in a list of held ones gives Q of all of them with their
-    -- new draws
+    -- where P of a held object gives Q of it with its new draw, P of all objects in a
+    -- list of held ones gives Q of all of them with their new draws
     held_map : (P Q : Held → Type 0) → ((g : Held) → Contains v.held g → P g → Q (with_drew zs d g)) → (xs : List Held)
         → ((g : Held) → Contains xs g → Contains v.held g) → All P xs → All Q (map (with_drew zs d) xs)
     held_map P Q f [] sub all = Rattle.std.proofs.lemmas.List.Elements.All-nil Q

@@ -81,8 +81,8 @@ module _ (a : Attempting) (writes : List Pair) (p : PassView) (rows : List Taken
       look_is : (k : Look) → k.var ≡ c.var → k.value ≡ c.read → k ≡ record { var = c.var; value = c.read; nth = k.nth }
       look_is k e g = ap (λ v. record k { var = v }) e ∙ ap (λ v. record k { var = c.var; value = v }) g
 
-  -- where the rows held are those of the attempt's variables: with the number of the end drawn, each look at a variable below the changed
-  -- one has the word of its row
+  -- where the rows held are those of the attempt's variables: with the number of the end drawn,
+  -- each look at a variable below the changed one has the word of its row
   unchanged : vars_of rows ≡ with_all (map (λ w. w.var) writes) (map (λ l. l.var) a.looks) → AreVariables (map (λ l. l.var) a.looks)
       → (q : PassView) (n : ℕ) → HasDrawn p q None rows [] (record { var = c.var; nth = n } ∷ []) → (l : Look) → Contains a.looks l
       → l.var < c.var

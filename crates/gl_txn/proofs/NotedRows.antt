@@ -85,8 +85,8 @@ module _ (setting : Setting) (l : List Stamp) (x t n : ℕ) (near : t < THREADS)
   there : t < length old.reads
   there = let k = s.threads in omega arith
 
-  -- where the reads are as they were but for i as that of thread t, and i stands for t's commit, which reads x: the read of each thread u
-  -- stands for u's last read, the commit being that of t
+  -- where the reads are as they were but for i as that of thread t, and i stands for t's commit, which reads
+  -- x: the read of each thread u stands for u's last read, the commit being that of t
   by_read : (new : Row) (u : ℕ) → new.reads ≡ slice_set old.reads t (Some i)
       → InfoFor setting l i (access_of (draw t n (Entered (Commit n tx)))) false
       → InfoOf setting l false (read_of new.reads u) (if t == u then Some (draw t n (Entered (Commit n tx))) else last_read x u ds)
@@ -154,8 +154,8 @@ module _ (setting : Setting) (p : PassView) (rows : List TakenRow) (base : Quest
   t_near : p.own.id < THREADS
   t_near = subst (λ k. k < THREADS) c.thread c.near
 
-  -- over each list that fits the pass, whether the commit writes the variable or not: where the row as it was taken is that of its draws,
-  -- the new row is that of them with the commit's on top
+  -- over each list that fits the pass, whether the commit writes the variable or not: where the row as it was
+  -- taken is that of its draws, the new row is that of them with the commit's on top
   follows_by : (w : Option ℤ) → r.write ≡ w → IsNotedRow base at w r.row new → (l : List Stamp)
       → IsFitting setting (shelf_of p) p.seen p.known l → (ds : List Draw) → RowStands setting l r.var ds r.row
       → RowStands setting l r.var (draw p.own.id c.position (Entered (Commit c.position c.tx)) ∷ ds) new
