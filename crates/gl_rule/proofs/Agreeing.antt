@@ -60,8 +60,6 @@ module _ (setting : Setting) (s : Shelf) (seen : ℕ) (known : List (ℕ × Stam
       let same : set_after l i ≡ set_after m i = sets_agree from window w l f i le ∙ sym (sets_agree from window w m g i le) in
       subst (λ set. Rattle.gl_model.specs.Locksets.IsOrderedOrExcepted set u vs → ⊥) same fails
 
-  -- where each Info of the row stands at or behind the start of a window of known events: if some
-  -- conflicting one fails over one fitting list, some one fails over any other
   some_as : (from : ℕ) (window : List Stamp) → IsWindow seen known from window → (row : Row) → ((i : Info) → InRow row i → from ≤ i.pos)
       → (l m : List Stamp) → IsFitting setting s seen known l → IsFitting setting s seen known m → (q : Question) → SomeFails l row q
       → SomeFails m row q

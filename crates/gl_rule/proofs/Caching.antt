@@ -123,15 +123,12 @@ by_a_write es x k r = let w : GivesRight r.entry x k true = subst (λ b. GivesRi
 
 module _ (key : Key) (w : World) (st : table.State Slot View) (id : ℕ) (v : View) (s : Shelf) (x k : ℕ) (value : ℤ) (one : v.shelves ≡ s
     ∷ []) (H : Holds key w st) (here : get_elem? st.views id ≡ some v) where
-  -- all that the rule says of a seat's view is true of this one
   mine : Fits key (board (capacity key) st.words) w id v
   mine = H.views.at id v here
 
-  -- the one list of the view is right by the table's events, and this seat has it
   f : ShelfFits w.log w.seat id s
   f = only_shelf (ShelfFits w.log w.seat id) v s one mine.positions.shelves
 
-  -- each draw of the thread has its entry in the one list of the view, or waits for it
   d : ShelfDraws w.draws v.drawn s
   d = only_shelf (ShelfDraws w.draws v.drawn) v s one mine.numbers.shelves
 

@@ -82,8 +82,6 @@ module _ (setting : Setting) (seat : ℕ → ℕ) (j : ℕ) (s : Shelf) (v : Vie
     stands : RowStands setting log x ds taken
     tails : (n : ℕ) → Contains h.tails n → (n ≤ v.seen) × IsWithin taken n
 
-  -- where the facts hold over a list that begins with as many events as were seen, the row
-  -- that is put back is there that of the draws and of the one made since
   put_at : (l more : List Stamp) → length l ≡ v.seen → Put (l ++ more) → RowStands setting (l ++ more) x (with_draw h.drew ds) row
   put_at l more long p =
       let fits = front_fits setting seat j s v hold l more long p.facts in

@@ -428,8 +428,6 @@ module _ (key : Key) (w : World) (b : Board) (id : ℕ) (v : View) (s : Shelf) (
     stands : RowStands key.setting log x ds taken
     verdicts : DrawsHold log x ds
 
-  -- where the facts hold over a list that begins with as many events as were seen, what is
-  -- said of draws holds there of those of x with the new access on top
   right_at : (ds : List Draw) → ((n : ℕ) → Contains h.tails n → (n ≤ v.seen) × IsWithin taken n) → (l more : List Stamp) → length l
       ≡ v.seen → Marks (l ++ more) ds → DrawsHold (l ++ more) x (draw s.thread p (Entered (Plain x (length ds) false write value raised))
       ∷ ds)

@@ -53,11 +53,9 @@ module _ (key : Key) (w : World) (st : table.State Slot View) (id : ℕ) (v : Vi
   pub mine : Fits key b w id v
   mine = H.views.at id v here
 
-  -- the one list of the view is right by the table's events, and this seat has it
   fits : ShelfFits w.log w.seat id s
   fits = only_shelf (ShelfFits w.log w.seat id) v s one mine.positions.shelves
 
-  -- each draw of the thread has its entry in the one list of the view, or waits for it
   draws : ShelfDraws w.draws v.drawn s
   draws = only_shelf (ShelfDraws w.draws v.drawn) v s one mine.numbers.shelves
 
@@ -65,7 +63,6 @@ module _ (key : Key) (w : World) (st : table.State Slot View) (id : ℕ) (v : Vi
   pub its : OwedOne w.draws v.shelves x
   its = mine.owed.owes x value may.owes
 
-  -- where two lists of one shelf are equal, the shelves are
   head_is : (a c : Shelf) → a ∷ [] ≡ c ∷ [] → a ≡ c
   head_is a c e = cc
 
@@ -77,11 +74,9 @@ module _ (key : Key) (w : World) (st : table.State Slot View) (id : ℕ) (v : Vi
   pub has_shelf : Contains v.shelves s
   has_shelf = subst (λ l. Contains l s) (sym one) (zero, omega arith, refl)
 
-  -- where two options with a draw in them are equal, the draws are
   some_draw : (a c : Draw) → Some a ≡ Some c → a ≡ c
   some_draw a c e = cc
 
-  -- the last write of x stands among the draws of x at no number but its own
   number_once : (n : ℕ) → DrawAt (w.draws x) n its.draw → n ≡ its.number
   number_once n at = number_is w.draws s.thread s.marked v.drawn x its.number n its.value its.draw draws.numbers at own its.plain
 
@@ -99,15 +94,12 @@ module _ (key : Key) (w : World) (st : table.State Slot View) (id : ℕ) (v : Vi
   abbrev after : ℕ → List Draw
   after = with_at w.draws x (repeated x vs (w.draws x))
 
-  -- the draws of x are then those from before, with all values that were not written back as repeats of its last write
   after_here : after x ≡ repeated x vs (w.draws x)
   after_here = again_here x vs w.draws
 
-  -- the draws of each other variable are as they were
   after_else : (y : ℕ) → y ≢ x → after y ≡ w.draws y
   after_else y ne = again_else x vs w.draws y ne
 
-  -- behind the last write of x no access was performed
   calm : IsCalm x (w.draws x)
   calm = mine.owed.calm x value may.owes
 
@@ -136,7 +128,6 @@ module _ (key : Key) (w : World) (st : table.State Slot View) (id : ℕ) (v : Vi
     | no ne ↦ subst (λ l. DrawAt l k a) (after_else y ne) at
   ]
 
-  -- the list, and each row but that of x, stands at home as it did
   home_at : (k : ℕ) (y : Slot) → k ≢ suc x → Stands key.setting w b.hold k y → Stands key.setting w' b.hold k y
   home_at zero (slot.List l) ne q = q
   home_at (suc y) (slot.Row r) ne q = (subst (λ ds. RowStands key.setting w.log y ds r) (sym (after_else y (λ e. ne (ap suc e)))) q.0, q.1)
@@ -145,7 +136,6 @@ module _ (key : Key) (w : World) (st : table.State Slot View) (id : ℕ) (v : Vi
   home_at (suc y) slot.Empty ne q = absurd q
   home_at (suc y) (slot.List l) ne q = absurd q
 
-  -- the list, and each row but that of x, stands as it did while it is held
   held_at : (drew : Option Draw) (k : ℕ) (y : Slot) → k ≢ suc x → StandsHeld key.setting w b.hold drew k y
       → StandsHeld key.setting w' b.hold drew k y
   held_at drew zero (slot.List l) ne q = q
@@ -163,7 +153,6 @@ module _ (key : Key) (w : World) (st : table.State Slot View) (id : ℕ) (v : Vi
   held_at drew (suc y) slot.Empty ne q = absurd q
   held_at drew (suc y) (slot.List l) ne q = absurd q
 
-  -- what the pass still owes is right by the draws that there are then
   owed_own : OwedFits after u.owed v.shelves
   owed_own = record {
     calm = calms;

@@ -90,15 +90,12 @@ module _ (key : Key) (w : World) (st : table.State Slot View) (id : ℕ) (v : Vi
   abbrev e : Entry
   e = Abort tx why
 
-  -- all that the rule says of a seat's view is true of this one
   mine : Fits key b w id v
   mine = H.views.at id v here
 
-  -- the one list of the view is right by the table's events, and this seat has it
   fits : ShelfFits w.log w.seat id s
   fits = only_shelf (ShelfFits w.log w.seat id) v s one mine.positions.shelves
 
-  -- each draw of the thread has its entry in the one list of the view, or waits for it
   draws : ShelfDraws w.draws v.drawn s
   draws = only_shelf (ShelfDraws w.draws v.drawn) v s one mine.numbers.shelves
 
@@ -121,7 +118,6 @@ module _ (key : Key) (w : World) (st : table.State Slot View) (id : ℕ) (v : Vi
       by (in_flight look c q) = (may.owns y (length ds)).0
           (subst (λ o. Contains v.drawn (record { var = y; nth = length ds; look = o })) q c)
 
-  -- each number of the attempt is on a variable that was marked for its end
   named_in : (y k : ℕ) → Contains tx.numbers (record { var = y; nth = k }) → is_in y zs ≡ true
   named_in y k c = contains-is_in y zs (subst (λ l. Contains l y) may.names.variables
       (map_contains (λ n. n.var) tx.numbers (record { var = y; nth = k }) c))
@@ -138,11 +134,9 @@ module _ (key : Key) (w : World) (st : table.State Slot View) (id : ℕ) (v : Vi
     abbrev after : ℕ → List Draw
     after = resolved w.draws zs (draw s.thread p w0)
 
-    -- on each variable that was marked for the end, the attempt's own draw stands then in place of the mark
     after_in : (y : ℕ) → is_in y zs ≡ true → (ds : List Draw) → w.draws y ≡ draw s.thread p Open ∷ ds → after y ≡ d ∷ ds
     after_in y c ds is = rw (c, is) refl
 
-    -- on all other variables the draws are as they were
     after_out : (y : ℕ) → is_in y zs ≡ false → after y ≡ w.draws y
     after_out y c = rw c refl
 
@@ -150,20 +144,16 @@ module _ (key : Key) (w : World) (st : table.State Slot View) (id : ℕ) (v : Vi
     heads : (y : ℕ) → is_in y zs ≡ true → (ds : List Draw) × (w.draws y ≡ draw s.thread p Open ∷ ds)
     heads y c = let r = open_row y c in (r.0, r.1)
 
-    -- each thread has as many draws on each variable as before
     same_count : (u y : ℕ) → count_by u (after y) ≡ count_by u (w.draws y)
     same_count u y = count_resolved w.draws s.thread p zs d refl heads u y
 
-    -- each variable has as many draws as before
     same_length : (y : ℕ) → length (after y) ≡ length (w.draws y)
     same_length y = length_resolved w.draws s.thread p zs d refl heads y
 
-    -- each number that the dropped attempt drew waits for its entry
     waits : (y k : ℕ) → Draws (Abort tx why) y k → (look : Option ℤ) × Contains v.drawn (record { var = y; nth = k; look = look })
     waits y k (inl l) = (Some l.0, (may.looks y k l.0).1 l.1)
     waits y k (inr n) = (None, (may.owns y k).1 n)
 
-    -- a number that waits for a look is none of those of the attempt's end
     not_own : (y k : ℕ) (value : ℤ) → Contains v.drawn (record { var = y; nth = k; look = Some value })
         → Contains tx.numbers (record { var = y; nth = k }) → ⊥
     not_own y k value c n =
@@ -172,7 +162,6 @@ module _ (key : Key) (w : World) (st : table.State Slot View) (id : ℕ) (v : Vi
         let same : f.0 ≡ g.0 = one_draw (w.draws y) k f.0 g.0 f.1 g.1 in
         still_some g.0.what value g.3 (sym (ap (λ (z : Draw). z.what) same) ∙ still_none f.0.what f.3)
 
-    -- the marks for the end, and the numbers that wait, are those of the dropped attempt
     are_dropped : AreEnded w.draws s.thread p p zs w0 tx e s.marked v.drawn
     are_dropped = record {
       heads = λ y c. let r = open_row y c in (r.0, r.1, number_of y r.0 r.1);
@@ -185,7 +174,6 @@ module _ (key : Key) (w : World) (st : table.State Slot View) (id : ℕ) (v : Vi
       in_block = B.in_block;
     }
 
-    -- with the attempt's entry in the list, each draw of the thread has its entry there, and none waits
     numbers_own : ShelfDraws after [] (shelf s.thread (s.marked ++ e ∷ []))
     numbers_own = record {
       numbers = drawn_ended w.draws s.thread p p zs w0 tx e s.marked v.drawn draws.numbers are_dropped;
@@ -196,7 +184,6 @@ module _ (key : Key) (w : World) (st : table.State Slot View) (id : ℕ) (v : Vi
       runs = λ o has. absurd (let l = has.1 in omega arith);
     }
 
-    -- each draw that there is then is of a thread below THREADS
     among_after : (y : ℕ) (f : Draw) → Among (after y) f → f.thread < THREADS
     among_after y f among = by (is_in y zs) refl
       where
@@ -229,7 +216,6 @@ module _ (key : Key) (w : World) (st : table.State Slot View) (id : ℕ) (v : Vi
               old.1,
             )
 
-    -- what is said of refused attempts holds of the draws of each variable then
     refused : (y : ℕ) → RefusalsHold w.log (until' y) y (after y)
     refused y = by (is_in y zs) refl
       where
@@ -268,7 +254,6 @@ module _ (key : Key) (w : World) (st : table.State Slot View) (id : ℕ) (v : Vi
                 let f : IsFor Open (Abort tx' (Raised var)) y n = subst (λ (a : Draw). IsFor a.what (Abort tx' (Raised var)) y n) is m.4
                 in f))
 
-    -- each variable has the same last write as before
     write_same : (y : ℕ) → last_write y (after y) ≡ last_write y (w.draws y)
     write_same y = by (is_in y zs) refl
       where
@@ -277,7 +262,6 @@ module _ (key : Key) (w : World) (st : table.State Slot View) (id : ℕ) (v : Vi
         by true c = let r = open_row y c in ap (last_write y) (after_in y c r.0 r.1) ∙ write_past y d r.0 (B.unwritten y)
             ∙ sym (ap (last_write y) r.1 ∙ write_past y (draw s.thread p Open) r.0 refl)
 
-    -- each draw of the thread then was there before, or neither it nor the thread's list has repeats of its number
     repeats_after : (y k : ℕ) (g : Draw) → DrawAt (after y) k g → g.thread ≡ s.thread → DrawAt (w.draws y) k g
         ⊎ ((g.repeats ≡ []) × (repeats_of y k s.marked ≡ []))
     repeats_after y k g at own = by (is_in y zs) refl
@@ -295,7 +279,6 @@ module _ (key : Key) (w : World) (st : table.State Slot View) (id : ℕ) (v : Vi
               | inr old ↦ inl (subst (λ l. DrawAt l k g) (sym r.1) (inr old))
             ]
 
-    -- where no access was performed behind a variable's last write, none is then
     calm_same : (y : ℕ) → IsCalm y (w.draws y) → IsCalm y (after y)
     calm_same y calm = by (is_in y zs) refl
       where
@@ -307,7 +290,6 @@ module _ (key : Key) (w : World) (st : table.State Slot View) (id : ℕ) (v : Vi
             subst (IsCalm y) (sym (after_in y c r.0 r.1))
             (elim old [ inl q ↦ absurd (let z : false ≡ true = q in cc) | inr q ↦ inr (B.unwritten y, B.unperformed, q.2) ])
 
-    -- the draw that is then a variable's last write was there before, at the same number
     written_after : (y k : ℕ) (g : Draw) → DrawAt (after y) k g → last_write y (after y) ≡ Some g → DrawAt (w.draws y) k g
     written_after y k g at last = by (is_in y zs) refl
       where
@@ -324,7 +306,6 @@ module _ (key : Key) (w : World) (st : table.State Slot View) (id : ℕ) (v : Vi
     abbrev w' : World
     w' = record w { draws = resolved w.draws zs (draw s.thread p w0); until = until' }
 
-    -- the list stands at home as it did, and so does each row whose variable has the draws that it had
     home_at : (k : ℕ) (y : Slot) → ((x : ℕ) → k ≡ suc x → after x ≡ w.draws x) → Stands key.setting w b.hold k y
         → Stands key.setting w' b.hold k y
     home_at zero (slot.List l) same q = q
@@ -334,7 +315,6 @@ module _ (key : Key) (w : World) (st : table.State Slot View) (id : ℕ) (v : Vi
     home_at (suc x) slot.Empty same q = absurd q
     home_at (suc x) (slot.List l) same q = absurd q
 
-    -- a held object that stands with drew stands then with drew', if a row that is held rightly with drew is so then with drew'
     held_at : (drew drew' : Option Draw) (k : ℕ) (y : Slot)
         → ((x : ℕ) (row : Row) → k ≡ suc x → RowHeld key.setting w x drew row → RowHeld key.setting w' x drew' row)
         → StandsHeld key.setting w b.hold drew k y → StandsHeld key.setting w' b.hold drew' k y
@@ -345,7 +325,6 @@ module _ (key : Key) (w : World) (st : table.State Slot View) (id : ℕ) (v : Vi
     held_at drew drew' (suc x) slot.Empty step q = absurd q
     held_at drew drew' (suc x) (slot.List l) step q = absurd q
 
-    -- a held row, as it was taken, is still that of the draws below the one that was made on it since
     row_after : (g : Held) (y : ℕ) (row : Row) → Contains v.held g → g.object ≡ suc y → RowHeld key.setting w y g.drew row
         → RowHeld key.setting w' y (drew_commit zs d g) row
     row_after g y row has is r = by (is_in y zs) refl
@@ -358,8 +337,6 @@ module _ (key : Key) (w : World) (st : table.State Slot View) (id : ℕ) (v : Vi
             let was : w.draws y ≡ draw s.thread p Open ∷ r.before = r.draws_are ∙ ap (λ z. with_draw z r.before) (may.each g y has is c) in
             rw o (record { before = r.before; draws_are = after_in y c r.before was; stands = r.stands })
 
-    -- where the draws of a held row's variable are then ds with what is drawn on the row
-    -- on top, they were ds before with what was drawn on it on top
     behind_same : (g : Held) (y : ℕ) (ds : List Draw) → Contains v.held g → g.object ≡ suc y → after y ≡ with_draw (drew_commit zs d g) ds
         → w.draws y ≡ with_draw g.drew ds
     behind_same g y ds has is q = by (is_in y zs) refl
@@ -375,7 +352,6 @@ module _ (key : Key) (w : World) (st : table.State Slot View) (id : ℕ) (v : Vi
             ∙ ap (λ z. with_draw z ds) (the_then (is_object g.object zs) (Some d) g.drew o) in
             r.1 ∙ ap (λ l. draw s.thread p Open ∷ l) (cons_tail d d r.0 ds cons) ∙ sym (ap (λ z. with_draw z ds) (may.each g y has is c))
 
-    -- each variable has the draws that it had, or the pass holds its row
     elsewhere : (y : ℕ) → (after y ≡ w.draws y) ⊎ HasObject v (suc y)
     elsewhere y = by (is_in y zs) refl
       where
@@ -383,8 +359,6 @@ module _ (key : Key) (w : World) (st : table.State Slot View) (id : ℕ) (v : Vi
         by false c = inl (after_out y c)
         by true c = let r = may.rows y c in inr (r.one, r.held, r.object)
 
-    -- where P of a held object gives Q of it with its new draw, P of all objects in a
-    -- list of held ones gives Q of all of them with their new draws
     held_map : (P Q : Held → Type 0) → ((g : Held) → Contains v.held g → P g → Q (with_drew zs d g)) → (xs : List Held)
         → ((g : Held) → Contains xs g → Contains v.held g) → All P xs → All Q (map (with_drew zs d) xs)
     held_map P Q f [] sub all = Rattle.std.proofs.lemmas.List.Elements.All-nil Q

@@ -30,7 +30,6 @@ module _ (setting : Setting) (low : ℕ) (R : Lists) (c : IsClosed setting low R
     | inr far ↦ absurd (let z : At [] p.index (Trim l) = subst (λ es. At es p.index (Trim l)) (c.beyond p.thread far) at in cc)
   ]
 
-  -- two Trims of the record with the same low stand at one place
   once : (p q : Place) (l : ℕ) → EntryAt R p (Trim l) → EntryAt R q (Trim l) → p ≡ q
   once p q l a b =
       let t : p.thread ≡ q.thread = c.lowest.once (p.thread, l) (q.thread, l) (trims_of p l a) (trims_of q l b) refl in

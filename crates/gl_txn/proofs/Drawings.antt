@@ -29,21 +29,17 @@ use Rattle.gl_txn.proofs.LookSteps.{block_is}
 module _ (held : List Held) (list : Option Held) (rows : List TakenRow) (tails : List ℕ) (drew drew' : ℕ → Option Draw)
     (a : AreHeld held list rows tails drew) (x : ℕ) (r : TakenRow) (there : row_at rows x ≡ Some r) (d : Draw)
     (now : drew' x ≡ Some d) (others : (y : ℕ) → y ≢ x → drew' y ≡ drew y) where
-  -- the row is that of x
   at_var : r.var ≡ x
   at_var = (row_among rows x r there).1
 
-  -- the row of x as it is held then, with d drawn on it
   h : Held
   h = record (row_held tails drew r) { drew = Some d }
 
-  -- what is held of each other variable's row is as it was
   by_row : (y : ℕ) → y ≢ x → (o : Option TakenRow) → row_at rows y ≡ o → held_by tails drew o ≡ held_by tails drew' o
   by_row y ne None e = refl
   by_row y ne (Some q) e = let at : q.var ≡ y = (row_among rows y q e).1
       in ap (λ (z : Option Draw). Some (record (row_held tails drew q) { drew = z })) (sym (others q.var (λ s. ne (sym at ∙ s))))
 
-  -- what is held of the row of x is the row as it was taken, with d drawn on it
   here : held_by tails drew' (Some r) ≡ Some (record (row_held tails drew r) { drew = Some d })
   here = ap (λ (z : Option Draw). Some (record (row_held tails drew r) { drew = z })) (ap drew' at_var ∙ now)
 
@@ -84,23 +80,18 @@ module _ (p q : PassView) (list : Option Held) (rows : List TakenRow) (tails : L
     moves = moved (length numbers) p.moves;
   }
 
-  -- x is none of the variables that have their number
   not_drawn : is_in x (numbered numbers) ≡ false
   not_drawn = elim (cases_Bool (is_in x (numbered numbers))) [ inl b ↦ absurd (out (is_in-contains x (numbered numbers) b)) | inr b ↦ b ]
 
-  -- nothing was drawn on the row of x
   none : drew_on p (numbered numbers) x ≡ None
   none = let b = not_drawn in rw b refl
 
-  -- the row is that of x
   of : r.var ≡ x
   of = (row_among rows x r there).1
 
-  -- the object of x is found among what is held: it is the row as it was taken
   held_is : found (suc x) q.own.held ≡ Some (row_held tails (drew_on p (numbered numbers)) r)
   held_is = drawn.held.at (suc x) ∙ ap (held_by tails (drew_on p (numbered numbers))) there
 
-  -- what is looked up as the held object of x is that row
   at_is : held_at (x + 1) q.own.held ≡ row_held tails (drew_on p (numbered numbers)) r
   at_is = found_at (x + 1) q.own.held (row_held tails (drew_on p (numbered numbers)) r) (ap (λ k. found k q.own.held) (add-one x) ∙ held_is)
 
@@ -160,27 +151,22 @@ module _ (p q : PassView) (list : Option Held) (rows : List TakenRow) (tails : L
         moves = moved 1 z.moves;
       }) drawn.is
 
-  -- with one number more, what waits has that number more at its end
   ends_pushed : (ns : List Number) (n : Number) → map end_of (ns ++ n ∷ []) ≡ map end_of ns ++ end_of n ∷ []
   ends_pushed [] n = refl
   ends_pushed (k ∷ ns) n = ap (λ (l : List Drawn). end_of k ∷ l) (ends_pushed ns n)
 
-  -- with one number more, its variable comes behind those of the others
   keys_pushed : (ns : List Number) (n : Number) → numbered (ns ++ n ∷ []) ≡ numbered ns ++ n.var ∷ []
   keys_pushed [] n = refl
   keys_pushed (k ∷ ns) n = ap (λ (l : List ℕ). k.var ∷ l) (keys_pushed ns n)
 
-  -- a variable that was put behind a list is in it
   in_last : (ys : List ℕ) (y : ℕ) → is_in y (ys ++ y ∷ []) ≡ true
   in_last ys y = contains-is_in y (ys ++ y ∷ [])
       (Rattle.std.proofs.lemmas.List.Elements.Contains-append_right ys (y ∷ []) y (0, omega arith, refl))
 
-  -- another variable is in a list with y put behind it exactly where it is in the list
   in_other : (ys : List ℕ) (y z : ℕ) → z ≢ y → is_in z (ys ++ y ∷ []) ≡ is_in z ys
   in_other [] y z ne = let b : (z == y) ≡ false = ne_eqb z y ne in rw b refl
   in_other (k ∷ ys) y z ne = ap (λ b. if z == k then true else b) (in_other ys y z ne)
 
-  -- equal numbers are of one variable, and are the same number
   number_same : (a b : Number) → a ≡ b → (a.var ≡ b.var) × (a.nth ≡ b.nth)
   number_same a b e = (ap (λ (k : Number). k.var) e, ap (λ (k : Number). k.nth) e)
 

@@ -46,7 +46,6 @@ one_only y x b = elim (ℕ_discrete y x) [
 -- the attempt whose word was changed, with the number n of its end
 module _ (a : Attempting) (writes : List Pair) (p : PassView) (rows : List TakenRow) (c : Change) (m : MayNumber p rows)
     (held : AreHeld p.own.held None rows [] undrawn) (draws : Draws a p.own) (f : IsFirstChange a.looks rows c) where
-  -- the row of the changed variable is the one at which the change was found
   there : row_at rows c.var ≡ Some f.row
   there = ap (row_at rows) f.is.var ∙ row_found rows f.place f.row held.are.1 f.there
 
@@ -69,7 +68,6 @@ module _ (a : Attempting) (writes : List Pair) (p : PassView) (rows : List Taken
   abbrev in_rows : (y : ℕ) → is_in y (c.var ∷ []) ≡ true → (r : TakenRow) × (row_at rows y ≡ Some r)
   in_rows y b = (f.row, ap (row_at rows) (one_only y c.var b) ∙ there)
 
-  -- where the one number n names the changed variable, the entry of the dropped attempt is well formed
   formed : (n : ℕ) → Rattle.gl_model.specs.Form.NumbersName
       (record { looks = a.looks; writes = writes; numbers = record { var = c.var; nth = n } ∷ [] }) (c.var ∷ [])
       → Rattle.gl_model.specs.Form.EntryForm p.own.id
@@ -81,8 +79,6 @@ module _ (a : Attempting) (writes : List Pair) (p : PassView) (rows : List Taken
       look_is : (k : Look) → k.var ≡ c.var → k.value ≡ c.read → k ≡ record { var = c.var; value = c.read; nth = k.nth }
       look_is k e g = ap (λ v. record k { var = v }) e ∙ ap (λ v. record k { var = c.var; value = v }) g
 
-  -- where the rows held are those of the attempt's variables: with the number of the end drawn,
-  -- each look at a variable below the changed one has the word of its row
   unchanged : vars_of rows ≡ with_all (map (λ w. w.var) writes) (map (λ l. l.var) a.looks) → AreVariables (map (λ l. l.var) a.looks)
       → (q : PassView) (n : ℕ) → HasDrawn p q None rows [] (record { var = c.var; nth = n } ∷ []) → (l : Look) → Contains a.looks l
       → l.var < c.var
@@ -140,7 +136,6 @@ module _ (a : Attempting) (writes : List Pair) (p : PassView) (rows : List Taken
 -- once the entry is stored, no access was drawn on the rows, and they may go back
 module _ (p q : PassView) (rows : List TakenRow) (tails : List ℕ) (numbers : List Number) (zs : List ℕ) (are : numbered numbers ≡ zs)
     (d : HasDrawn p q None rows tails numbers) (tx : Tx) where
-  -- just these rows are held, with a mark for the end on those of zs
   held_on : AreHeld q.own.held None rows tails (drew_on p zs)
   held_on = subst (λ ys. AreHeld q.own.held None rows tails (drew_on p ys)) are d.held
 

@@ -167,12 +167,10 @@ module _ (p : PassView) (H : List Held) (rows : List TakenRow) (tails : List ℕ
   abbrev dropped_drew : ℕ → Option Draw
   dropped_drew y = if is_in y zs then Some d else drew_on p zs y
 
-  -- what is held of a row has then the attempt's draw on it where its variable is one of zs, and is else as it was
   at_dropped : (y : ℕ) (o : Option TakenRow) → changed (with_drew zs d) (held_by tails (drew_on p zs) o) ≡ held_by tails dropped_drew o
   at_dropped y None = refl
   at_dropped y (Some r) = refl
 
-  -- just these rows are held then, with the attempt's draw on those of zs
   held_dropped : AreHeld (map (with_drew zs d) H) None rows tails dropped_drew
   held_dropped = record {
     at = at;
@@ -185,7 +183,6 @@ module _ (p : PassView) (H : List Held) (rows : List TakenRow) (tails : List ℕ
       at (suc y) = found_mapped (with_drew zs d) (λ h. refl) (suc y) H ∙ ap (changed (with_drew zs d)) (held.at (suc y))
           ∙ at_dropped y (row_at rows y)
 
-  -- where two options with a draw in them are equal, the draws are
   some_draw : (u w : Draw) → Some u ≡ Some w → u ≡ w
   some_draw u w e = cc
 

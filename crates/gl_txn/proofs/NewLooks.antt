@@ -54,7 +54,6 @@ key_of x (k ∷ ls) m (suc i, n, is) same = let r = key_of x ls m (i, omega arit
 
 -- where no number on x waits, the numbers of the looks go on to be those that wait, with one more
 module _ (a : Attempting) (o : Own) (d : Draws a o) (l : Look) (out : looked a l.var ≡ None) where
-  -- no number that waits is on the look's variable
   none_on : (q : Drawn) → Contains o.drawn q → q.var ≢ l.var
   none_on q c e = by_look q.look refl
     where

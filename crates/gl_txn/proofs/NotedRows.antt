@@ -81,12 +81,9 @@ module _ (setting : Setting) (l : List Stamp) (x t n : ℕ) (near : t < THREADS)
         reads = λ u. (let r : read_of new.reads u ≡ None = ap (λ xs. read_of xs u) reads ∙ none_at THREADS u in rw (iw, r) tt);
       }
 
-  -- the row has a place for a read of thread t
   there : t < length old.reads
   there = let k = s.threads in omega arith
 
-  -- where the reads are as they were but for i as that of thread t, and i stands for t's commit, which reads
-  -- x: the read of each thread u stands for u's last read, the commit being that of t
   by_read : (new : Row) (u : ℕ) → new.reads ≡ slice_set old.reads t (Some i)
       → InfoFor setting l i (access_of (draw t n (Entered (Commit n tx)))) false
       → InfoOf setting l false (read_of new.reads u) (if t == u then Some (draw t n (Entered (Commit n tx))) else last_read x u ds)
@@ -142,20 +139,15 @@ some_info i j e = cc
 
 module _ (setting : Setting) (p : PassView) (rows : List TakenRow) (base : Question) (at : ℕ) (r : TakenRow)
     (c : AreCommitted p (rows ++ r ∷ []) base at) (new : Row) where
-  -- the row r is held, with the commit drawn on it
   last : found (suc r.var) p.own.held ≡ Some (row_held c.tails (drew_commit_at p c.tx c.position) r)
   last = held_last p.own.held None rows r c.tails (drew_commit_at p c.tx c.position) c.held
 
-  -- the row is to have the word that the commit writes to its variable, if it writes it
   word : r.write ≡ write_in c.tx.writes r.var
   word = c.writes r (Contains-append_right rows (r ∷ []) r (0, omega arith, refl))
 
-  -- the pass's thread is below THREADS
   t_near : p.own.id < THREADS
   t_near = subst (λ k. k < THREADS) c.thread c.near
 
-  -- over each list that fits the pass, whether the commit writes the variable or not: where the row as it was
-  -- taken is that of its draws, the new row is that of them with the commit's on top
   follows_by : (w : Option ℤ) → r.write ≡ w → IsNotedRow base at w r.row new → (l : List Stamp)
       → IsFitting setting (shelf_of p) p.seen p.known l → (ds : List Draw) → RowStands setting l r.var ds r.row
       → RowStands setting l r.var (draw p.own.id c.position (Entered (Commit c.position c.tx)) ∷ ds) new
@@ -174,11 +166,9 @@ module _ (setting : Setting) (p : PassView) (rows : List TakenRow) (base : Quest
   abbrev Above : Info → Type 0
   Above i = ((n : ℕ) × Contains c.tails n × (n ≤ i.pos)) ⊎ ((o : Info) × InRow r.row o × (o.pos ≤ i.pos))
 
-  -- an Info whose position is that of the tail stands at a tail that was seen since the row was taken
   above_new : (i info : Info) → info ≡ i → info.pos ≡ at → Above i
   above_new i info e pos = inl (at, c.fresh, (let q = ap (λ (z : Info). z.pos) e in omega arith))
 
-  -- each Info of the new row stands at or behind a tail that was seen since the row was taken, or no lower than one of that row
   above_by : (w : Option ℤ) → IsNotedRow base at w r.row new → (i : Info) → InRow new i → Above i
   above_by None noted i (inl e) = let k = noted.read refl in inr (i, inl (sym k.0 ∙ e), omega arith)
   above_by None noted i (inr (u, e)) =

@@ -24,7 +24,6 @@ module _ (held : List Held) (rows : List TakenRow) (tails : List ℕ) (a : AreHe
   abbrev pub list_held : Held
   list_held = with_tail n (new_held 0 y)
 
-  -- what is held of a row has then the tail n beside those seen before
   at_tail : (o : Option TakenRow) → changed (with_tail n) (held_by tails undrawn o) ≡ held_by (n ∷ tails) undrawn o
   at_tail None = refl
   at_tail (Some r) = refl
@@ -48,7 +47,6 @@ module _ (held : List Held) (l : Held) (l0 : l.object ≡ 0) (rows : List TakenR
   abbrev pub changes : Held → Held
   changes h = after_publish n y (drew_commit ys d) h
 
-  -- a held object is still the same object after the event was published
   same_object : (h : Held) → (after_publish n y (drew_commit ys d) h).object ≡ h.object
   same_object h = by_bool (h.object == 0)
     where
@@ -57,7 +55,6 @@ module _ (held : List Held) (l : Held) (l0 : l.object ≡ 0) (rows : List TakenR
       by_bool true = refl
       by_bool false = refl
 
-  -- a row of one of the commit's variables is held then with the new tail seen and the commit drawn on it
   changes_row : (r : TakenRow) → Contains ys r.var → after_publish n y (drew_commit ys d) (row_held tails drew r)
       ≡ row_held (suc n ∷ tails) (λ z. Some d) r
   changes_row r c =
@@ -65,7 +62,6 @@ module _ (held : List Held) (l : Held) (l0 : l.object ≡ 0) (rows : List TakenR
       let b : is_in r.var ys ≡ true = contains-is_in r.var ys c in
       rw (f, b) refl
 
-  -- what is held of any row has then the new tail seen and the commit drawn on it
   at_row : (z : ℕ) (o : Option TakenRow) → row_at rows z ≡ o → changed (after_publish n y (drew_commit ys d)) (held_by tails drew o)
       ≡ held_by (suc n ∷ tails) (λ z. Some d) o
   at_row z None e = refl

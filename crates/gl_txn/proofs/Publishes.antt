@@ -100,38 +100,31 @@ module _ (z : TableView) (o : PassView) (rows : List TakenRow) (tx : Tx) (l : Li
     abbrev end : Tx
     end = record { looks = tx.looks; writes = tx.writes; numbers = numbers }
 
-    -- the numbers that were drawn are on the variables of the transaction, one on each, in order
     are : numbered numbers ≡ variables_of tx
     are = all ∙ R.of
 
-    -- the variables of the transaction rise
     rises : Rises (variables_of tx)
     rises = subst Rises R.of R.held.are.1
 
-    -- just the list and these rows are held, with a mark for the end on each of the transaction's variables
     held : AreHeld H (Some (with_tail tail (new_held 0 (slot.List l)))) rows (tail ∷ o.seen ∷ [])
         (drew_on (with_room o l low tail) (variables_of tx))
     held = subst (λ ys. AreHeld H (Some (with_tail tail (new_held 0 (slot.List l)))) rows (tail ∷ o.seen ∷ [])
         (drew_on (with_room o l low tail) ys)) are drawn_held
 
-    -- after the list was reached, the numbers that wait are still those of the attempt's looks
     draws : Draws (attempt_in tx) (with_room o l low tail).own
     draws = record { looks = R.draws.looks; ends = R.draws.ends; each = R.draws.each }
 
-    -- each variable of the transaction has its row among those held
     in_by : (y : ℕ) → is_in y (variables_of tx) ≡ true → is_in y (vars_of rows) ≡ true
     in_by y b = subst (λ ys. is_in y ys ≡ true) (sym R.of) b
 
     abbrev in_rows : (y : ℕ) → is_in y (variables_of tx) ≡ true → (r : TakenRow) × (row_at rows y ≡ Some r)
     in_rows y b = row_of rows y (in_by y b)
 
-    -- the variable of a row is among the variables of the rows
     among : (xs : List TakenRow) (r : TakenRow) → Contains xs r → Contains (vars_of xs) r.var
     among [] r c = absurd (let n = c.1 in omega arith)
     among (x ∷ xs) r (zero, n, e) = (0, omega arith, ap (λ (z : TakenRow). z.var) e)
     among (x ∷ xs) r (suc k, n, e) = let f = among xs r (k, omega arith, e) in (suc f.0, (let n = f.1 in omega arith), f.2)
 
-    -- where the Infos in the row of each of the transaction's variables stand for accesses, those of each row held do
     stand_all : (setting : Setting) (k : List Stamp)
         → ((y : ℕ) (b : is_in y (variables_of tx) ≡ true) → InfosStand setting k (in_rows y b).0.row) → (r : TakenRow) → Contains rows r
         → InfosStand setting k r.row
@@ -140,12 +133,10 @@ module _ (z : TableView) (o : PassView) (rows : List TakenRow) (tx : Tx) (l : Li
         let d : is_in r.var (variables_of tx) ≡ true = subst (λ ys. is_in r.var ys ≡ true) R.of b in
         subst (λ (u : TakenRow). InfosStand setting k u.row) (row_is rows R.held.are.1 r c (in_by r.var d)) (stand r.var d)
 
-    -- the numbers that were drawn name the variables of the transaction
     names : NumbersName (record { looks = tx.looks; writes = tx.writes; numbers = numbers }) (variables_of tx)
     names = names_one (attempt_in tx) tx.writes (with_room o l low tail) H (Some (with_tail tail (new_held 0 (slot.List l)))) rows (tail
         ∷ o.seen ∷ []) numbers (variables_of tx) draws are rises held above in_rows R.runs
 
-    -- the pass may commit the transaction with these numbers, over the events that it had seen before it reached the list
     commits : MayCommit z.key.setting (shelf_of o)
         (view_of (record (with_room o l low tail) {
           own = record (with_room o l low tail).own { held = H; drawn = o.own.drawn ++ map end_of numbers };
@@ -183,7 +174,6 @@ module _ (z : TableView) (o : PassView) (rows : List TakenRow) (tx : Tx) (l : Li
           (subst (λ n. SomeFails k r.row (asked_of o.own.id tx n)) (sym at) fails));
     }
 
-    -- from any state of the machine that the list's state stands for, the commit is a step, and the state stays the same
     steps : (now : State) → IsStateOf l now → (new : State)
         × Step z.key.setting now (commit_stamp o.own.id (record { looks = tx.looks; writes = tx.writes; numbers = numbers })) (pos 0) new
         × IsStateOf l new
@@ -234,7 +224,6 @@ module _ (setting : Setting) (q r : PassView) (l : ListView) (t : Held) (object 
   abbrev list_after : Held
   list_after = after_publish n (slot.List l) (drew_commit (variables_of tx) (draw q.own.id n (Entered (Commit n tx)))) t
 
-  -- the list may be put back with the state with which it was taken
   leave_list : (s : _) (v : View) (h : Held) (k : ℕ) (x y : Slot) → k ≡ 0 → y ≡ x → MayLeaveAt setting s v h k x y
   leave_list s v h k x y e same = subst (λ z. MayLeaveAt setting s v h z x y) (sym e) same
 
@@ -253,7 +242,6 @@ module _ (setting : Setting) (q r : PassView) (l : ListView) (t : Held) (object 
       })
 
   module _ (s : PassView) (put : s ≡ after r (left (view_of r) 0 false)) where
-    -- the pass is then as it was when the commit was published, with the list put back
     whole : s ≡ after (published_tx q tx n l) (left (view_of (published_tx q tx n l)) 0 false)
     whole = put ∙ ap (λ (r : PassView). after r (left (view_of r) 0 false)) is
 

@@ -82,7 +82,6 @@ says_same s a b q u verdict e f says = subst (λ (u : Question). Says s b u verd
 
 module _ (p q : PassView) (rows : List TakenRow) (base : Question) (writes : List Pair) (m : MayJudge p rows base) (k : KnowsOn p q)
     (i : ℕ) (r : TakenRow) (there : slice_get rows i ≡ Some r) where
-  -- a row that stands at a place of some rows is one of them
   in_place : (xs : List TakenRow) (j : ℕ) → slice_get xs j ≡ Some r → Contains xs r
   in_place [] j e = absurd (cc)
   in_place (x ∷ xs) zero e = (0, omega arith, (let same : x ≡ r = cc in same))
@@ -127,11 +126,9 @@ module _ (p q : PassView) (rows : List TakenRow) (base : Question) (writes : Lis
     says_on setting l fits stand = says setting l fits (next s (knows_more r.row p q s k w) setting l fits)
         (stand_judged setting l r.row (stand r (in_place rows i there)))
 
-    -- where two options with a row in them are equal, the rows are
     some_is : (u v : TakenRow) → Some u ≡ Some v → u ≡ v
     some_is u v e = cc
 
-    -- where the commit completes no race on the rows before place i, it completes none there when more events are known
     before_on : AreClearBefore i q base writes rows → AreClearBefore i s base writes rows
     before_on before j u near at = over_more r.row q s rows (λ l. SomeFails l u.row (asked_on base writes u.var) → ⊥) w (before j u near at)
 

@@ -72,7 +72,6 @@ module _ (p q r : PassView) (rows : List TakenRow) (tx : Tx) (h : HoldsRows p ro
   abbrev T : PassView
   T = after p (saw_tail (view_of p) n)
 
-  -- the pass is as it was, but that it has seen the tail n and knows more events
   is : r ≡ record (after p (saw_tail (view_of p) n)) { known = p.known ++ k.more; loaded = r.loaded; moves = r.moves }
   is = ap (λ (u : PassView). record u { moves = r.moves }) k.is
       ∙ ap (λ (u : PassView). record u { known = u.known ++ k.more; loaded = r.loaded; moves = r.moves }) saw
@@ -89,32 +88,26 @@ module _ (p q r : PassView) (rows : List TakenRow) (tx : Tx) (h : HoldsRows p ro
         each = h.draws.each;
       })
 
-  -- when the tail was seen, the numbers that wait are still those of the attempt's looks
   draws_seen : Draws (attempt_in tx) (after p (saw_tail (view_of p) n)).own
   draws_seen = record { looks = h.draws.looks; ends = h.draws.ends; each = h.draws.each }
 
   pub draws_now : Draws (attempt_in tx) r.own
   draws_now = subst (λ (u : PassView). Draws (attempt_in tx) u.own) (sym is) draws_seen
 
-  -- where some Info of a row fails the test of the question base, some Info fails that of the transaction's commit
   test_same : (id : ℕ) → id ≡ p.own.id → (l : List Stamp) (row : Row) (y : ℕ) → SomeFails l row (asked_on base tx.writes y)
       → SomeFails l row (asked_of id tx y)
   test_same id e l row y f = same_test l row (asked_on base tx.writes y) (asked_of id tx y) (thread ∙ sym e) refl commit f
 
-  -- where some Info of a row fails the test of the transaction's commit, some Info fails that of the question base
   test_back : (id : ℕ) → id ≡ p.own.id → (l : List Stamp) (row : Row) (y : ℕ) → SomeFails l row (asked_of id tx y)
       → SomeFails l row (asked_on base tx.writes y)
   test_back id e l row y f = same_test l row (asked_of id tx y) (asked_on base tx.writes y) (e ∙ sym thread) refl (sym commit) f
 
-  -- the pass is of the thread that it was of
   id_is : r.own.id ≡ p.own.id
   id_is = ap (λ (u : PassView). u.own.id) is
 
-  -- just these rows are held, with the tail seen since and nothing drawn on them
   seen_held : AreHeld r.own.held None rows (r.seen ∷ []) undrawn
   seen_held = subst (λ (u : PassView). AreHeld u.own.held None rows (u.seen ∷ []) undrawn) (sym is) (held_tail p.own.held rows [] h.held n)
 
-  -- each event of the pass's list stands below the tail that it has seen
   seen_below : AreBelow r.seen (shelf_of r)
   seen_below = subst (λ (u : PassView). AreBelow u.seen (shelf_of u)) (sym is) below
 
@@ -276,16 +269,13 @@ module _ (p q r : PassView) (rows : List TakenRow) (tx : Tx) (h : HoldsRows p ro
   abbrev J : PassView
   J = record (after p (saw_tail (view_of p) n)) { known = p.known ++ k.more; loaded = r.loaded; moves = r.moves }
 
-  -- the pass is as it was, but that it has seen the tail n and knows more events
   at_j : r ≡ record (after p (saw_tail (view_of p) n)) { known = p.known ++ k.more; loaded = r.loaded; moves = r.moves }
   at_j = ap (λ (u : PassView). record u { moves = r.moves }) k.is
       ∙ ap (λ (u : PassView). record u { known = u.known ++ k.more; loaded = r.loaded; moves = r.moves }) saw
 
-  -- the tail that the pass has seen is n
   seen_j : r.seen ≡ n
   seen_j = ap (λ (u : PassView). u.seen) at_j
 
-  -- what the pass has read is what it had read before
   reads_j : r.reads ≡ p.reads
   reads_j = ap (λ (u : PassView). u.reads) at_j
 

@@ -84,26 +84,21 @@ module _ (tx : Tx) (p q : PassView) (rows : List TakenRow) (x : ℕ) (numbers : 
   abbrev zs : List ℕ
   zs = variables_of tx
 
-  -- the numbers that were drawn are on the variables of the transaction, one on each, in order
   are : numbered numbers ≡ variables_of tx
   are = all ∙ races.of
 
-  -- the variables of the transaction rise
   rises : Rises (variables_of tx)
   rises = subst Rises races.of races.held.are.1
 
-  -- just these rows are held, with a mark for the end on each of the transaction's variables
   held : AreHeld q.own.held None rows (p.seen ∷ []) (drew_on p (variables_of tx))
   held = subst (λ ys. AreHeld q.own.held None rows (p.seen ∷ []) (drew_on p ys)) are drawn.held
 
-  -- each variable of the transaction has its row among those held
   in_by : (y : ℕ) → is_in y (variables_of tx) ≡ true → is_in y (vars_of rows) ≡ true
   in_by y b = subst (λ ys. is_in y ys ≡ true) (sym races.of) b
 
   abbrev in_rows : (y : ℕ) → is_in y (variables_of tx) ≡ true → (r : TakenRow) × (row_at rows y ≡ Some r)
   in_rows y b = row_of rows y (in_by y b)
 
-  -- where the Infos in the row of each of the transaction's variables stand for accesses, those of each row held do
   stand_all : (setting : Setting) (l : List Stamp)
       → ((y : ℕ) (b : is_in y (variables_of tx) ≡ true) → InfosStand setting l (in_rows y b).0.row) → (r : TakenRow) → Contains rows r
       → InfosStand setting l r.row
@@ -125,7 +120,6 @@ module _ (tx : Tx) (p q : PassView) (rows : List TakenRow) (x : ℕ) (numbers : 
     | no other ↦ (let f = place_of xs y r (sym (row_past u xs y other) ∙ e) in (suc f.0, f.1))
   ]
 
-  -- the row of x is the one on which the race was found
   row_x : (b : is_in x (variables_of tx) ≡ true) → (in_rows x b).0 ≡ races.row
   row_x b = some_row (in_rows x b).0 races.row (sym (in_rows x b).1 ∙ ap (row_at rows) races.var
       ∙ row_found rows races.place races.row races.held.are.1 races.there)
