@@ -66,6 +66,7 @@ module _ (R : Lists) (form : Form R) where
       let there : At (R c.thread) d.index f.entry = subst (λ t. At (R t) d.index f.entry) (sym before.0) f.there in
       (form.formed c.thread).positions_rise c.index d.index p q e.entry f.entry e.there there before.1 e.position f.position
 
+  -- the place of a Begin has a block
   begin_block : (t i : ℕ) (e : Entry) → At (R t) i e → IsBegin e → HasBlock R (record { thread = t; index = i })
   begin_block t i (Sync at (Begin func) value) there is = (
     at,
@@ -84,6 +85,7 @@ module _ (R : Lists) (form : Form R) where
   Reached t i = ((j : ℕ) (f : Entry) → At (R t) j f → j < i → IsTrim f) ⊎
       ((d : ℕ) × (d < i) × HasBlock R (record { thread = t; index = d }))
 
+  -- for each place of a list: all entries before it are Trims, or some place before it has a block
   reached : (t i : ℕ) → Reached t i
   reached t zero = inl (λ j f at lt. absurd (omega arith))
   reached t (suc i) = elim (reached t i) [

@@ -17,15 +17,18 @@ use Rattle.gl_flat.proofs.FlatOrder.{one_thread}
 use Rattle.gl_flat.proofs.Walked.{walked_before, walked_end, walked_more, walked_on, walked_other}
 
 module _ {A : Type 0} where
+  -- what stands at a place of a list stands there too when more is put behind the list
   get_kept : (xs more : List A) (i : ℕ) (x : A) → slice_get xs i ≡ Some x → slice_get (xs ++ more) i ≡ Some x
   get_kept [] more i x a = absurd (cc)
   get_kept (y ∷ ys) more zero x a = a
   get_kept (y ∷ ys) more (suc i) x a = get_kept ys more i x a
 
+  -- an element that is put behind a list stands at the place that was the list's length
   get_new : (xs : List A) (x : A) → slice_get (xs ++ x ∷ []) (length xs) ≡ Some x
   get_new [] x = refl
   get_new (y ∷ ys) x = get_new ys x
 
+  -- what stands in a list with one element more stood there before, or is that element, at the last place
   get_cases : (xs : List A) (x y : A) (i : ℕ) → slice_get (xs ++ x ∷ []) i ≡ Some y → (slice_get xs i ≡ Some y) ⊎
       ((i ≡ length xs) × (y ≡ x))
   get_cases [] x y zero a = inr (refl, let s : x ≡ y = cc in sym s)
@@ -66,6 +69,7 @@ module _ (R : Lists) (h : List Stamp) (is_list : IsEventList h R) (form : Form R
   abbrev rise : PositionsRise R
   rise = positions_rise R form
 
+  -- of what is laid out before block 0 there is a list: the empty one
   none_yet : FlatUpTo R 0 0
   none_yet = record {
     places = [];
@@ -85,6 +89,7 @@ module _ (R : Lists) (h : List Stamp) (is_list : IsEventList h R) (form : Form R
     in_order = f.in_order;
   }
 
+  -- where c is in block p and its entry is laid out, the list of what is laid out before c goes on to that up to c itself
   push : (c : Place) (p : ℕ) (e : Entry) → EntryAt R c e → IsLaidOut e → IsBlockOf R c p → FlatUpTo R p c.index → FlatUpTo R p (c.index + 1)
   push c p e there laid b f = record { places = f.places ++ c ∷ []; each = λ d. (to d, from d); in_order = in_order }
     where
@@ -115,9 +120,11 @@ module _ (R : Lists) (h : List Stamp) (is_list : IsEventList h R) (form : Form R
 
   -- the block of the event at c
   module _ (p : ℕ) (c : Place) (s : Stamp) (event : IsEventAt R c p s) where
+    -- each place of block p is in the list of c's thread
     own : (d : Place) → IsBlockOf R d p → d.thread ≡ c.thread
     own d b = one_thread R h is_list rise d c p b (block_of_event R rise c p s event)
 
+    -- where place i of c's thread has no entry of block p that is laid out, the list up to place i is one up to i + 1 too
     pass : (i : ℕ) → ((d : Place) → IsLaidOutAt R d → IsBlockOf R d p → d ≡ record { thread = c.thread; index = i } → ⊥) → FlatUpTo R p i →
         FlatUpTo R p (i + 1)
     pass i none = as_far p i p (i + 1) (λ d laid. (
@@ -125,6 +132,7 @@ module _ (R : Lists) (h : List Stamp) (is_list : IsEventList h R) (form : Form R
       walked_other R h is_list rise c.thread p i own d (none d laid),
     ))
 
+    -- whatever stands at place i of c's thread, the list of what is laid out up to place i of block p goes on to i + 1
     next : (i : ℕ) (o : Option Entry) → slice_get (R c.thread) i ≡ o → FlatUpTo R p i → FlatUpTo R p (i + 1)
     next i None at f = pass i (λ d laid b same. let z : EntryAt R (record { thread = c.thread; index = i }) laid.0 =
         subst (λ x. EntryAt R x laid.0) same laid.1 in cc) f
@@ -139,16 +147,19 @@ module _ (R : Lists) (h : List Stamp) (is_list : IsEventList h R) (form : Form R
       ])
     ]
 
+    -- from the list of what is laid out before block p comes that up to any place of block p
     of_list : (i : ℕ) → FlatUpTo R p 0 → FlatUpTo R p i
     of_list zero f = f
     of_list (suc i) f = rw (sym (add-one i)) (next i (slice_get (R c.thread) i) refl (of_list i f))
 
+    -- from the list of what is laid out before block p comes that of what is laid out before block p + 1
     of_block : FlatUpTo R p 0 → FlatUpTo R (p + 1) 0
     of_block f = as_far p (length (R c.thread)) (p + 1) 0
         (λ d laid. walked_end R h is_list rise p (length (R c.thread)) d
         (λ b. subst (λ t. d.index < length (R t)) (own d b) (slice_get_within (R d.thread) d.index laid.0 laid.1)))
         (of_list (length (R c.thread)) f)
 
+  -- for each n up to the number of events there is a list of what is laid out before block n
   up_to : (n : ℕ) → n ≤ length h → FlatUpTo R n 0
   up_to zero le = none_yet
   up_to (suc n) le =

@@ -26,6 +26,7 @@ module _ (setting : Setting) (R : Lists) (h : List Stamp) (is_list : IsEventList
   block_there k None at = 0
   block_there k (Some c) at = let laid = laid_in R h is_list rise cs flat k c at in (laid_block R form c laid.0 laid.1 laid.2).0
 
+  -- the block of the place at k of the history, and 0 where the history has no such place
   block : ℕ → ℕ
   block k = block_there k (slice_get cs k) refl
 
@@ -42,6 +43,7 @@ module _ (setting : Setting) (R : Lists) (h : List Stamp) (is_list : IsEventList
   blocks k c at = block_is k c (slice_get cs k) refl at
 
   module _ (rising : (c : Place) (e : Entry) → EntryAt R c e → RisingWrites e) (hold : WordsHold R) where
+    -- the entry at a place of the history is laid out: it is an event, or a plain access that was not raised
     unraised : (k : ℕ) (c : Place) (e : Entry) → slice_get cs k ≡ Some c → EntryAt R c e → IsLaidOut e
     unraised k c e at there = let laid = laid_in R h is_list rise cs flat k c at in
         subst IsLaidOut (same_entry R c laid.0 e laid.1 there) laid.2

@@ -59,6 +59,7 @@ module _ (R : Lists) (h : List Stamp) (is_list : IsEventList h R) (rise : Positi
   abbrev pub Among : ℕ → Place → Type 0
   Among k d = (j : ℕ) × (j < k) × (slice_get cs j ≡ Some d)
 
+  -- where c stands at k in the history, its first k + 1 places are the first k and c
   among_more : (k : ℕ) (c : Place) → slice_get cs k ≡ Some c → (d : Place) → Among (suc k) d ↔ (Among k d ⊎ (d ≡ c))
   among_more k c at d = (to, from)
     where
@@ -72,9 +73,11 @@ module _ (R : Lists) (h : List Stamp) (is_list : IsEventList h R) (rise : Positi
       from (inl (j, lt, there)) = (j, (omega arith), there)
       from (inr same) = (k, (omega arith), at ∙ ap Some (sym same))
 
+  -- each of the first k places of the history is before the place at k in flat order
   among_before : (k : ℕ) (c : Place) → slice_get cs k ≡ Some c → (d : Place) → Among k d → InFlatOrder R d c
   among_before k c at d (j, lt, there) = flat.in_order j k d c there at lt
 
+  -- a laid-out place that is before the place at k in flat order is one of the first k
   before_among : (k : ℕ) (c : Place) → slice_get cs k ≡ Some c → (d : Place) → IsLaidOutAt R d → InFlatOrder R d c → Among k d
   before_among k c at d laid before = by (at_contains cs d ((flat.each d).1 laid))
     where

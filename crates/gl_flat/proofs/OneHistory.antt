@@ -23,6 +23,7 @@ module _ (R : Lists) (h : List Stamp) (is_list : IsEventList h R) (rise : Positi
   Ordered [] = Unit {0}
   Ordered (c ∷ cs) = ((d : Place) → In cs d → InFlatOrder R c d) × Ordered cs
 
+  -- where of any two places of a list the earlier one is before the later one in flat order, each place is before all that follow it
   ordered : (cs : List Place) → ((i j : ℕ) (c d : Place) → slice_get cs i ≡ Some c → slice_get cs j ≡ Some d → i < j → InFlatOrder R c d) →
       Ordered cs
   ordered [] order = tt
@@ -61,6 +62,7 @@ module _ (R : Lists) (h : List Stamp) (is_list : IsEventList h R) (rise : Positi
         ],
       )
 
+  -- two lists that are both the flat history of the record are equal
   one_flat : (cs ds : List Place) → IsFlat R cs → IsFlat R ds → cs ≡ ds
   one_flat cs ds f g = one_list cs ds (ordered cs f.in_order) (ordered ds g.in_order) (λ c. (
     λ i. contains_in ds c ((g.each c).1 ((f.each c).0 (in_contains cs c i))),

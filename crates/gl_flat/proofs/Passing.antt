@@ -103,6 +103,7 @@ module _ (R : Lists) (walk : IsWalkable R) (t p : ℕ) (s : Stamp) (i : ℕ) (ma
       is_list.once (record { thread = d.thread; index = b.index }) (here i) p b.event s b.made made in
       (ap (λ (x : Place). x.thread) same, ap (λ (x : Place). x.index) same)
 
+  -- a walk that has come to the start of block p has come to the place of its event: nothing of the block stands before it
   start : (words : List ℤ) → HasWalked R p 0 words → HasWalked R p i words
   start words w = record {
     words = λ x near. word_among R (IsWalked R p 0) (IsWalked R p i) x (word_in words x) (λ d m. (same d).0 m) (λ d u m wr. (same d).1 m)
@@ -131,6 +132,8 @@ module _ (R : Lists) (walk : IsWalkable R) (t p : ℕ) (s : Stamp) (i : ℕ) (ma
         word_among R (IsWalked R p k) (λ d. InFlatOrder R d (here k)) x (word_in words x) (walked_before R h is_list rise (here k) p b)
         (λ d u before wr. before_walked R h is_list rise (here k) p b d before) (w.words x near)
 
+    -- where each read of the entry at k has its word, and the table afterwards has the
+    -- words past that entry, the walk has come to place k + 1
     agree : (after : List ℤ) → AgreesWith (word_in words) e → ((x : ℕ) → x < VARIABLES → word_in after x ≡ words_past (word_in words) e x) →
         HasWalked R p (k + 1) after
     agree after agrees past = record { words = more; right = right }
@@ -152,6 +155,7 @@ module _ (R : Lists) (walk : IsWalkable R) (t p : ℕ) (s : Stamp) (i : ℕ) (ma
         right : (d : Place) → IsWalked R p (k + 1) d → (f : Entry) → EntryAt R d f → (x : ℕ) (v : ℤ) → ReadsValue f x v → IsWordAt R d x v
         right d m = elim ((walked_more R h is_list rise (here k) p b d).0 m) [ inl old ↦ w.right d old | inr same ↦ at_here d same ]
 
+    -- where a read of the entry at k differs from its word, this place is the first in flat order where a read is wrong
     differ : DiffersFrom (word_in words) e → IsFirstInFlatOrder R (here k)
     differ (x, (v, reads, ne)) = ((e, there, (x, (v, reads, wrong))), first)
       where
@@ -206,6 +210,7 @@ module _ (es : List Entry) (i k : ℕ) (before words : List ℤ) (come : ComesTo
     | no ne ↦ come.no_event j f lo (omega arith) at
   ]
 
+  -- where the entry at k is no event, or k is the place i of the event at p, place k is in block p
   block_at : (R : Lists) (walk : IsWalkable R) (t p : ℕ) (s : Stamp) → R t ≡ es → IsEventAt R (record { thread = t; index = i }) p s →
       (e : Entry) → At es k e → (i < k → is_event e ≡ false) →
       IsBlockOf R (record { thread = t; index = k }) p

@@ -95,6 +95,7 @@ same_default (w ∷ ws) zero d e near = refl
 same_default (w ∷ ws) (suc k) d e near = same_default ws k d e (omega arith)
 
 module _ (ws : List Written) (sorted : IsSorted written_cmp ws) where
+  -- of two writes of the sorted list the earlier one is of a lesser variable, or of the same one with no greater number
   far : (i j : ℕ) (d : Written) → i ≤ j → j < length ws → ((get_or ws i d).var < (get_or ws j d).var) ⊎
       (((get_or ws i d).var ≡ (get_or ws j d).var) × ((get_or ws i d).nth ≤ (get_or ws j d).nth))
   far i j d le near = behind (get_or ws i d) (get_or ws j d) (sorted_far (λ v w. is_lt (written_cmp v w)) weak ws sorted i j d le near)
@@ -146,6 +147,7 @@ module _ (ws : List Written) (sorted : IsSorted written_cmp ws) where
     abbrev write : ℕ → ℤ → Written
     write k u = record { var = x; nth = k; value = u }
 
+    -- where no write in the list is of x with a number below n: v is the word of x below n if the answer is that v is 0, and else it is not
     no_word : ((j : ℕ) (u : ℤ) → j < n → Contains ws (write j u) → ⊥) → (b : Bool) → MatchBool b (v ≡ pos 0) (v ≢ pos 0) →
         MatchBool b (IsWordBelow R x n v) (IsWordBelow R x n v → ⊥)
     no_word none true zero' = inr (zero', λ j u lt w. none j u lt ((are (write j u)).1 w))

@@ -47,6 +47,7 @@ module _ (es : List Entry) (i block : ℕ) (rights : List (Option Right)) (are :
   -- a right of an entry of the present block, since which no event came
   in_block : (x k : ℕ) (write : Bool) → (h : HasRight es i x k write) → block ≤ h.index
   in_block x k write h = by_block block refl where
+    -- from the entry that gives the right up to place i no entry is an event
     at_end : (j : ℕ) → h.index ≤ j → j < i → (e : Entry) → At es j e → position_of e ≡ None
     at_end j le less e there = elim (cases_lt h.index j) [
       | inl lt ↦ h.no_event j e there lt less
@@ -54,6 +55,7 @@ module _ (es : List Entry) (i block : ℕ) (rights : List (Option Right)) (are :
           rw same (gives_plain h.entry x k h.by_write h.gives))
     ]
 
+    -- whether the present block begins at place 0 or behind an entry: it begins at or before the entry that gives the right
     by_block : (b : ℕ) → block ≡ b → block ≤ h.index
     by_block zero is = omega arith
     by_block (suc j) is = elim (cases_lt h.index block) [
@@ -97,12 +99,14 @@ module _ (es : List Entry) (i block : ℕ) (rights : List (Option Right)) (are :
       by_order (inr (inl lt)) = absurd (h.latest right.index right.nth is.entry right.write is.there lt is.before is.gives)
       by_order (inr (inr gt)) = absurd (is.latest h.index k h.entry h.by_write h.there gt h.before h.gives)
 
+    -- where the right that is kept for x is enough, a cached access at place i has the right
     allowed : IsEnough block (right_on rights x) k write → HasRight es i x k write
     allowed = by_right (right_on rights x) (are.rights_are x less) where
       by_right : (o : Option Right) → IsRightOf es i x o → IsEnough block o k write → HasRight es i x k write
       by_right None none enough = absurd enough
       by_right (Some right) is enough = enough_has right is enough
 
+    -- where the right that is kept for x is not enough, a cached access at place i does not have the right
     refused : (IsEnough block (right_on rights x) k write → ⊥) → HasRight es i x k write → ⊥
     refused = by_right (right_on rights x) (are.rights_are x less) where
       by_right : (o : Option Right) → IsRightOf es i x o → (IsEnough block o k write → ⊥) → HasRight es i x k write → ⊥

@@ -29,10 +29,12 @@ some_same : (k m : ℕ) (o : Option ℕ) → o ≡ Some k → o ≡ Some m → k
 some_same k m o is also = cc
 
 module _ (tx : Tx) (kept : IsTxKept tx) where
+  -- each look of a transaction that keeps to its bounds stands at a place below the number of variables that one may have
   look_below : (m : ℕ) (a : Look) → slice_get tx.looks m ≡ Some a → m < TX_VARIABLES
   look_below m a at = (let within = slice_get_within tx.looks m a at in let few = kept.0.0 in
       let same = length-map tx.looks (λ (l : Look). l.var) in omega arith)
 
+  -- each number of a transaction that keeps to its bounds stands at a place below the number of variables that one may have
   number_below : (m : ℕ) (a : Number) → slice_get tx.numbers m ≡ Some a → m < TX_VARIABLES
   number_below m a at = (let within = slice_get_within tx.numbers m a at in let few = kept.2.0 in
       let same = length-map tx.numbers (λ (l : Number). l.var) in omega arith)

@@ -35,9 +35,11 @@ keeps_all R form t i = record {
   list = form.formed t
 
 module _ (R : Lists) (nowhere : (c : Place) → FormFailsAt R c → ⊥) where
+  -- no place of any thread's list fails a rule of form
   never : (t i : ℕ) → FormFails t (R t) i → ⊥
   never t i fault = nowhere (record { thread = t; index = i }) fault
 
+  -- the list of each thread is of the form
   list_form : (t : ℕ) → ListForm t (R t)
   list_form t = record {
     well_formed = λ i e at. stable_form t e (λ wrong. never t i (λ keeps. wrong (keeps.well_formed e at)));
@@ -57,12 +59,14 @@ module _ (R : Lists) (nowhere : (c : Place) → FormFailsAt R c → ⊥) where
     nothing_after = λ i e at over. last i e at over;
     cached = λ i x k write value at. stable_right (R t) i x k write (λ wrong. never t i (λ keeps. wrong (keeps.cached x k write value at)));
   } where
+    -- an Over is the last entry of its list
     last : (i : ℕ) (e : Entry) → At (R t) i e → IsOver e → length (R t) ≡ i + 1
     last i e at over = elim (slice_get_cases (R t) (i + 1)).1 [
       | inl there ↦ absurd (never t (i + 1) (λ keeps. keeps.nothing_after i e there.0 at there.2 (omega arith) over))
       | inr past ↦ (let ge = past.0 in let within = slice_get_within (R t) i e at in omega arith)
     ]
 
+  -- the record is of the form
   form : Form R
   form = record {
     main = λ none. never 0 0 (λ keeps. keeps.main refl refl none);

@@ -64,6 +64,7 @@ module _ (Has : Entry → ℕ → Type 0) (es : List Entry) (i : ℕ) (e : Entry
       | inr same ↦ (let one : f ≡ e = same_entry es i j e f at there same in most m (rw (sym one) of_f))
     ];
   } where
+    -- where k is above the last number before place i, each number that an entry before it has is at most k
     at_most : (last : Option ℕ) → IsLast Has es i last → IsAbove last k → (j m : ℕ) (f : Entry) → At es j f → j < i → Has f m → m ≤ k
     at_most None none above j m f there before of_f = absurd (none j m f there before of_f)
     at_most (Some n) is above j m f there before of_f = (let most' = is.most j m f there before of_f in let less : n < k = above in

@@ -67,6 +67,7 @@ module _ (ls : List (ℕ × List Entry)) where
       (n i : ℕ) → NoneBelow n → FormFails n (lists_of ls n) i → ((j : ℕ) → j < i → FormFails n (lists_of ls n) j → ⊥) →
       IsFirstBy Before (FormFailsAt (lists_of ls)) (at_place n i)
   first_place n i none fails earlier = (fails, before) where
+    -- no place before place i of thread n fails the form
     before : (d : Place) → FormFailsAt (lists_of ls) d → Before d (at_place n i) → ⊥
     before d also (inl less) = none d.thread less d.index also
     before d also (inr (same, less)) = (let P : ℕ → Type 0 = λ u. FormFails u (lists_of ls u) d.index in

@@ -51,8 +51,10 @@ module _ (es : List Entry) (i x k : ℕ) (write : Bool) where
     events : (l : ℕ) (e : Entry) → At es l e → j ≤ l → l < i → position_of e ≡ None
     gives : (l m : ℕ) (e : Entry) (w : Bool) → At es l e → j ≤ l → l < i → GivesRight e x m w → ⊥
 
+  -- where the entry at j is an event and nothing between j and i gives a right on x, an access at place i does not have the right
   at_event : (j : ℕ) (e : Entry) (p : ℕ) → j < i → At es j e → position_of e ≡ Some p → Clear (suc j) → HasRight es i x k write → ⊥
   at_event j e p less at is clear h = by_order (cases_order h.index j) where
+    -- the entry that gives the right stands neither at j, nor before j, nor behind it
     by_order : (h.index ≡ j) ⊎ ((h.index < j) ⊎ (j < h.index)) → ⊥
     by_order (inl same) =
         let there : At es j h.entry = rw (sym same) h.there in
@@ -67,6 +69,7 @@ module _ (es : List Entry) (i x k : ℕ) (write : Bool) where
       (j : ℕ) (e : Entry) (g : Gives e x) → j < i → At es j e → Clear (suc j) → ((g.number ≡ k) × (write ≡ true → g.write ≡ true) → ⊥) →
       HasRight es i x k write → ⊥
   at_other j e g less at clear wrong h = by_order (cases_order h.index j) where
+    -- the entry that gives the right stands neither at j, nor before j, nor behind it
     by_order : (h.index ≡ j) ⊎ ((h.index < j) ⊎ (j < h.index)) → ⊥
     by_order (inl same) =
         let there : At es j h.entry = rw (sym same) h.there in
@@ -78,6 +81,7 @@ module _ (es : List Entry) (i x k : ℕ) (write : Bool) where
     by_order (inr (inl lt)) = h.latest j g.number e g.write at lt less g.gives
     by_order (inr (inr gt)) = clear.gives h.index k h.entry h.by_write h.there gt h.before h.gives
 
+  -- a right, of a write or not, is enough for the access or it is not
   enough_or_not : (w : Bool) → (write ≡ true → w ≡ true) ⊎ ((write ≡ true → w ≡ true) → ⊥)
   enough_or_not true = inl (λ is. refl)
   enough_or_not false = elim (either_bool write true) [
@@ -85,8 +89,11 @@ module _ (es : List Entry) (i x k : ℕ) (write : Bool) where
     | inr not' ↦ inl (λ is. absurd (not' is))
   ]
 
+  -- where the entry at j gives a right on x, and between j and i nothing is an event
+  -- or gives one, an access at place i has the right or not
   at_giver : (j : ℕ) (e : Entry) (g : Gives e x) → j < i → At es j e → Clear (suc j) → Either
   at_giver j e g less at clear = by_parts (either_nat g.number k) (enough_or_not g.write) where
+    -- whether the number given is k or not, and the right enough or not: an access at place i has the right or not
     by_parts : (g.number ≡ k) ⊎ (g.number ≡ k → ⊥) → (write ≡ true → g.write ≡ true) ⊎ ((write ≡ true → g.write ≡ true) → ⊥) → Either
     by_parts (inl same) (inl enough) = inl (record {
       index = j;
@@ -102,6 +109,7 @@ module _ (es : List Entry) (i x k : ℕ) (write : Bool) where
     by_parts (inr other) enough = inr (at_other j e g less at clear (λ both. other both.0))
     by_parts (inl same) (inr other) = inr (at_other j e g less at clear (λ both. other both.1))
 
+  -- where what stands at j is no event and gives no right on x, all is clear from j on, if it is so from j + 1 on
   further : (j : ℕ) → ((e : Entry) → At es j e → (position_of e ≡ None) × (Gives e x → ⊥)) → Clear (suc j) → Clear j
   further j here clear = record {
     events = λ l e at le lt. elim (cases_lt j l) [
@@ -115,18 +123,23 @@ module _ (es : List Entry) (i x k : ℕ) (write : Bool) where
     ];
   }
 
+  -- where nothing from j up to i is an event or gives a right on x, an access at place i has the right or not
   down : (j : ℕ) → j ≤ i → Clear j → Either
   down zero le clear = inr (λ h. clear.gives h.index k h.entry h.by_write h.there (omega arith) h.before h.gives)
   down (suc j) le clear = by_entry (slice_get es j) refl (λ c. down j (omega arith) c) where
+    -- whether the entry at j, which is no event, gives a right on x or not: the access has
+    -- the right or not, if that is known where all is clear from j on
     by_gives : (e : Entry) → At es j e → position_of e ≡ None → Gives e x ⊎ (Gives e x → ⊥) → (Clear j → Either) → Either
     by_gives e at none (inl g) more = at_giver j e g le at clear
     by_gives e at none (inr not') more = more (further j (λ f there. let same : e ≡ f = cc in
         (rw (sym same) none, rw (sym same) not')) clear)
 
+    -- whether the entry at j is an event or not: the access has the right or not, if that is known where all is clear from j on
     by_position : (e : Entry) → At es j e → (o : Option ℕ) → position_of e ≡ o → (Clear j → Either) → Either
     by_position e at (Some p) is more = inr (at_event j e p le at is clear)
     by_position e at None is more = by_gives e at is (either_gives e x) more
 
+    -- whether an entry stands at j or not: the access has the right or not, if that is known where all is clear from j on
     by_entry : (o : Option Entry) → slice_get es j ≡ o → (Clear j → Either) → Either
     by_entry None none more = more (further j (λ f there. cc) clear)
     by_entry (Some e) at more = by_position e at (position_of e) refl more

@@ -79,6 +79,7 @@ module _ (es : List Entry) (i : ℕ) (e : Entry) (at : At es i e) where
   here : (P : Entry → Type 0) (j : ℕ) (f : Entry) → P e → At es j f → j ≡ i → P f
   here P j f of_e there same = (let one : f ≡ e = same_entry es i j e f at there same in rw one of_e)
 
+  -- what holds of an entry that stands there holds of e
   back : (P : Entry → Type 0) (j : ℕ) (f : Entry) → P f → At es j f → j ≡ i → P e
   back P j f of_f there same = (let one : f ≡ e = same_entry es i j e f at there same in rw (sym one) of_f)
 
@@ -99,6 +100,7 @@ module _ (es : List Entry) (i : ℕ) (e : Entry) (at : At es i e) where
   ]
 
   module _ (fresh : IsAtStage es i Fresh) where
+    -- where all before place i are Trims, the rules are kept there by an entry that is no Over, and that is Begin unless it is a Trim
     fresh_follows : (IsTrim e → ⊥) ⊎ IsTrim e → ((IsTrim e → ⊥) → IsBegin e) → (IsOver e → ⊥) → Follows es i
     fresh_follows cases begins no_over = record {
       begins = λ f there no_trim all. here IsBegin i f (begins (λ trim. no_trim (here IsTrim i f trim there refl))) there refl;
@@ -127,12 +129,14 @@ module _ (es : List Entry) (i : ℕ) (e : Entry) (at : At es i e) where
     fresh_other no_trim no_begin follows = no_begin (follows.begins e at no_trim (λ j f there before. fresh j f there before))
 
   module _ (running : IsAtStage es i Running) where
+    -- where the thread is running, the entry just before place i is no End
     not_end : (j : ℕ) (f : Entry) → At es j f → i ≡ j + 1 → IsEnd f → ⊥
     not_end j f there next ends =
         let last = running.2.1.2 in
         let same : f ≡ running.2.1.0 = same_entry es running.2.0 j running.2.1.0 f running.2.1.1 there (omega arith) in
         running.2.1.3 (rw (sym same) ends)
 
+    -- where the thread is running, any entry but an Over keeps the rules of Begin, End and Over
     running_follows : (IsOver e → ⊥) → Follows es i
     running_follows no_over = record {
       begins = λ f there no_trim all. absurd (running.0.1.3 (all running.0.0 running.0.1.0 running.0.1.1 running.0.1.2));

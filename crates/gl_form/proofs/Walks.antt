@@ -67,6 +67,7 @@ module _ (t : ℕ) (es : List Entry) (i : ℕ) where
     ends = ends;
     cached = λ x k write value there. absurd (nothing _ there);
   } where
+    -- no entry stands at place i, which is at or behind the end of the list
     nothing : (f : Entry) → At es i f → ⊥
     nothing f there = (let within = slice_get_within es i f there in omega arith)
 

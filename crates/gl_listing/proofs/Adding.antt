@@ -57,8 +57,10 @@ module _ {A : Type 0} (number var : A → ℕ) where
   abbrev pub picks : List A → ℕ → List ℕ
   picks parts x = map number (filter (λ a. var a == x) parts)
 
+  -- with a part a more, the numbers that the parts have on x are those from before, and then that of a, if a is of x
   picks_one : (x : ℕ) (parts : List A) (a : A) → picks (parts ++ a ∷ []) x ≡ picks parts x ++ (if var a == x then number a ∷ [] else [])
   picks_one x [] a = by_test (var a == x) refl where
+    -- of the part a alone the number is picked if a is of x, and none if it is not
     by_test : (b : Bool) → (var a == x) ≡ b → picks (a ∷ []) x ≡ (if var a == x then number a ∷ [] else [])
     by_test true is = rw is refl
     by_test false is = rw is refl

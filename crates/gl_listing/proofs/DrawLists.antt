@@ -36,6 +36,7 @@ module _ {A : Type 0} (f g : A → ℕ) (y : ℕ) where
     var : g item ≡ y
     number : f item ≡ p
 
+  -- where g of an item of the list is y, f of that item is among what is picked
   picked : (xs : List A) (k : ℕ) (a : A) → slice_get xs k ≡ Some a → g a ≡ y → IsAmong (picks xs) (f a)
   picked [] k a at is = cc
   picked (x ∷ xs) zero a at is =
@@ -43,20 +44,26 @@ module _ {A : Type 0} (f g : A → ℕ) (y : ℕ) where
       let here : (g x == y) ≡ true = eq-eqb (g x) y (ap g same ∙ is) in
       rw here (0, ap (λ b. Some (f b)) same)
   picked (x ∷ xs) (suc k) a at is = by_test (g x == y) refl (picked xs k a at is) where
+    -- if f of a is picked from the rest of a list, it is picked from the list with x at its front
     by_test : (b : Bool) → (g x == y) ≡ b → IsAmong (picks xs) (f a) → IsAmong (picks (x ∷ xs)) (f a)
     by_test true e more = rw e (suc more.0, more.1)
     by_test false e more = rw e more
 
+  -- whatever is picked is f of some item of the list whose g is y
   pick_of : (xs : List A) (p : ℕ) → IsAmong (picks xs) p → IsPick xs p
   pick_of [] p (k, at) = cc
   pick_of (x ∷ xs) p among = by_test (g x == y) refl (λ i. pick_of xs p i) where
+    -- a pick of the rest of a list is a pick of the list with x at its front
     later : IsPick xs p → IsPick (x ∷ xs) p
     later l = record { place = suc l.place; item = l.item; there = l.there; var = l.var; number = l.number }
 
+    -- where g of x is y: what stands in f of x and the picks of the rest is a pick of the
+    -- whole list, if all that is picked from the rest is a pick of it
     first : (k : ℕ) → slice_get (f x ∷ picks xs) k ≡ Some p → (g x == y) ≡ true → (IsAmong (picks xs) p → IsPick xs p) → IsPick (x ∷ xs) p
     first zero at e more = record { place = 0; item = x; there = refl; var = eqb-true (g x) y e; number = cc }
     first (suc k) at e more = later (more (k, at))
 
+    -- whether x is picked or not: p is a pick of the whole list, if it is one of the rest wherever it is picked from the rest
     by_test : (b : Bool) → (g x == y) ≡ b → (IsAmong (picks xs) p → IsPick xs p) → IsPick (x ∷ xs) p
     by_test true e more =
         let list : picks (x ∷ xs) ≡ f x ∷ picks xs = rw e refl in
@@ -65,6 +72,7 @@ module _ {A : Type 0} (f g : A → ℕ) (y : ℕ) where
         let list : picks (x ∷ xs) ≡ picks xs = rw e refl in
         later (more (among.0, ap (λ l. slice_get l among.0) (sym list) ∙ among.1))
 
+  -- where g of each item is above y, nothing is picked
   none_picked : (xs : List A) → AllByRecursion (λ z. y < z) (map g xs) → picks xs ≡ []
   none_picked [] above = refl
   none_picked (x ∷ xs) above =
@@ -72,9 +80,11 @@ module _ {A : Type 0} (f g : A → ℕ) (y : ℕ) where
       let different : g x ≢ y = λ same. let s : g x ≡ y = same in omega arith in
       rw (other_false (g x) y different) (none_picked xs above.1)
 
+  -- where g rises along the list, at most one item is picked
   few_picked : (xs : List A) → Rises (map g xs) → length (picks xs) ≤ 1
   few_picked [] rises = omega arith
   few_picked (x ∷ xs) rises = by_test (g x == y) refl (few_picked xs rises.1) where
+    -- whether x is picked or not: if at most one item of the rest is picked, at most one of the whole list is
     by_test : (b : Bool) → (g x == y) ≡ b → length (picks xs) ≤ 1 → length (picks (x ∷ xs)) ≤ 1
     by_test true e more =
         let same : g x ≡ y = eqb-true (g x) y e in

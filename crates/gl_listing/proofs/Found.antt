@@ -35,9 +35,11 @@ module _ (us : List Use) where
   pub first_place : AreInOrder us → (k : ℕ) (u : Use) → slice_get us k ≡ Some u → IsFirstWrong (numbers_in us) k
       → IsFirstBy Before (UseFailsAt us) u.0
   first_place ordered k u at first = (fails, earlier) where
+    -- at the place of the first wrong number a number is wrong
     fails : UseFailsAt us u.0
     fails = record { number = u.1; index = k; there = at; wrong = first.fails }
 
+    -- at no place before that one is a number wrong
     earlier : (d : Place) → UseFailsAt us d → Before d u.0 → ⊥
     earlier d x before = by_order (cases_order x.index k) where
       by_order : (x.index ≡ k) ⊎ ((x.index < k) ⊎ (k < x.index)) → ⊥
@@ -99,6 +101,7 @@ before_after c d e (inr one) (inr other) =
 -- the first place of two ways to fail is the earlier one
 module _ (F H N : Place → Type 0) (either : (c : Place) → N c → F c ⊎ H c) (one : (c : Place) → F c → N c) (other : (c : Place) → H c
     → N c) where
+  -- an answer that is the same as one that is right is right too
   moved : (next found : Option StoredPlace) → next ≡ found → IsFound N found → IsFound N next
   moved next found same is = subst (IsFound N) (sym same) is
 

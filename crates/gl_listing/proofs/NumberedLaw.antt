@@ -51,17 +51,21 @@ module _ (made : List (ℕ × List Entry)) (kept : IsRecord made) (form : Form (
   abbrev ns : List ℕ
   ns = numbers_in us
 
+  -- no use stands in the list of the uses of y twice
   differs : Differ us
   differs = record_differ (draws_on y) made kept.0
       (λ t j e at. entry_once y t e (all_kept made kept.1 t j e at) ((form.formed t).well_formed j e at))
 
+  -- each number in the list of the uses of y was drawn on y by an entry at the use's place
   draw_of_use : (k p : ℕ) (c : Place) → slice_get us k ≡ Some (c, p) → (e : Entry) × EntryAt R c e × Draws e y p
   draw_of_use k p c at = (let x = use_is (draws_on y) made kept.0 (c, p) (k, at) in (x.entry, x.there, draws_are y p x.entry x.among))
 
+  -- each number that an entry drew on y is in the list of uses, with the entry's place
   use_of_draw : (c : Place) (p : ℕ) (e : Entry) → EntryAt R c e → Draws e y p → (k : ℕ) × (slice_get us k ≡ Some (c, p))
   use_of_draw c p e there draws = is_used (draws_on y) made c.thread c.index p e there (draws_in y p e draws)
 
   module _ (m : ℕ) (below : NumberedBelow R y m) where
+    -- where the numbers drawn on y are those below m, the list has at least m of them
     length_of : m ≤ length ns
     length_of = rw (sym (length-range_with_len 0 m))
         (length-le_from_is_member nat_eq_equiv (range_with_len 0 m) ns (once_distinct (range_with_len 0 m) once) within) where
@@ -81,6 +85,7 @@ module _ (made : List (ℕ × List Entry)) (kept : IsRecord made) (form : Form (
               let k = use_of_draw d.0 q d.1.0 d.1.1 d.1.2 in
               any_found q k.0 ns (number_of us k.0 (d.0, q) k.1)
 
+    -- where the numbers drawn on y are those below m, each drawn once, no number in the list is wrong
     never_wrong : (c : Place) (number index : ℕ) → slice_get us index ≡ Some (c, number) → IsWrongAt ns index → ⊥
     never_wrong c number index there x = by_fault x.wrong where
       number_is : x.number ≡ number
@@ -103,12 +108,14 @@ module _ (made : List (ℕ × List Entry)) (kept : IsRecord made) (form : Form (
           not_twice us j index (c, number) differs less moved there
 
   module _ (right : (k : ℕ) → IsWrongAt ns k → ⊥) where
+    -- where no number in the list is wrong, each is below how many there are
     under : (k p : ℕ) → slice_get ns k ≡ Some p → p < length ns
     under k p at = elim (cases_lt p (length ns)) [
       | inl lt ↦ lt
       | inr ge ↦ absurd (right k (record { number = p; there = at; wrong = inl ge }))
     ]
 
+    -- where no number in the list is wrong, two entries that drew one number on y stand at one place
     once_there : (c d : Place) (e f : Entry) (p : ℕ) → EntryAt R c e → EntryAt R d f → Draws e y p → Draws f y p → c ≡ d
     once_there c d e f p at also one other = by_order (cases_order j.0 k.0) where
       j : (i : ℕ) × (slice_get us i ≡ Some (c, p))
@@ -128,6 +135,7 @@ module _ (made : List (ℕ × List Entry)) (kept : IsRecord made) (form : Form (
       by_order (inr (inl less)) = absurd (right k.0 (record { number = p; there = n_k; wrong = inr (j.0, less, n_j) }))
       by_order (inr (inr less)) = absurd (right j.0 (record { number = p; there = n_j; wrong = inr (k.0, less, n_k) }))
 
+    -- where no number in the list is wrong, the numbers drawn on y are those below how many there are, each drawn once
     numbered_below : NumberedBelow R y (length ns)
     numbered_below = record {
       below = λ c e p there draws. let k = use_of_draw c p e there draws in under k.0 p (number_of us k.0 (c, p) k.1);

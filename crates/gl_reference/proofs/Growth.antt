@@ -23,6 +23,7 @@ module _ (draws draws' : ℕ → List Draw) (ps ps' more : List Performed) (is :
     (new : (y : ℕ) (d : Draw) (e : Entry) → Among (draws' y) d → d.what ≡ Entered e → IsPerformed e → Among (draws y) d
     ⊎ ((j : ℕ) × (p : Performed) × (slice_get more j ≡ Some p) × IsDrawnFor y d p))
     (made : (j : ℕ) (p : Performed) → slice_get more j ≡ Some p → (d : Draw) × Among (draws' p.var) d × IsDrawnFor p.var d p) where
+  -- each performed entry that drew a number, before or now, has its access among those that were kept and those that came
   both_kept : (y : ℕ) (d : Draw) (e : Entry) → Among (draws' y) d → d.what ≡ Entered e → IsPerformed e → (i : ℕ) × (p : Performed)
       × (slice_get (ps ++ more) i ≡ Some p) × IsDrawnFor y d p
   both_kept y d e among what performed = elim (new y d e among what performed) [
@@ -30,6 +31,7 @@ module _ (draws draws' : ℕ → List Draw) (ps ps' more : List Performed) (is :
     | inr n ↦ (length ps + n.0, n.1, get_more ps more n.0 n.1 n.2, n.3)
   ]
 
+  -- each access that was kept, and each that came, has its draw among those of its variable now
   both_drawn : (i : ℕ) (p : Performed) → slice_get (ps ++ more) i ≡ Some p → (d : Draw) × Among (draws' p.var) d × IsDrawnFor p.var d p
   both_drawn i p at = elim (get_cases ps more i p at) [
     | inl old ↦ (let k = are.drawn i p old in (k.0, stay p.var k.0 k.1, k.2))
@@ -55,6 +57,7 @@ module _ (s : Traced) (t x : ℕ) (write : Bool) where
   abbrev pub plain_draws : Bool → ℕ → List Draw
   plain_draws raised = with_at s.draws x (drawn_plain raised ∷ s.draws x)
 
+  -- what was drawn before on any variable is still among its draws after the plain access
   stays : (raised : Bool) (y : ℕ) (d : Draw) → Among (s.draws y) d → Among (plain_draws raised y) d
   stays raised y d among = elim (ℕ_discrete y x) [
     | yes same ↦ subst (λ z. Among (plain_draws raised z) d) (sym same)
@@ -63,6 +66,7 @@ module _ (s : Traced) (t x : ℕ) (write : Bool) where
     | no other ↦ subst (λ ds. Among ds d) (sym (with_at-else s.draws x y (drawn_plain raised ∷ s.draws x) other)) among
   ]
 
+  -- each draw after the plain access was there before, or is the access's own, on x
   news : (raised : Bool) (y : ℕ) (d : Draw) → Among (plain_draws raised y) d → Among (s.draws y) d ⊎ ((y ≡ x) × (d ≡ drawn_plain raised))
   news raised y d among = elim (ℕ_discrete y x) [
     | yes same ↦
@@ -73,6 +77,7 @@ module _ (s : Traced) (t x : ℕ) (write : Bool) where
     | no other ↦ inl (subst (λ ds. Among ds d) (with_at-else s.draws x y (drawn_plain raised ∷ s.draws x) other) among)
   ]
 
+  -- the entry of a draw that a raised access made was not performed
   not_performed : (d : Draw) (e : Entry) → d ≡ drawn_plain true → d.what ≡ Entered e → IsPerformed e → ⊥
   not_performed d e is what performed =
       let same : Entered (plain_entry x write true s) ≡ Entered e = sym (ap (λ (z : Draw). z.what) is) ∙ what in
@@ -84,6 +89,7 @@ module _ (s : Traced) (t x : ℕ) (write : Bool) where
   raised_kept ps ps' is are = performed_same s.draws (plain_draws true) ps ps' is are (stays true)
       (λ y d e among what performed. elim (news true y d among) [ inl old ↦ old | inr n ↦ absurd (not_performed d e n.1 what performed) ])
 
+  -- the draw of a plain access that was not raised is that of the access which is kept for it, in the block of its thread
   its_draw : (block : ℕ) → block ≡ block_of t s → IsDrawnFor x (drawn_plain false) (plain_done block t x write)
   its_draw block is = record {
     entry = plain_entry x write false s;
@@ -94,6 +100,7 @@ module _ (s : Traced) (t x : ℕ) (write : Bool) where
     write = (λ e. (refl, e), λ w. w.1);
   }
 
+  -- what stands in a list of one element is that element
   one_is : (p q : Performed) (j : ℕ) → slice_get (p ∷ []) j ≡ Some q → p ≡ q
   one_is p q zero e = cc
   one_is p q (suc j) e = absurd (cc)
@@ -172,6 +179,7 @@ module _ (s : Traced) (t : ℕ) (reads writes : List ℕ) where
   abbrev part : ℕ → ℕ → Performed
   part block = part_done block t (with_all writes reads) writes
 
+  -- for each variable y, the commit's draw is that of the commit's part on y, in the block that the commit begins
   part_draw : (block : ℕ) → block ≡ s.tracing.next → (y : ℕ) → IsDrawnFor y drawn_commit (part block y)
   part_draw block at y = record {
     entry = commit_entry reads writes s;
@@ -188,6 +196,7 @@ module _ (s : Traced) (t : ℕ) (reads writes : List ℕ) where
     );
   }
 
+  -- where the commit draws a number of its own on y, its draw is among those of y afterwards
   own_among : (y : ℕ) (own look : Bool) → own ≡ true
       → Among (with_own own t s.tracing.next (commit_entry reads writes s) (with_look look t (block_of t s) (s.draws y))) drawn_commit
   own_among y true look e = inl refl
@@ -206,6 +215,7 @@ module _ (s : Traced) (t : ℕ) (reads writes : List ℕ) where
             (sym is) (part_draw block at y),
       )
 
+  -- each part that is kept of the commit has its draw among those of its variable after the commit
   part_drawn : (block : ℕ) → block ≡ s.tracing.next → (j : ℕ) (p : Performed) → slice_get (map (part block) (with_all writes reads)) j
       ≡ Some p → (d : Draw) × Among (commit_draws p.var) d × IsDrawnFor p.var d p
   part_drawn block at j p here =

@@ -42,6 +42,7 @@ below_or_last : (k p : ℕ) → k ≤ p → (k < p) ⊎ (k ≡ p)
 below_or_last k p le = elim (eq-or-lt_of_le le) [ inl same ↦ inr same | inr l ↦ inl l ]
 
 module _ (h : List Stamp) (a : Access) (marks : List Bool) (are : AreMarks h a marks) where
+  -- the access reaches the first event of which the marks do not speak, if the access or a marked event orders it directly
   into_reached : (s : Stamp) → EventAt h (length marks) s → Starts a (length marks) s ⊎ HasMarked h marks (λ r. Leads r s)
       → Reaches h a (length marks)
   into_reached s here (inl (l, inl own)) = own_later s here l own
@@ -53,6 +54,7 @@ module _ (h : List Stamp) (a : Access) (marks : List Bool) (are : AreMarks h a m
       let l = slice_get_within marks p true marked in
       edge_on r s ((are.right p l).0 marked) there here l edge
 
+  -- if the access reaches the first event of which the marks do not speak, the access or a marked event orders it directly
   out_of_reached : (q : ℕ) (s : Stamp) → q ≡ length marks → EventAt h q s → Reaches h a q → Starts a q s
       ⊎ HasMarked h marks (λ r. Leads r s)
   out_of_reached q s is here (own_later r there l own) =
@@ -119,12 +121,15 @@ module _ (h : List Stamp) (marks : List Bool) (P : Stamp → Type 0) where
 
 -- all events are marked or not
 module _ (h : List Stamp) (a : Access) (marks : List Bool) (are : AreMarks h a marks) (all : length marks ≡ length h) where
+  -- the access reaches each marked event
   of_marked : (p : ℕ) → slice_get marks p ≡ Some true → Reaches h a p
   of_marked p marked = (are.right p (slice_get_within marks p true marked)).0 marked
 
+  -- each event that the access reaches is marked
   is_marked : (p : ℕ) (s : Stamp) → EventAt h p s → Reaches h a p → slice_get marks p ≡ Some true
   is_marked p s there reach = let l : p < length h = slice_get_within h p s there in (are.right p (omega arith)).1 reach
 
+  -- some event of thread u is marked exactly where the access reaches an event of u
   thread_iff : (u : ℕ) → HasMarked h marks (λ r. r.thread ≡ u) ↔ ReachesThread h a u
   thread_iff u = (
     λ w. (w.0, (w.1.0, w.1.2, w.1.3, of_marked w.0 w.1.1)),
@@ -136,6 +141,8 @@ module _ (h : List Stamp) (a : Access) (marks : List Bool) (are : AreMarks h a m
       → IsTrue (b || t) ↔ HappensBeforeNext h a u None
   plain_next u b t own thread = either b t _ _ own (λ x. (thread_iff u).0 (thread.0 x), λ w. thread.1 ((thread_iff u).1 w))
 
+  -- the access happens before the next commit of u on xs if it is of u, if it reaches an event of u,
+  -- if it is a commit on one of xs, or if a commit with one of xs is marked
   into_next : (u : ℕ) (xs : List ℕ) → (((a.thread ≡ u) ⊎ ReachesThread h a u) ⊎ IsCommitOn a xs) ⊎ HasMarked h marks (IsCommitWith xs)
       → HappensBeforeNext h a u (Some xs)
   into_next u xs (inl (inl (inl own))) = inl own
@@ -144,6 +151,8 @@ module _ (h : List Stamp) (a : Access) (marks : List Bool) (are : AreMarks h a m
   into_next u xs (inr (q, (s, marked, there, (ys, x, event, one, other)))) =
       inr (inr (inr (q, (s, (ys, (x, there, event, one, other, of_marked q marked))))))
 
+  -- if the access happens before the next commit of u on xs, it is of u, or reaches an event of
+  -- u, or is a commit on one of xs, or a commit with one of xs is marked
   out_of_next : (u : ℕ) (xs : List ℕ) → HappensBeforeNext h a u (Some xs) → (((a.thread ≡ u) ⊎ ReachesThread h a u) ⊎ IsCommitOn a xs)
       ⊎ HasMarked h marks (IsCommitWith xs)
   out_of_next u xs (inl own) = inl (inl (inl own))

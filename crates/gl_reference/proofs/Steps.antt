@@ -139,14 +139,17 @@ module _ (s : Traced) (now : State) (r : IsRecorded s now) (t : ℕ) (running : 
   abbrev next_part : ℕ → Next
   next_part y = record { thread = t; var = y; write = is_in y writes; variables = Some (with_all writes reads) }
 
+  -- the next access of y is the part on y of the commit
   is_part : (y : ℕ) → IsPartOf t (with_all writes reads) writes y (next_part y)
   is_part y = (refl, refl, refl, (is_in-contains y writes, contains-is_in y writes))
 
+  -- however the commit is judged, that its parts have no variables and that its entry is plain are equally false
   not_plain : (judged : Judged) → (Some (with_all writes reads) ≡ None) ↔ IsPlain (entered (CommitsOn reads writes) judged s)
   not_plain NoAccess = (λ e. absurd (cc), λ w. absurd w)
   not_plain WasPerformed = (λ e. absurd (cc), λ w. absurd w)
   not_plain (Raised var) = (λ e. absurd (cc), λ w. absurd w)
 
+  -- the commit's part on one of its variables is a write exactly where the commit's entry writes that variable
   part_writes : (judged : Judged) (y : ℕ) → Contains (with_all writes reads) y
       → (is_in y writes ≡ true) ↔ Writes (entered (CommitsOn reads writes) judged s) y
   part_writes judged y c =
@@ -156,6 +159,7 @@ module _ (s : Traced) (now : State) (r : IsRecorded s now) (t : ℕ) (running : 
   abbrev Racy : Judged → ℕ → Type 0
   Racy judged y = IsRacyNext s.history y (s.draws y) t (Some (with_all writes reads)) (entered (CommitsOn reads writes) judged s)
 
+  -- where the commit's entry is racy on one of its variables by the draws, its part there is racy by the events and performed accesses
   part_racy : (judged : Judged) (y : ℕ) → Contains (with_all writes reads) y → Racy judged y
       → IsRacyPart s.history ps t (with_all writes reads) writes y
   part_racy judged y c racy = (
@@ -165,6 +169,7 @@ module _ (s : Traced) (now : State) (r : IsRecorded s now) (t : ℕ) (running : 
         (entered (CommitsOn reads writes) judged s) (not_plain judged) (part_writes judged y c) racy,
   )
 
+  -- where the commit's part on one of its variables is racy by the events and performed accesses, its entry is racy there by the draws
   racy_part : (judged : Judged) (y : ℕ) → Contains (with_all writes reads) y → IsRacyPart s.history ps t (with_all writes reads) writes y
       → Racy judged y
   racy_part judged y c w =
@@ -173,6 +178,8 @@ module _ (s : Traced) (now : State) (r : IsRecorded s now) (t : ℕ) (running : 
       racy_draw s.history s.draws ps are (next_part y) (entered (CommitsOn reads writes) judged s) (not_plain judged)
       (part_writes judged y c) racy
 
+  -- what was done with the commit judges it right: performed, it is racy on none of its
+  -- variables; raised, it is so on the variable named, the least such one
   commit_judged : (h' : List Stamp) (ps' : List Performed) (judged : Judged) → Rises (with_all writes reads)
       → CommitDone s.history ps t (with_all writes reads) writes judged h' ps' → IsJudgedBy (Racy judged) (CommitsOn reads writes) judged
   commit_judged h' ps' NoAccess rising d = d
@@ -188,6 +195,7 @@ module _ (s : Traced) (now : State) (r : IsRecorded s now) (t : ℕ) (running : 
             (part_racy (Raised var) y k racy),
       )
 
+  -- the accesses that are kept after the commit are the performed accesses of the draws after it
   commit_performed : (h' : List Stamp) (ps' : List Performed) (judged : Judged)
       → CommitDone s.history ps t (with_all writes reads) writes judged h' ps'
       → ArePerformed (after_item t (CommitsOn reads writes) judged s).draws ps'
@@ -195,6 +203,7 @@ module _ (s : Traced) (now : State) (r : IsRecorded s now) (t : ℕ) (running : 
   commit_performed h' ps' WasPerformed d = commit_kept s t reads writes ps ps' (length s.history) (sym r.next) d.2 are
   commit_performed h' ps' (Raised var) d = refused_kept s t reads writes var ps ps' d.2 are
 
+  -- the events that are kept after the commit are those of the trace after it
   commit_history : (h' : List Stamp) (ps' : List Performed) (judged : Judged)
       → CommitDone s.history ps t (with_all writes reads) writes judged h' ps' → h'
       ≡ (after_item t (CommitsOn reads writes) judged s).history
@@ -228,6 +237,7 @@ stepped_commit t reads writes judged h h' ps ps' over over' same_over done lines
 -- what the judge does with an access, and with a commit
 module _ (h h0 : List Stamp) (ps ps0 ps1 : List Performed) (t x : ℕ) (write b : Bool) (events : h0 ≡ h) (kept : ps0 ≡ ps1) (same : ps1
     ≡ ps) (test : IsTrue b ↔ IsRacyBy h0 ps0 (plain_next t x write)) where
+  -- an answer that tells whether a plain access is racy over h0 and ps0 tells it over h and ps, which are the same
   asked_plain : IsTrue b ↔ IsRacyBy h ps (plain_next t x write)
   asked_plain = subst (λ z. IsTrue b ↔ IsRacyBy z ps (plain_next t x write)) events
       (subst (λ z. IsTrue b ↔ IsRacyBy h0 z (plain_next t x write)) (kept ∙ same) test)
@@ -249,6 +259,7 @@ module _ (h h0 : List Stamp) (ps ps0 ps1 : List Performed) (t x : ℕ) (write b 
 
 module _ (h h0 h1 : List Stamp) (ps ps0 ps1 : List Performed) (t : ℕ) (variables writes : List ℕ) (o : Option ℕ) (events : h0 ≡ h1)
     (same_events : h1 ≡ h) (kept : ps0 ≡ ps1) (same : ps1 ≡ ps) (first : IsFirstRacy h0 ps0 t variables writes o) where
+  -- a commit's first racy variable over h0 and ps0, or that there is none, is the same over h and ps
   asked_commit : IsFirstRacy h ps t variables writes o
   asked_commit = subst (λ z. IsFirstRacy z ps t variables writes o) (events ∙ same_events)
       (subst (λ z. IsFirstRacy h0 z t variables writes o) (kept ∙ same) first)
