@@ -123,12 +123,15 @@ by_a_write es x k r = let w : GivesRight r.entry x k true = subst (λ b. GivesRi
 
 module _ (key : Key) (w : World) (st : table.State Slot View) (id : ℕ) (v : View) (s : Shelf) (x k : ℕ) (value : ℤ) (one : v.shelves ≡ s
     ∷ []) (H : Holds key w st) (here : get_elem? st.views id ≡ some v) where
+  -- the pass's view fits
   mine : Fits key (board (capacity key) st.words) w id v
   mine = H.views.at id v here
 
+  -- its one list has its thread's events, in a form that it may have so far
   f : ShelfFits w.log w.seat id s
   f = only_shelf (ShelfFits w.log w.seat id) v s one mine.positions.shelves
 
+  -- each draw of its thread has its entry in the list, or waits for it
   d : ShelfDraws w.draws v.drawn s
   d = only_shelf (ShelfDraws w.draws v.drawn) v s one mine.numbers.shelves
 

@@ -159,10 +159,12 @@ module _ (draws : ℕ → List Draw) (drawn : List Drawn) (s : Shelf) (x p : ℕ
   abbrev o : Drawn
   o = record { var = x; nth = length (draws x); look = look }
 
+  -- what a draw is for is still there once one number more waits
   kept_more : (y n : ℕ) (f : Draw) → IsKept s.marked drawn y n f → IsKept s.marked (drawn ++ o ∷ []) y n f
   kept_more y n f (in_list i e a b c g) = in_list i e a b c g
   kept_more y n f (in_flight l c st) = in_flight l (in_more drawn o (record { var = y; nth = n; look = l }) c) st
 
+  -- with the new draw, and its number among those that wait, the thread's draws are tied to its list
   drawn_open : AreDrawn (with_at draws x (d ∷ draws x)) s.thread s.marked (drawn ++ o ∷ [])
   drawn_open = record {
     kept = λ y n f a own. elim (draw_cases draws x d y n f a) [

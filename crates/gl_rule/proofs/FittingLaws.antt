@@ -82,6 +82,7 @@ module _ (setting : Setting) (seat : ℕ → ℕ) (j : ℕ) (s : Shelf) (v : Vie
     stands : RowStands setting log x ds taken
     tails : (n : ℕ) → Contains h.tails n → (n ≤ v.seen) × IsWithin taken n
 
+  -- where the first events of a list are as many as the pass has seen, the row that is put back stands over the whole list
   put_at : (l more : List Stamp) → length l ≡ v.seen → Put (l ++ more) → RowStands setting (l ++ more) x (with_draw h.drew ds) row
   put_at l more long p =
       let fits = front_fits setting seat j s v hold l more long p.facts in

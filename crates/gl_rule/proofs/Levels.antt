@@ -304,6 +304,7 @@ same_place e p q a b = cc
 -- the last event is the entry e of thread t: what stands before it are its events before, and behind it stands none
 module _ (l : List Stamp) (x : Stamp) (t : ℕ) (a : List Entry) (e : Entry) (b : List Entry) (k : AreEvents (l ++ x ∷ []) t (a ++ e ∷ b))
     (place : position_of e ≡ Some (length l)) where
+  -- no entry of the thread's list has a position behind that last event
   within : (i p : ℕ) (f : Entry) → At (a ++ e ∷ b) i f → position_of f ≡ Some p → p ≤ length l
   within i p f at pos =
       let v = event_there f p pos in
@@ -312,6 +313,7 @@ module _ (l : List Stamp) (x : Stamp) (t : ℕ) (a : List Entry) (e : Entry) (b 
         | inr new ↦ (let n = new.0 in omega arith)
       ]
 
+  -- the entries before e are the thread's events in the list without that last event
   events_before : AreEvents l t a
   events_before = record {
     listed = λ i p f ev at pos is.
@@ -336,6 +338,7 @@ module _ (l : List Stamp) (x : Stamp) (t : ℕ) (a : List Entry) (e : Entry) (b 
     rise = λ i j p q f g at bt lt pos qos. k.rise i j p q f g (at_kept a (e ∷ b) i f at) (at_kept a (e ∷ b) j g bt) lt pos qos;
   }
 
+  -- no entry behind e has a position
   none_behind : (j : ℕ) (f : Entry) → At b j f → position_of f ≡ None
   none_behind j f at = by (position_of f) refl
     where

@@ -428,6 +428,8 @@ module _ (key : Key) (w : World) (b : Board) (id : ℕ) (v : View) (s : Shelf) (
     stands : RowStands key.setting log x ds taken
     verdicts : DrawsHold log x ds
 
+  -- where the first events of a list are as many as the pass has seen, what is said of the draws is right over the whole list with the
+  -- plain access as the last draw
   right_at : (ds : List Draw) → ((n : ℕ) → Contains h.tails n → (n ≤ v.seen) × IsWithin taken n) → (l more : List Stamp) → length l
       ≡ v.seen → Marks (l ++ more) ds → DrawsHold (l ++ more) x (draw s.thread p (Entered (Plain x (length ds) false write value raised))
       ∷ ds)

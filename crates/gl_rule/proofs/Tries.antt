@@ -20,6 +20,7 @@ module _ {X : Type 0} where
   in_front (z ∷ xs) ys x (zero, l, e) = (zero, omega arith, e)
   in_front (z ∷ xs) ys x (suc k, l, e) = in_cons z (xs ++ ys) x (in_front xs ys x (k, omega arith, e))
 
+  -- what is in the second of two lists is in both of them joined
   pub in_back : (xs ys : List X) (x : X) → Contains ys x → Contains (xs ++ ys) x
   in_back [] ys x c = c
   in_back (z ∷ xs) ys x c = in_cons z (xs ++ ys) x (in_back xs ys x c)
@@ -121,6 +122,7 @@ module _ (takers : ℕ → List ℕ) (k t : ℕ) where
   abbrev pub taker : ℕ → List ℕ
   taker = with_at takers k (t ∷ takers k)
 
+  -- each taker of an object is one still
   pub taker_more : (g u : ℕ) → Contains (takers g) u → Contains (taker g) u
   taker_more g u c = elim (ℕ_discrete g k) [
     | yes e ↦ subst (λ l. Contains l u) (sym (ap taker e ∙ with_here takers k (t ∷ takers k)))
@@ -128,9 +130,11 @@ module _ (takers : ℕ → List ℕ) (k t : ℕ) where
     | no ne ↦ subst (λ l. Contains l u) (sym (with_else takers k g (t ∷ takers k) ne)) c
   ]
 
+  -- the thread t is a taker of k
   pub taker_here : Contains (taker k) t
   taker_here = subst (λ l. Contains l t) (sym (with_here takers k (t ∷ takers k))) (zero, omega arith, refl)
 
+  -- a taker of an object was one before, or it is t and the object is k
   pub taker_cases : (g u : ℕ) → Contains (taker g) u → Contains (takers g) u ⊎ ((g ≡ k) × (t ≡ u))
   taker_cases g u c = elim (ℕ_discrete g k) [
     | yes e ↦ here e (subst (λ l. Contains l u) (ap taker e ∙ with_here takers k (t ∷ takers k)) c)
