@@ -64,19 +64,24 @@ near_in (x ∷ xs) (suc i) all near = near_in xs i all.1 (omega arith)
 -- the row at place i, where those before it have their number
 module _ (rows : List TakenRow) (i : ℕ) (r : TakenRow) (there : slice_get rows i ≡ Some r) (are : AreVariables (vars_of rows))
     (numbers : List Number) (done : numbered numbers ≡ take i (vars_of rows)) where
+  -- the row's variable is one that there is
   pub near_var : r.var < VARIABLES
   near_var = let v = var_at rows i r there in subst (λ k. k < VARIABLES) v.1 (near_in (vars_of rows) i are.2 v.0)
 
+  -- with it, the variables that have a number rise
   pub rises_on : Rises (numbered numbers ++ r.var ∷ [])
   rises_on = let v = var_at rows i r there in subst (λ l. Rises (l ++ r.var ∷ [])) (sym done)
       (subst (λ k. Rises (take i (vars_of rows) ++ k ∷ [])) v.1 (take_are (vars_of rows) i are v.0).1)
 
+  -- it has no number yet
   pub not_numbered : Contains (numbered numbers) r.var → ⊥
   not_numbered = last_once (numbered numbers) r.var rises_on
 
+  -- the row is the one that is found for it
   pub found_there : row_at rows r.var ≡ Some r
   found_there = row_found rows i r are.1 there
 
+  -- with a number on it, just the variables of the rows up to place i have one
   pub numbered_on : (nth : ℕ) → numbered (numbers ++ record { var = r.var; nth = nth } ∷ []) ≡ take (i + 1) (vars_of rows)
   numbered_on nth =
       let v = var_at rows i r there in
