@@ -282,7 +282,7 @@ module _ (key : Key) (w : World) (st : table.State Slot View) (id : ℕ) (v : Vi
           let n = head_number key w st id v s tx (Raised var) (variables_of tx) p one may.drop H here y k r.0 has r.1 in
           ap (until' y) n ∙ until_head y c r.0 r.1
 
--- the end of a list
+-- a list whose last entry is its End may store Over
 over_stored : (s : Shelf) (ending : Ending) → MayEnd s → IsFormed s.thread s.marked → MayStore s.thread s.marked (Over ending)
 over_stored s ending may k = record {
   well_formed = tt;
@@ -410,7 +410,7 @@ ends key w st id v s ending one may H here =
       };
     })
 
--- one entry
+-- adding one entry keeps the rule
 add_one : (key : Key) (st : table.State Slot View) (id : ℕ) (v u : View) (e : Entry) → MayAdd v e u → Rule key st → get_elem? st.views id
     ≡ some v → Rule key (record { words = st.words; homes = st.homes; views = set st.views id u })
 add_one key st id v u (Over ending) may rule here =

@@ -209,7 +209,7 @@ module _ (key : Key) (w : World) (st : table.State Slot View) (id : ℕ) (v : Vi
         let m = (events u).made begin.place begin.event begin.here begin.own in
         let z : At [] m.0 m.1 = subst (λ l. At l m.0 m.1) empty m.2 in absurd (cc)
 
-    -- what the record of the lists is
+    -- where no thread is live and nothing is owed, the record of the lists is closed
     pub closes : IsQuiet w.now → v.owed ≡ [] → IsClosed key.setting (b.hold 0) (lists_in v.shelves)
     closes quiet paid = record {
       log = w.log;

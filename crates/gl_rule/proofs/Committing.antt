@@ -63,11 +63,11 @@ use Rattle.gl_rule.proofs.Raising.{row_tail}
 pub cons_tail : (a c : Draw) (xs ys : List Draw) → a ∷ xs ≡ c ∷ ys → xs ≡ ys
 cons_tail a c xs ys e = cc
 
--- a choice whose test is true
+-- a choice whose test is true takes the first branch
 pub the_then : (q : Bool) (a c : Option Draw) → q ≡ true → (if q then a else c) ≡ a
 the_then q a c e = rw e refl
 
--- a choice whose test is false
+-- a choice whose test is false takes the second branch
 pub the_else : (q : Bool) (a c : Option Draw) → q ≡ false → (if q then a else c) ≡ c
 the_else q a c e = rw e refl
 
@@ -85,7 +85,7 @@ still_none (Entered e) s = absurd s
 pub still_some : (w : What) (v : ℤ) → IsStill w (Some v) → w ≡ Open → ⊥
 still_some w v s e = let z : IsStill Open (Some v) = subst (λ a. IsStill a (Some v)) e s in let q : Some v ≡ None = z in cc
 
--- the row that was marked
+-- where d was drawn on a held row it is the last draw of its variable, and the row stands for the draws below it
 pub held_open : (setting : Setting) (w : World) (hold : ℕ → ℕ) (drew : Option Draw) (k y : ℕ) (d : Draw) (z : Slot) (row : Row) → k ≡ suc y
     → z ≡ slot.Row row → drew ≡ Some d → StandsHeld setting w hold drew k z → (ds : List Draw) × (w.draws y ≡ d ∷ ds)
     × RowStands setting w.log y ds row
@@ -173,7 +173,7 @@ module _ (key : Key) (w : World) (b : Board) (id : ℕ) (v : View) (s : Shelf) (
   after_out : (y : ℕ) → is_in y ys ≡ false → after y ≡ w.draws y
   after_out y c = rw c refl
 
-  -- what stands last on each of the commit's variables
+  -- on each of the commit's variables the mark for its end is the last draw
   heads : (y : ℕ) → is_in y ys ≡ true → (ds : List Draw) × (w.draws y ≡ draw s.thread p Open ∷ ds)
   heads y c = let r = open_row y c in (r.0, r.1)
 

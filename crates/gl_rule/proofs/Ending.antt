@@ -131,7 +131,7 @@ none_of : {A : Type 0} → (l : List A) → ((o : A) → Contains l o → ⊥) �
 none_of [] none = refl
 none_of (o ∷ os) none = absurd (none o (zero, omega arith, refl))
 
--- two passes are done when both are
+-- what is done by the first view's quiet is done by both
 pub done_left : (es : List Entry) (q r : Bool) → IsDone es q → IsDone es (q || r)
 done_left es q r (inl e) = inl e
 done_left es true r (inr e) = inr (e.0, refl)
@@ -143,7 +143,7 @@ done_right es q r (inl e) = inl e
 done_right es true r (inr e) = inr (e.0, refl)
 done_right es false r (inr e) = inr e
 
--- a pass whose lists are done has drawn, owes and has stored nothing
+-- where all lists of a pass are done, no number of it waits, it owes nothing, and it has stored no word in the cell of the tail
 module _ (key : Key) (w : World) (st : table.State Slot View) (id : ℕ) (v : View) (H : Holds key w st) (here : get_elem? st.views id
     ≡ some v) (idle : v.held ≡ []) (all_done : (s : Shelf) → Contains v.shelves s → IsDone s.marked v.quiet) (s : Shelf)
     (has : Contains v.shelves s) where
@@ -303,7 +303,7 @@ module _ (key : Key) (w : World) (st : table.State Slot View) (id : ℕ) (v : Vi
   its : Fits key (board (capacity key) st.words) w id v
   its = H.views.at id v here
 
-  -- so of the seat that has all lists
+  -- no number waits for its entry
   pub none : v.drawn ≡ []
   none = let s = all 0 (omega arith) in drew_all key w st id v H here idle done s.0 s.1
 

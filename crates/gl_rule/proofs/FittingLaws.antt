@@ -67,7 +67,7 @@ infos_front setting l more x ds row s w = record {
       in (access_of d.0, info_front setting l more i (access_of d.0) false (w.reads t i e) d.2);
 }
 
--- what a tail that was seen since the row was taken says of its Infos
+-- a row whose Infos stand within n has them within m, where n is at most m
 pub within_seen : (row : Row) (n m : ℕ) → n ≤ m → IsWithin row n → IsWithin row m
 within_seen row n m le w = record {
   last_write = λ i e. let a = w.last_write i e in omega arith;

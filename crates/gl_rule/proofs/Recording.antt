@@ -146,7 +146,7 @@ module _ (key : Key) (w : World) (st : table.State Slot View) (id : ℕ) (v : Vi
     after_out : (y : ℕ) → is_in y zs ≡ false → after y ≡ w.draws y
     after_out y c = rw c refl
 
-    -- what stands last on each of the attempt's variables
+    -- on each of the attempt's marked variables the mark is the last draw
     heads : (y : ℕ) → is_in y zs ≡ true → (ds : List Draw) × (w.draws y ≡ draw s.thread p Open ∷ ds)
     heads y c = let r = open_row y c in (r.0, r.1)
 
@@ -209,7 +209,7 @@ module _ (key : Key) (w : World) (st : table.State Slot View) (id : ℕ) (v : Vi
               | inr old ↦ H.whole.numbers.threads y f (subst (λ l. Among l f) (sym r.1) (inr old))
             ]
 
-    -- what is said of the draws
+    -- what is said of the draws is right with w0 in the place of the marks
     verdicts : (y : ℕ) → DrawsHold w.log y (after y)
     verdicts y = by (is_in y zs) refl
       where

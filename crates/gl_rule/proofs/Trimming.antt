@@ -44,7 +44,7 @@ module _ (setting : Setting) (low : ℕ) (R : Lists) (c : IsClosed setting low R
         ]
       ])
 
-  -- the Trims of a closed table
+  -- the Trims of a closed table's record are as the ring's segments ask
   pub are_trims : (cells segments n : ℕ) → low * cells ≤ n → n ≤ low * cells + segments * cells → AreTrims cells segments R n
   are_trims cells segments n below room = record {
     once = once;

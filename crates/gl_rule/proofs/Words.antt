@@ -4,7 +4,7 @@ use Rattle.std.specs.Prelude.{slice_index}
 use Rattle.std.proofs.lemmas.List.{get_or-set_same, get_or-set_other}
 use Rattle.gl_rule.specs.Objects.{Board, board, objects, word_count, cell_at}
 
--- a word that is set to what it was
+-- setting a word to what it is changes nothing
 pub set_same : (ns : List ℕ) (i : ℕ) → set ns i (slice_index ns i) ≡ ns
 set_same [] i = refl
 set_same (n ∷ ns) zero = refl
