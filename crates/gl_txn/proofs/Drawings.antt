@@ -67,7 +67,7 @@ module _ (held : List Held) (list : Option Held) (rows : List TakenRow) (tails :
             ∙ by_row y other (row_at rows y) refl
       ]
 
--- no number of an end of x is among those of others
+-- numbers of an end on other variables leave the count of those on x
 count_ends : (x : ℕ) (drawn : List Drawn) (numbers : List Number) → (Contains (numbered numbers) x → ⊥)
     → count_on x (drawn ++ map end_of numbers) ≡ count_on x drawn
 count_ends x [] [] out = refl
@@ -127,7 +127,7 @@ module _ (p q : PassView) (list : Option Held) (rows : List TakenRow) (tails : L
         });
   })
 
-  -- the pass after it drew n on it
+  -- a pass that drew n on x has that number behind those that wait, and made one step more
   after_is : (r' : PassView) (n : ℕ) → r' ≡ opened q x n None → r'
       ≡ record p {
         own = record p.own {

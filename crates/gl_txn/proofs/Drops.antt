@@ -185,7 +185,7 @@ module _ (p q : PassView) (rows : List TakenRow) (tails : List ℕ) (numbers : L
       ∙ ap (λ (z : PassView). record (after_adding z (Abort tx (Raised var)))
       { own = record (after_adding z (Abort tx (Raised var))).own { held = [] }; moves = s.moves }) d.is
 
--- the transaction with its one number
+-- a transaction without numbers that gets one more has just that one
 pub tx_is : (t d : Tx) (ns : List Number) (n : Number) → d ≡ t → t.numbers ≡ [] → ns ≡ d.numbers ++ n ∷ []
     → ◌≡◌ {A = Tx} (record { looks = d.looks; writes = d.writes; numbers = ns })
     (record { looks = t.looks; writes = t.writes; numbers = n ∷ [] })

@@ -36,7 +36,7 @@ in_either (z ∷ xs) ys x (zero, l, e) = inl (0, omega arith, e)
 in_either (z ∷ xs) ys x (suc k, l, e) = elim (in_either xs ys x (k, omega arith, e))
     [ inl a ↦ inl (suc a.0, (let l = a.1 in omega arith), a.2) | inr b ↦ inr b ]
 
--- of numbers that wait for an end none is a look's, and each is one of them
+-- none of the numbers of an end that wait is a look's
 ends_none : (ns : List Number) (y k : ℕ) (value : ℤ) → Contains (map end_of ns) (record { var = y; nth = k; look = Some value }) → ⊥
 ends_none [] y k value c = absurd (let l = c.1 in omega arith)
 ends_none (n ∷ ns) y k value (zero, l, e) = let z : None ≡ Some value = ap (λ (o : Drawn). o.look) e in cc
@@ -59,7 +59,7 @@ ends_to [] n c = absurd (let l = c.1 in omega arith)
 ends_to (m ∷ ns) n (zero, l, e) = (0, omega arith, ap end_of e)
 ends_to (m ∷ ns) n (suc i, l, e) = let r = ends_to ns n (i, omega arith, e) in (suc r.0, (let l = r.1 in omega arith), r.2)
 
--- each variable has one number
+-- where all variables of the numbers are above x, that of each of them is
 above_number : (x : ℕ) (ns : List Number) (n : Number) → AllByRecursion (λ y. x < y) (numbered ns) → Contains ns n → x < n.var
 above_number x [] n all c = absurd (let l = c.1 in omega arith)
 above_number x (m ∷ ns) n all (zero, l, e) = subst (λ (k : Number). x < k.var) e all.0
@@ -75,7 +75,7 @@ number_once (n ∷ ns) r a b (suc i, l, e) (zero, m, f) same = let near = above_
     in let z = ap (λ (k : Number). k.var) f in absurd (omega arith)
 number_once (n ∷ ns) r a b (suc i, l, e) (suc j, m, f) same = number_once ns r.1 a b (i, omega arith, e) (j, omega arith, f) same
 
--- held slots that are equal as options are equal
+-- held objects that are equal as options are equal
 some_held : (a b : Held) → Some a ≡ Some b → a ≡ b
 some_held a b e = cc
 

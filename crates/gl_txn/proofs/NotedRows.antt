@@ -43,7 +43,7 @@ none_at zero k = refl
 none_at (suc n) zero = refl
 none_at (suc n) (suc k) = none_at n k
 
--- whether the writes have x, and the word that they give it
+-- a variable with a write is among those that were written, and its value is that of the write
 written_by : (x : ℕ) (ws : List Pair) (v : ℤ) → write_in ws x ≡ Some v → (is_in x (map (λ w. w.var) ws) ≡ true) × (value_in x ws ≡ v)
 written_by x [] v e = absurd (cc)
 written_by x (w ∷ ws) v e = elim (ℕ_discrete x w.var) [
@@ -67,7 +67,7 @@ module _ (setting : Setting) (l : List Stamp) (x t n : ℕ) (near : t < THREADS)
   abbrev d : Draw
   d = draw t n (Entered (Commit n tx))
 
-  -- a write is the last write, and drops the reads
+  -- a row whose last write is the commit, with no reads and its word, stands with the commit as the last draw
   pub wrote_stands : (v : ℤ) → write_in tx.writes x ≡ Some v → (new : Row) → new.value ≡ v → new.last_write ≡ Some i → new.reads
       ≡ replicate THREADS None → InfoFor setting l i (access_of (draw t n (Entered (Commit n tx)))) true
       → RowStands setting l x (draw t n (Entered (Commit n tx)) ∷ ds) new
@@ -102,7 +102,7 @@ module _ (setting : Setting) (l : List Stamp) (x t n : ℕ) (near : t < THREADS)
         rw (b, r) (s.reads u))
   ]
 
-  -- a read is its thread's
+  -- so does one in which the commit is its thread's read, where it writes nothing there
   pub read_stands : write_in tx.writes x ≡ None → (new : Row) → new.value ≡ old.value → new.last_write ≡ old.last_write → new.reads
       ≡ slice_set old.reads t (Some i) → InfoFor setting l i (access_of (draw t n (Entered (Commit n tx)))) false
       → RowStands setting l x (draw t n (Entered (Commit n tx)) ∷ ds) new

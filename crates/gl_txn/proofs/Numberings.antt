@@ -33,7 +33,7 @@ pub keys_last : (ns : List Number) (n : Number) → numbered (ns ++ n ∷ []) �
 keys_last [] n = refl
 keys_last (k ∷ ns) n = ap (λ (l : List ℕ). k.var ∷ l) (keys_last ns n)
 
--- the variable of the row at a place
+-- the variable at a place of the rows' variables is that of the row there
 pub var_at : (rows : List TakenRow) (i : ℕ) (r : TakenRow) → slice_get rows i ≡ Some r → (i < length (vars_of rows))
     × (get_or (vars_of rows) i 0 ≡ r.var)
 var_at [] i r e = absurd (cc)
@@ -88,7 +88,7 @@ module _ (rows : List TakenRow) (i : ℕ) (r : TakenRow) (there : slice_get rows
       keys_last numbers (record { var = r.var; nth = nth }) ∙ ap (λ l. l ++ r.var ∷ []) done
       ∙ ap (λ k. take i (vars_of rows) ++ k ∷ []) (sym v.1) ∙ sym (take_more (vars_of rows) i 0 v.0)
 
--- no number is drawn yet
+-- a pass on whose held rows nothing was drawn has drawn no number
 pub drawn_none : (p : PassView) (list : Option Held) (rows : List TakenRow) (tails : List ℕ) → AreHeld p.own.held list rows tails undrawn
     → HasDrawn p p list rows tails []
 drawn_none p list rows tails a = record {

@@ -252,7 +252,7 @@ may_try_writes z p a b e m = record {
   };
 }
 
--- ---- causes
+-- ---- why an attempt ended, or has to wait
 
 -- a row that stands at a place is in the list
 in_at : (rows : List TakenRow) (i : ℕ) (r : TakenRow) → slice_get rows i ≡ Some r → Contains rows r
@@ -266,7 +266,7 @@ at_in [] r c = absurd (let l = c.1 in omega arith)
 at_in (x ∷ xs) r (zero, l, e) = (0, ap (λ (z : TakenRow). Some z) e)
 at_in (x ∷ xs) r (suc k, l, e) = let f = at_in xs r (k, omega arith, e) in (suc f.0, f.1)
 
--- words that are unchanged in the rows, by places and by looks
+-- where the looks' variables rise, each look is the one that is found for the variable of its row
 look_same : (a : Tx) (l : Look) (r : TakenRow) → Rises (map (λ l. l.var) a.looks) → Contains a.looks l → r.var ≡ l.var
     → look_in a.looks r.var ≡ Some l
 look_same a l r rises c e = ap (look_in a.looks) e ∙ look_found a.looks rises l c
@@ -381,7 +381,7 @@ module _ (p q r : PassView) (rows : List TakenRow) (tx : Tx) (h : HoldsRows p ro
             (same_test l u.row (asked_of p.own.id tx u.var) (asked_on base tx.writes u.var) (sym thread) refl (sym commit) fails));
       }
 
--- an attempt that was dropped as changed
+-- an attempt that was dropped as changed has its cause
 pub changed_cause : (z : TableView) (p s : PassView) (rows : List TakenRow) (tx : Tx) → HoldsRows p rows tx
     → AreVariables (map (λ l. l.var) tx.looks) → (c : Change) → IsFirstChange tx.looks rows c → (why : _) → HasDropped tx why p s
     → IsCauseBy z (attempt_in tx) (end.Changed c.var c.read c.found) (shelf_of p) p.seen p.reads rows s
@@ -404,7 +404,7 @@ changed_cause z p s rows tx h looks c f why d =
           f.before k.0 r before k.1 l (look_same tx l r looks.1 a e));
     }
 
--- a fact of each answer becomes another
+-- a result that answers with one fact of the end answers with what follows from it
 pub cause_ok : {E : Type 0} (z : TableView) (r : Result TxEnd E) (P Q : TxEnd → Type 0) → ((e : TxEnd) → P e → Q e) → IfOk r P → IfOk r Q
 cause_ok z (Ok e) P Q f h = f e h
 cause_ok z (Err w) P Q f h = tt

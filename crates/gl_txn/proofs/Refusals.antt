@@ -28,7 +28,7 @@ use Rattle.gl_txn.proofs.EndFacts.{may_drop, names_one}
 use Rattle.gl_txn.proofs.Holdings.{row_among, row_here, row_past, above_in}
 use Rattle.gl_txn.proofs.Numberings.{row_found, in_vars}
 
--- the row of each of these variables
+-- a row is found for each of the rows' variables
 pub row_of : (rows : List TakenRow) (y : ℕ) → is_in y (vars_of rows) ≡ true → (r : TakenRow) × (row_at rows y ≡ Some r)
 row_of [] y b = absurd (cc)
 row_of (q ∷ rs) y b = elim (ℕ_discrete q.var y) [
