@@ -138,6 +138,7 @@ module _ (key : Key) (w : World) (st : table.State Slot View) (id : ℕ) (v : Vi
       in (All-contains (DrawsBelow w.draws) v.held r.one mine.refusals.held r.held).at y (row_at y c).0 a m r.object ((row_at y c).1
       ∙ sym (ap (λ o. with_draw o (row_at y c).0) r.drew)) among (may.saw y c)
 
+  -- a list that the machine allows, with the thread's events and those that the pass knows, where the draws and the held rows are right
   record Seen (log : List Stamp) : Type 0 where
     now : State
     allowed : Allows key.setting log now

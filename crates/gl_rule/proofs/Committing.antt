@@ -206,6 +206,7 @@ module _ (key : Key) (w : World) (b : Board) (id : ℕ) (v : View) (s : Shelf) (
                 | inr old ↦ k.threads y f (subst (λ l. Among l f) (sym r.1) (inr old))
               ]
 
+  -- a list that the machine allows, with the thread's events and those that the pass knows, where the draws and the held rows are right
   record Seen (log : List Stamp) : Type 0 where
     now : State
     allowed : Allows key.setting log now

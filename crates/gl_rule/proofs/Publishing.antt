@@ -231,7 +231,7 @@ pub record Change (key : Key) (b : Board) (w w' : World) (id : ℕ) (v : View) (
     pub refused : (x : ℕ) → RefusalsHold w'.log (w.until x) x (w'.draws x)
     pub behind : (g : Held) (x : ℕ) (ds : List Draw) → Contains v.held g → g.object ≡ suc x → w'.draws x ≡ with_draw (drew g) ds → w.draws x
         ≡ with_draw g.drew ds
-    -- only rows that are held are drawn on
+    -- a draw of the thread had the same number before, or it has no repeats, and the list has no cached write under its number
     pub repeats : (x k : ℕ) (d : Draw) → DrawAt (w'.draws x) k d → d.thread ≡ s.thread → DrawAt (w.draws x) k d
         ⊎ ((d.repeats ≡ []) × (repeats_of x k s.marked ≡ []))
     pub calm : (shelves : List Shelf) (x : ℕ) → OwedOne w.draws shelves x
@@ -241,6 +241,7 @@ pub record Change (key : Key) (b : Board) (w w' : World) (id : ℕ) (v : View) (
         → ((r : Shelf) → Contains shelves r → (s.thread ≢ r.thread) × AreEvents w.log r.thread r.marked) → IsCalm x (w.draws x)
         → IsCalm x (w'.draws x)
     pub foreign : (u x k : ℕ) (d : Draw) → u ≢ s.thread → d.thread ≡ u → DrawAt (w'.draws x) k d → DrawAt (w.draws x) k d
+    -- only rows that are held are drawn on
     pub elsewhere : (x : ℕ) → (w'.draws x ≡ w.draws x) ⊎ HasObject v (suc x)
     pub others : (r : Shelf) (drawn : _) → r.thread ≢ s.thread → ShelfDraws w.draws drawn r → ShelfDraws w'.draws drawn r
     pub own : ShelfDraws w'.draws [] (shelf s.thread (s.marked ++ e ∷ []))

@@ -36,7 +36,7 @@ commits_tail log draws h g all same drew tails c =
         in let q = block_in log x (draws x) a (all x) (inner x before a h.drew d among) in omega arith
     by x before a n o d among (suc i, l, e) = c.at x before a n o d among (i, omega arith, e)
 
--- and whatever else of the object changes
+-- and so they do whatever else of the object changes
 pub commits_same : (draws : ℕ → List Draw) (h g : Held) → g.object ≡ h.object → g.drew ≡ h.drew → g.tails ≡ h.tails → DrawsBelow draws h
     → DrawsBelow draws g
 commits_same draws h g same drew tails c =
