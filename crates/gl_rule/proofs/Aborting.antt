@@ -113,26 +113,32 @@ module _ (key : Key) (w : World) (st : table.State Slot View) (id : ℕ) (v : Vi
   abbrev b : Board
   b = board (capacity key) st.words
 
+  -- the pass's view fits
   mine : Fits key b w id v
   mine = H.views.at id v here
 
+  -- its one list has its thread's events, in a form that it may have so far
   fits : ShelfFits w.log w.seat id s
   fits = only_shelf (ShelfFits w.log w.seat id) v s one mine.positions.shelves
 
+  -- on each of the attempt's variables the mark for its end is the last draw, and the held row stands for the draws below it
   row_at : (y : ℕ) (c : is_in y (variables_of tx) ≡ true) → (ds : List Draw) × (w.draws y ≡ draw s.thread p Open ∷ ds)
       × RowStands key.setting w.log y ds (may.drop.rows y c).row
   row_at = open_row key w st id v s tx (Raised var) (variables_of tx) p one may.drop H here
 
+  -- the tail m is at most what the pass has seen, and the Infos of each of these rows stand within it
   tail_of_row : (y : ℕ) (c : is_in y (variables_of tx) ≡ true) → (m ≤ v.seen) × IsWithin (may.drop.rows y c).row m
   tail_of_row y c = let r = may.drop.rows y c
       in let t = row_tail (length w.log) b.hold v.seen r.one.object y m r.one.taken r.row r.object r.taken
       (All-contains (TailsFit (length w.log) b.hold v.seen) v.held r.one mine.knowledge.tails r.held m (may.saw y c)) in (t.0, t.1)
 
+  -- each draw below the mark on such a row was made in a block below m
   below_of_row : (y : ℕ) (c : is_in y (variables_of tx) ≡ true) (a : Draw) → Among (row_at y c).0 a → a.block < m
   below_of_row y c a among = let r = may.drop.rows y c
       in (All-contains (DrawsBelow w.draws) v.held r.one mine.refusals.held r.held).at y (row_at y c).0 a m r.object ((row_at y c).1
       ∙ sym (ap (λ o. with_draw o (row_at y c).0) r.drew)) among (may.saw y c)
 
+  -- a list that the machine allows, with the thread's events and those that the pass knows, where the draws and the held rows are right
   record Seen (log : List Stamp) : Type 0 where
     now : State
     allowed : Allows key.setting log now
@@ -144,6 +150,7 @@ module _ (key : Key) (w : World) (st : table.State Slot View) (id : ℕ) (v : Vi
   abbrev f : Entry
   f = Abort tx (Raised var)
 
+  -- judged over the first m events of such a list, the attempt races on var, and on none of its variables below
   tested : (l more : List Stamp) → length l ≡ m → Seen (l ++ more) → (y : ℕ) (c : is_in y (variables_of tx) ≡ true)
       → (y ≡ var → IsRacyNext l y (row_at y c).0 s.thread (Some (variables_of tx)) f)
       × (y < var → IsRacyNext l y (row_at y c).0 s.thread (Some (variables_of tx)) f → ⊥)
@@ -179,6 +186,7 @@ module _ (key : Key) (w : World) (st : table.State Slot View) (id : ℕ) (v : Vi
           → SomeFails l (may.drop.rows y e).row (question y) =
           subst (λ z. (e : is_in z (variables_of tx) ≡ true) → SomeFails l (may.drop.rows z e).row (question z)) (sym is) h in g c
 
+  -- so it is over the first m events of the table's list
   all_tested : (y : ℕ) (c : is_in y (variables_of tx) ≡ true)
       → (y ≡ var → IsRacyNext (take m w.log) y (row_at y c).0 s.thread (Some (variables_of tx)) f)
       × (y < var → IsRacyNext (take m w.log) y (row_at y c).0 s.thread (Some (variables_of tx)) f → ⊥)
@@ -199,6 +207,7 @@ module _ (key : Key) (w : World) (st : table.State Slot View) (id : ℕ) (v : Vi
   abbrev until' : ℕ → ℕ → ℕ
   until' = judged_at w.until w.draws (variables_of tx) m
 
+  -- afterwards the mark's own number on each of the attempt's variables counts as judged over m events
   until_head : (y : ℕ) (c : is_in y (variables_of tx) ≡ true) (ds : List Draw) → w.draws y ≡ draw s.thread p Open ∷ ds
       → until' y (length ds) ≡ m
   until_head y c ds is =
@@ -206,6 +215,7 @@ module _ (key : Key) (w : World) (st : table.State Slot View) (id : ℕ) (v : Vi
       let z : with_at (w.until y) (length ds) m (length ds) ≡ m = with_here (w.until y) (length ds) m in
       rw (c, n) z
 
+  -- each other number, and each one on another variable, counts as judged over as many events as before
   until_else : (y k : ℕ) → (is_in y (variables_of tx) ≡ false) ⊎ (suc k ≢ length (w.draws y)) → until' y k ≡ w.until y k
   until_else y k (inl c) = rw c refl
   until_else y k (inr ne) = by (is_in y (variables_of tx)) refl
@@ -273,7 +283,7 @@ module _ (key : Key) (w : World) (st : table.State Slot View) (id : ℕ) (v : Vi
           let n = head_number key w st id v s tx (Raised var) (variables_of tx) p one may.drop H here y k r.0 has r.1 in
           ap (until' y) n ∙ until_head y c r.0 r.1
 
--- the end of a list
+-- a list whose last entry is its End may store Over
 over_stored : (s : Shelf) (ending : Ending) → MayEnd s → IsFormed s.thread s.marked → MayStore s.thread s.marked (Over ending)
 over_stored s ending may k = record {
   well_formed = tt;
@@ -401,7 +411,7 @@ ends key w st id v s ending one may H here =
       };
     })
 
--- one entry
+-- adding one entry keeps the rule
 add_one : (key : Key) (st : table.State Slot View) (id : ℕ) (v u : View) (e : Entry) → MayAdd v e u → Rule key st → get_elem? st.views id
     ≡ some v → Rule key (record { words = st.words; homes = st.homes; views = set st.views id u })
 add_one key st id v u (Over ending) may rule here =

@@ -48,6 +48,7 @@ module _ (setting : Setting) (s : Shelf) (seen : ℕ) (known : List (ℕ × Stam
       ∙ ap (drop (i.pos - from)) (events_agree from window w l f) in
       ap (AfterAll (Has i.set)) rest
 
+  -- so an element is in the set of such an Info over a fitting list just where it is in that over the known events
   pub members_agree : (from : ℕ) (window : List Stamp) → IsWindow seen known from window → (l : List Stamp)
       → IsFitting setting s seen known l → (i : Info) → from ≤ i.pos → (y : Element)
       → set_after l i y ↔ AfterAll (Has i.set) (drop (i.pos - from) window) y
@@ -60,6 +61,7 @@ module _ (setting : Setting) (s : Shelf) (seen : ℕ) (known : List (ℕ × Stam
       let same : set_after l i ≡ set_after m i = sets_agree from window w l f i le ∙ sym (sets_agree from window w m g i le) in
       subst (λ set. Rattle.gl_model.specs.Locksets.IsOrderedOrExcepted set u vs → ⊥) same fails
 
+  -- where all Infos of a row stand there, a question that fails on the row over one fitting list fails on it over each other
   some_as : (from : ℕ) (window : List Stamp) → IsWindow seen known from window → (row : Row) → ((i : Info) → InRow row i → from ≤ i.pos)
       → (l m : List Stamp) → IsFitting setting s seen known l → IsFitting setting s seen known m → (q : Question) → SomeFails l row q
       → SomeFails m row q

@@ -47,7 +47,7 @@ no_draws : (x k : ℕ) (write : Bool) (value : ℤ) (y n : ℕ) → Draws (Plain
 no_draws x k write value y n (inl l) = l
 no_draws x k write value y n (inr l) = let z = l.0 in cc
 
--- the other variables that are owed
+-- what is owed of another variable than x is among what is left of the owed words without x
 pub in_rest : (x y : ℕ) (v : ℤ) (owed : List (ℕ × ℤ)) → y ≢ x → Contains owed (y, v)
     → Contains (filter (λ (o : ℕ × ℤ). not (o.0 == x)) owed) (y, v)
 in_rest x y v [] ne c = absurd (let l = c.1 in omega arith)
@@ -115,7 +115,7 @@ right_value (Abort a b) x k g = absurd g
 right_value (Trim a) x k g = absurd g
 right_value (Over a) x k g = absurd g
 
--- the right is that of a write
+-- a right to repeat a write comes from an uncached write of that variable and number
 by_a_write : (es : List Entry) (x k : ℕ) → HasRight es (length es) x k true → (r : HasRight es (length es) x k true)
     × ((value : ℤ) × (r.entry ≡ Plain x k false true value false))
 by_a_write es x k r = let w : GivesRight r.entry x k true = subst (λ b. GivesRight r.entry x k b) (r.enough refl) r.gives
@@ -123,12 +123,15 @@ by_a_write es x k r = let w : GivesRight r.entry x k true = subst (λ b. GivesRi
 
 module _ (key : Key) (w : World) (st : table.State Slot View) (id : ℕ) (v : View) (s : Shelf) (x k : ℕ) (value : ℤ) (one : v.shelves ≡ s
     ∷ []) (H : Holds key w st) (here : get_elem? st.views id ≡ some v) where
+  -- the pass's view fits
   mine : Fits key (board (capacity key) st.words) w id v
   mine = H.views.at id v here
 
+  -- its one list has its thread's events, in a form that it may have so far
   f : ShelfFits w.log w.seat id s
   f = only_shelf (ShelfFits w.log w.seat id) v s one mine.positions.shelves
 
+  -- each draw of its thread has its entry in the list, or waits for it
   d : ShelfDraws w.draws v.drawn s
   d = only_shelf (ShelfDraws w.draws v.drawn) v s one mine.numbers.shelves
 

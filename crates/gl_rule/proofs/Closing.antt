@@ -74,9 +74,11 @@ module _ (key : Key) (w : World) (st : table.State Slot View) (id : ℕ) (v : Vi
     abbrev R : Lists
     R = lists_in v.shelves
 
+    -- the seat's view fits
     mine : Fits key b w id v
     mine = H.views.at id v here
 
+    -- each thread's list is at this seat
     seat_of : (t : ℕ) → t < THREADS → w.seat t ≡ id
     seat_of t near = let s = all t near in let f : ShelfFits w.log w.seat id s.0 =
         All-contains (ShelfFits w.log w.seat id) v.shelves s.0 mine.positions.shelves s.1 in ap w.seat (sym s.2) ∙ f.here
@@ -104,6 +106,7 @@ module _ (key : Key) (w : World) (st : table.State Slot View) (id : ℕ) (v : Vi
     pub all_home : (k : ℕ) → k < objects → (y : Slot) × (get_elem? st.homes k ≡ some (some y)) × Stands key.setting w b.hold k y
     all_home k near = H.values.home k near (all_free k near)
 
+    -- what holds of each list that the seat has, and of an empty list for each other thread, holds of each thread's list in the record
     by_thread : (P : ℕ → List Entry → Type 0) → ((s : Shelf) → Contains v.shelves s → P s.thread s.marked)
         → ((t : ℕ) → THREADS ≤ t → P t [])
         → (t : ℕ) → P t (R t)
@@ -118,9 +121,11 @@ module _ (key : Key) (w : World) (st : table.State Slot View) (id : ℕ) (v : Vi
           | no lt ↦ absurd (let s = all t (omega arith) in apart s.0 s.1 s.2)
         ]
 
+    -- each of the seat's lists has its thread's events, in a form that it may have so far
     fits_of : (s : Shelf) → Contains v.shelves s → ShelfFits w.log w.seat id s
     fits_of s c = All-contains (ShelfFits w.log w.seat id) v.shelves s mine.positions.shelves c
 
+    -- each draw of the thread of such a list has its entry in it, since no number waits
     draws_of : (s : Shelf) → Contains v.shelves s → ShelfDraws w.draws [] s
     draws_of s c = subst (λ d. ShelfDraws w.draws d s) none (All-contains (ShelfDraws w.draws v.drawn) v.shelves s mine.numbers.shelves c)
 
@@ -132,6 +137,7 @@ module _ (key : Key) (w : World) (st : table.State Slot View) (id : ℕ) (v : Vi
       rise = λ i j p q e f a c lt d g. absurd (cc);
     })
 
+    -- so the draws of each thread are tied to its list in the record, and no number waits
     drawn : (t : ℕ) → AreDrawn w.draws t (R t) []
     drawn = by_thread (λ t l. AreDrawn w.draws t l []) (λ s c. (draws_of s c).numbers) (λ t far. record {
       kept = λ x k d a own. absurd (let q = H.whole.numbers.threads x d (draw_among (w.draws x) k d a) in omega arith);
@@ -140,6 +146,7 @@ module _ (key : Key) (w : World) (st : table.State Slot View) (id : ℕ) (v : Vi
       rise = λ x k m i j e f a c lt d g. absurd (cc);
     })
 
+    -- each list of the record has a form that it may have so far
     shaped : (t : ℕ) → IsFormed t (R t)
     shaped = by_thread (λ t l. IsFormed t l) (λ s c. (fits_of s c).form)
         (λ t far. record {
@@ -152,10 +159,12 @@ module _ (key : Key) (w : World) (st : table.State Slot View) (id : ℕ) (v : Vi
           repeats = λ i x k y a. absurd (cc);
         })
 
+    -- the entries of events in each list of the record carry the values of these events
     carries : (t : ℕ) → ShelfCarries w.values (shelf t (R t))
     carries = by_thread (λ t l. ShelfCarries w.values (shelf t l))
         (λ s c. All-contains (ShelfCarries w.values) v.shelves s mine.carries.shelves c) (λ t far i p e a q. absurd (cc))
 
+    -- each list of the record has the form of a list, its positions and numbers rising
     formed : (t : ℕ) → ListForm t (R t)
     formed t = let f = shaped t in record {
       well_formed = f.well_formed;
@@ -168,6 +177,7 @@ module _ (key : Key) (w : World) (st : table.State Slot View) (id : ℕ) (v : Vi
       cached = f.cached;
     }
 
+    -- the states between the events lead from the machine's start to its state now, each event by a step
     trail : Trail key.setting (start key.setting) w.log w.now
     trail = record {
       at = w.states;
@@ -199,7 +209,7 @@ module _ (key : Key) (w : World) (st : table.State Slot View) (id : ℕ) (v : Vi
         let m = (events u).made begin.place begin.event begin.here begin.own in
         let z : At [] m.0 m.1 = subst (λ l. At l m.0 m.1) empty m.2 in absurd (cc)
 
-    -- what the record of the lists is
+    -- where no thread is live and nothing is owed, the record of the lists is closed
     pub closes : IsQuiet w.now → v.owed ≡ [] → IsClosed key.setting (b.hold 0) (lists_in v.shelves)
     closes quiet paid = record {
       log = w.log;

@@ -63,11 +63,11 @@ use Rattle.gl_rule.proofs.Raising.{row_tail}
 pub cons_tail : (a c : Draw) (xs ys : List Draw) → a ∷ xs ≡ c ∷ ys → xs ≡ ys
 cons_tail a c xs ys e = cc
 
--- a choice whose test is true
+-- a choice whose test is true takes the first branch
 pub the_then : (q : Bool) (a c : Option Draw) → q ≡ true → (if q then a else c) ≡ a
 the_then q a c e = rw e refl
 
--- a choice whose test is false
+-- a choice whose test is false takes the second branch
 pub the_else : (q : Bool) (a c : Option Draw) → q ≡ false → (if q then a else c) ≡ c
 the_else q a c e = rw e refl
 
@@ -85,7 +85,7 @@ still_none (Entered e) s = absurd s
 pub still_some : (w : What) (v : ℤ) → IsStill w (Some v) → w ≡ Open → ⊥
 still_some w v s e = let z : IsStill Open (Some v) = subst (λ a. IsStill a (Some v)) e s in let q : Some v ≡ None = z in cc
 
--- the row that was marked
+-- where d was drawn on a held row it is the last draw of its variable, and the row stands for the draws below it
 pub held_open : (setting : Setting) (w : World) (hold : ℕ → ℕ) (drew : Option Draw) (k y : ℕ) (d : Draw) (z : Slot) (row : Row) → k ≡ suc y
     → z ≡ slot.Row row → drew ≡ Some d → StandsHeld setting w hold drew k z → (ds : List Draw) × (w.draws y ≡ d ∷ ds)
     × RowStands setting w.log y ds row
@@ -100,22 +100,27 @@ module _ (key : Key) (w : World) (b : Board) (id : ℕ) (v : View) (s : Shelf) (
   abbrev ys : List ℕ
   ys = variables_of tx
 
+  -- its one list has its thread's events, in a form that it may have so far
   fits : ShelfFits w.log w.seat id s
   fits = only_shelf (ShelfFits w.log w.seat id) v s one mine.positions.shelves
 
+  -- each draw of its thread has its entry in the list, or waits for it
   draws : ShelfDraws w.draws v.drawn s
   draws = only_shelf (ShelfDraws w.draws v.drawn) v s one mine.numbers.shelves
 
+  -- on each of the commit's variables the mark for its end is the last draw, and the held row stands for the draws below it
   open_row : (y : ℕ) (c : is_in y ys ≡ true) → (ds : List Draw) × (w.draws y ≡ draw s.thread p Open ∷ ds)
       × RowStands key.setting w.log y ds (may.rows y c).row
   open_row y c = let r = may.rows y c in held_open key.setting w b.hold r.one.drew r.one.object y (draw s.thread p Open) r.one.taken r.row
       r.object r.taken r.drew (All-contains (HeldStands key.setting w b.hold) v.held r.one mine.values.held r.held)
 
+  -- the tail m is at most what the pass has seen, and the Infos of each of these rows stand within it
   tail_of_row : (y : ℕ) (c : is_in y ys ≡ true) → (m ≤ v.seen) × IsWithin (may.rows y c).row m
   tail_of_row y c = let r = may.rows y c in let t =
       row_tail (length w.log) b.hold v.seen r.one.object y m r.one.taken r.row r.object r.taken
       (All-contains (TailsFit (length w.log) b.hold v.seen) v.held r.one mine.knowledge.tails r.held m (may.saw y c)) in (t.0, t.1)
 
+  -- where the mark is the last draw on a variable, its number is one of the transaction's
   number_of : (y : ℕ) (ds : List Draw) → w.draws y ≡ draw s.thread p Open ∷ ds → Contains tx.numbers (record { var = y; nth = length ds })
   number_of y ds is =
       let at : DrawAt (w.draws y) (length ds) (draw s.thread p Open) =
@@ -127,6 +132,7 @@ module _ (key : Key) (w : World) (b : Board) (id : ℕ) (v : View) (s : Shelf) (
       by (in_flight look c st) = (may.owns y (length ds)).0
           (subst (λ o. Contains v.drawn (record { var = y; nth = length ds; look = o })) st c)
 
+  -- each number of the transaction is on one of its variables
   named_in : (y k : ℕ) → Contains tx.numbers (record { var = y; nth = k }) → is_in y ys ≡ true
   named_in y k c = contains-is_in y ys (subst (λ l. Contains l y) may.names.variables
       (map_contains (λ n. n.var) tx.numbers (record { var = y; nth = k }) c))
@@ -159,19 +165,23 @@ module _ (key : Key) (w : World) (b : Board) (id : ℕ) (v : View) (s : Shelf) (
   abbrev after : ℕ → List Draw
   after = resolved w.draws (variables_of tx) (draw s.thread (length w.log) (Entered (Commit (length w.log) tx)))
 
+  -- on the commit's variables the commit stands afterwards in the place of the mark
   after_in : (y : ℕ) → is_in y ys ≡ true → (ds : List Draw) → w.draws y ≡ draw s.thread p Open ∷ ds → after y ≡ d ∷ ds
   after_in y c ds is = rw (c, is) refl
 
+  -- on any other variable the draws stay
   after_out : (y : ℕ) → is_in y ys ≡ false → after y ≡ w.draws y
   after_out y c = rw c refl
 
-  -- what stands last on each of the commit's variables
+  -- on each of the commit's variables the mark for its end is the last draw
   heads : (y : ℕ) → is_in y ys ≡ true → (ds : List Draw) × (w.draws y ≡ draw s.thread p Open ∷ ds)
   heads y c = let r = open_row y c in (r.0, r.1)
 
+  -- each thread has as many draws on each variable as before
   same_count : (u y : ℕ) → count_by u (after y) ≡ count_by u (w.draws y)
   same_count u y = count_resolved w.draws s.thread p ys d refl heads u y
 
+  -- on each variable there are as many draws as before
   same_length : (y : ℕ) → length (after y) ≡ length (w.draws y)
   same_length y = length_resolved w.draws s.thread p ys d refl heads y
 
@@ -196,6 +206,7 @@ module _ (key : Key) (w : World) (b : Board) (id : ℕ) (v : View) (s : Shelf) (
                 | inr old ↦ k.threads y f (subst (λ l. Among l f) (sym r.1) (inr old))
               ]
 
+  -- a list that the machine allows, with the thread's events and those that the pass knows, where the draws and the held rows are right
   record Seen (log : List Stamp) : Type 0 where
     now : State
     allowed : Allows key.setting log now

@@ -50,7 +50,7 @@ module _ (draws : ℕ → List Draw) (x : ℕ) (d : Draw) where
   pub count_elsewhere : (t y : ℕ) → y ≢ x → count_by t (next y) ≡ count_by t (draws y)
   count_elsewhere t y ne = ap (count_by t) (next_else y ne)
 
-  -- the numbers
+  -- where the counter of x alone goes up, by one, the counters count the draws with the new one
   pub numbers_hold : (count count' : ℕ → ℕ) → count' (suc x) ≡ suc (count (suc x)) → ((y : ℕ) → y ≢ x → count' (suc y) ≡ count (suc y))
       → d.thread < THREADS → ((y : ℕ) → count_by d.thread (draws y) < 2 ^ 51 + 2) → NumbersHold count draws → NumbersHold count' next
   numbers_hold count count' here else' named short p = record {
@@ -86,7 +86,7 @@ module _ (draws : ℕ → List Draw) (x : ℕ) (d : Draw) where
     runs = k.runs;
   }
 
-  -- what is said of the draws
+  -- what is said of the draws is right with the new one, where it is so of those of x
   pub verdicts_next : (log : List Stamp) → DrawsHold log x (d ∷ draws x) → ((y : ℕ) → DrawsHold log y (draws y)) → (y : ℕ)
       → DrawsHold log y (next y)
   verdicts_next log new all y = elim (ℕ_discrete y x) [
@@ -94,7 +94,7 @@ module _ (draws : ℕ → List Draw) (x : ℕ) (d : Draw) where
     | no ne ↦ subst (λ l. DrawsHold log y l) (sym (next_else y ne)) (all y)
   ]
 
--- one's own numbers at a plain access
+-- with a plain access drawn and in its list, each draw of its thread has its entry there
 pub numbers_plain : (draws : ℕ → List Draw) (drawn : List Drawn) (s : Shelf) (x p : ℕ) (write raised : Bool) (value : ℤ) → drawn ≡ []
     → last_position s.marked ≡ Some p → ShelfDraws draws drawn s
     → ShelfDraws (with_at draws x (draw s.thread p (Entered (Plain x (length (draws x)) false write value raised)) ∷ draws x)) drawn
@@ -159,10 +159,12 @@ module _ (draws : ℕ → List Draw) (drawn : List Drawn) (s : Shelf) (x p : ℕ
   abbrev o : Drawn
   o = record { var = x; nth = length (draws x); look = look }
 
+  -- what a draw is for is still there once one number more waits
   kept_more : (y n : ℕ) (f : Draw) → IsKept s.marked drawn y n f → IsKept s.marked (drawn ++ o ∷ []) y n f
   kept_more y n f (in_list i e a b c g) = in_list i e a b c g
   kept_more y n f (in_flight l c st) = in_flight l (in_more drawn o (record { var = y; nth = n; look = l }) c) st
 
+  -- with the new draw, and its number among those that wait, the thread's draws are tied to its list
   drawn_open : AreDrawn (with_at draws x (d ∷ draws x)) s.thread s.marked (drawn ++ o ∷ [])
   drawn_open = record {
     kept = λ y n f a own. elim (draw_cases draws x d y n f a) [

@@ -131,7 +131,7 @@ none_of : {A : Type 0} → (l : List A) → ((o : A) → Contains l o → ⊥) �
 none_of [] none = refl
 none_of (o ∷ os) none = absurd (none o (zero, omega arith, refl))
 
--- two passes are done when both are
+-- what is done by the first view's quiet is done by both
 pub done_left : (es : List Entry) (q r : Bool) → IsDone es q → IsDone es (q || r)
 done_left es q r (inl e) = inl e
 done_left es true r (inr e) = inr (e.0, refl)
@@ -143,22 +143,27 @@ done_right es q r (inl e) = inl e
 done_right es true r (inr e) = inr (e.0, refl)
 done_right es false r (inr e) = inr e
 
--- a pass whose lists are done has drawn, owes and has stored nothing
+-- where all lists of a pass are done, no number of it waits, it owes nothing, and it has stored no word in the cell of the tail
 module _ (key : Key) (w : World) (st : table.State Slot View) (id : ℕ) (v : View) (H : Holds key w st) (here : get_elem? st.views id
     ≡ some v) (idle : v.held ≡ []) (all_done : (s : Shelf) → Contains v.shelves s → IsDone s.marked v.quiet) (s : Shelf)
     (has : Contains v.shelves s) where
+  -- the pass's view fits
   mine : Fits key (board (capacity key) st.words) w id v
   mine = H.views.at id v here
 
+  -- the list has its thread's events, in a form that it may have so far
   fits : ShelfFits w.log w.seat id s
   fits = All-contains (ShelfFits w.log w.seat id) v.shelves s mine.positions.shelves has
 
+  -- each draw of its thread has its entry in the list, or waits for it
   draws : ShelfDraws w.draws v.drawn s
   draws = All-contains (ShelfDraws w.draws v.drawn) v.shelves s mine.numbers.shelves has
 
+  -- the list is done: it ends with Over, or it is empty and no thread is live
   done : IsDone s.marked v.quiet
   done = all_done s has
 
+  -- an empty list has no last event
   no_block : (p : ℕ) → s.marked ≡ [] → last_position s.marked ≡ Some p → ⊥
   no_block p e at = let z : None ≡ Some p = sym (ap last_position e) ∙ at in cc
 
@@ -294,10 +299,11 @@ ended_three = refl
 module _ (key : Key) (w : World) (st : table.State Slot View) (id : ℕ) (v : View) (H : Holds key w st) (here : get_elem? st.views id
     ≡ some v) (idle : v.held ≡ []) (all : (t : ℕ) → t < THREADS → (s : Shelf) × Contains v.shelves s × (s.thread ≡ t))
     (done : (s : Shelf) → Contains v.shelves s → IsDone s.marked v.quiet) where
+  -- the seat's view fits
   its : Fits key (board (capacity key) st.words) w id v
   its = H.views.at id v here
 
-  -- so of the seat that has all lists
+  -- no number waits for its entry
   pub none : v.drawn ≡ []
   none = let s = all 0 (omega arith) in drew_all key w st id v H here idle done s.0 s.1
 
@@ -305,6 +311,7 @@ module _ (key : Key) (w : World) (st : table.State Slot View) (id : ℕ) (v : Vi
   pub paid : v.owed ≡ []
   paid = paid_all key w st id v H here idle done
 
+  -- each of the seat's lists has its thread's events, in a form that it may have so far
   fits_of : (s : Shelf) → Contains v.shelves s → ShelfFits w.log w.seat id s
   fits_of s c = All-contains (ShelfFits w.log w.seat id) v.shelves s its.positions.shelves c
 
@@ -316,6 +323,7 @@ module _ (key : Key) (w : World) (st : table.State Slot View) (id : ℕ) (v : Vi
     steps = λ p x at. (w.values p, H.whole.machine.steps p x at);
   }
 
+  -- in no state of the run was a thread beyond the last ever forked
   never : (t p : ℕ) → THREADS ≤ t → p ≤ length w.log → (w.states p).threads t ≡ NeverForked
   never t zero far le = ap (λ (z : State). z.threads t) H.whole.machine.first
       ∙ with_else (λ _. NeverForked) 0 t (Forked key.setting.main (pos 0)) (λ z. omega arith)

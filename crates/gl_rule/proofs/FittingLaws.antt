@@ -67,7 +67,7 @@ infos_front setting l more x ds row s w = record {
       in (access_of d.0, info_front setting l more i (access_of d.0) false (w.reads t i e) d.2);
 }
 
--- what a tail that was seen since the row was taken says of its Infos
+-- a row whose Infos stand within n has them within m, where n is at most m
 pub within_seen : (row : Row) (n m : ℕ) → n ≤ m → IsWithin row n → IsWithin row m
 within_seen row n m le w = record {
   last_write = λ i e. let a = w.last_write i e in omega arith;
@@ -82,6 +82,7 @@ module _ (setting : Setting) (seat : ℕ → ℕ) (j : ℕ) (s : Shelf) (v : Vie
     stands : RowStands setting log x ds taken
     tails : (n : ℕ) → Contains h.tails n → (n ≤ v.seen) × IsWithin taken n
 
+  -- where the first events of a list are as many as the pass has seen, the row that is put back stands over the whole list
   put_at : (l more : List Stamp) → length l ≡ v.seen → Put (l ++ more) → RowStands setting (l ++ more) x (with_draw h.drew ds) row
   put_at l more long p =
       let fits = front_fits setting seat j s v hold l more long p.facts in

@@ -27,7 +27,7 @@ use Rattle.gl_rule.proofs.Each.{each_set, at_within}
 use Rattle.gl_rule.proofs.Words.{SameHolds, SameCells, set_same}
 use Rattle.gl_rule.proofs.HeldLists.{all_map, both_map}
 
--- where the list of events stays
+-- what is said of the machine holds still where the events, their values and the states stay
 pub machine_same : (setting : Setting) (w w' : World) → w'.log ≡ w.log → w'.now ≡ w.now → w'.values ≡ w.values → w'.states ≡ w.states
     → MachineHolds setting w → MachineHolds setting w'
 machine_same setting w w' a b c d m = record {
@@ -40,7 +40,7 @@ machine_same setting w w' a b c d m = record {
       (subst (λ f. Rattle.gl_model.specs.Machine.Step setting (w.states p) x (f p) (w.states (suc p))) (sym c) s);
 }
 
--- the turns of the whole table, when the view of one seat changes
+-- the turns of the whole table hold when one seat's view changes, where each busy turn is held by that seat, or by whom it was
 pub turns_step : (turn turn' holder holder' : ℕ → ℕ) (id : ℕ) (views : List View) (v u : View) → get_elem? views id ≡ some v
     → ((k : ℕ) → k < objects → turn' k ≤ THREADS)
     → ((k : ℕ) → k < objects → turn' k ≢ 0 → ((holder' k ≡ id) × HasObject u k)
@@ -71,7 +71,7 @@ turns_kept turn turn' holder id views v u here same keeps p =
     turns_step turn turn' holder holder id views v u here (λ k near. subst (λ n. n ≤ THREADS) (sym (same k near)) (p.named k near))
     (λ k near nz. inr (refl, (λ z. nz (same k near ∙ z)), keeps k)) p
 
--- the values, where the holds and what the world says of them are the same
+-- an object's value at home stands by its own hold alone
 pub stands_at : (setting : Setting) (w : World) (hold hold' : ℕ → ℕ) (k : ℕ) (y : Slot) → hold' k ≡ hold k → Stands setting w hold k y
     → Stands setting w hold' k y
 stands_at setting w hold hold' zero (slot.List l) e s = s
@@ -99,7 +99,7 @@ tail_at long seen hold hold' (suc x) n (slot.Row row) e s = (s.0, s.1, subst (λ
 tail_at long seen hold hold' (suc x) n slot.Empty e s = absurd s
 tail_at long seen hold hold' (suc x) n (slot.List l) e s = absurd s
 
--- holds rise only
+-- a hold that was read fits still, since holds rise only
 pub read_at : (hold hold' : ℕ → ℕ) → ((k : ℕ) → k < objects → hold k ≤ hold' k) → (r : Read) → ReadFits hold r → ReadFits hold' r
 read_at hold hold' up (Hold k n) f = let a = up k f.0 in let b = f.1 in (f.0, omega arith)
 read_at hold hold' up (Busy k by) f = tt
@@ -107,7 +107,7 @@ read_at hold hold' up (Taken k y) f = tt
 read_at hold hold' up (Stop n) f = tt
 read_at hold hold' up SetStop f = tt
 
--- a home object's value while it is held
+-- a value that stands at home stands as a held one on which nothing was drawn
 pub stands_held : (setting : Setting) (w : World) (hold : ℕ → ℕ) (k : ℕ) (y : Slot) → Stands setting w hold k y
     → StandsHeld setting w hold None k y
 stands_held setting w hold zero (slot.List l) s = s
@@ -197,7 +197,7 @@ turns_same turn turn' holder j v same f =
           (λ h a. record { named = a.named; here = a.here; shelf = a.shelf; one = a.one; busy = same h.object a.named ∙ a.busy }) f.held;
     }
 
--- one seat's view changes, and no word
+-- the rule holds where one seat's view becomes one that fits and holds no less, and no word changes
 pub reviews : (key : Key) (w : World) (s : table.State Slot View) (id : ℕ) (v u : View) → get_elem? s.views id ≡ some v
     → ((k : ℕ) → HasObject v k → HasObject u k) → Holds key w s → Fits key (board (capacity key) s.words) w id u
     → Holds key w (record { words = s.words; homes = s.homes; views = set s.views id u })
@@ -219,7 +219,7 @@ reviews key w s id v u here keeps H f =
       views = each_set id u H.views (λ j o apart g. g) f;
     }
 
--- a load
+-- where the rule holds with the new view, it holds with a word set to what it was
 pub loads_word : (key : Key) (s : table.State Slot View) (id i : ℕ) (u : View)
     → Rule key (record { words = s.words; homes = s.homes; views = set s.views id u })
     → Rule key (record {
@@ -230,7 +230,7 @@ pub loads_word : (key : Key) (s : table.State Slot View) (id i : ℕ) (u : View)
 loads_word key s id i u r = subst (λ ws. Rule key (record { words = ws; homes = s.homes; views = set s.views id u }))
     (sym (set_same s.words i)) r
 
--- something more was read
+-- a view that fits, fits with one thing more read, where that fits
 pub fits_saw : (key : Key) (b : Board) (w : World) (j : ℕ) (v : View) (r : Read) → ReadFits b.hold r
     → TriesFit w.stopped w.takers v.shelves (v.reads ++ r ∷ []) → Fits key b w j v → Fits key b w j (saw v r)
 fits_saw key b w j v r fit tries f = record {

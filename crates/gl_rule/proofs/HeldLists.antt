@@ -30,7 +30,7 @@ module _ {X : Type 0} where
   in_mapped f (x ∷ xs) y (zero, l, e) = (zero, omega arith, ap f e)
   in_mapped f (x ∷ xs) y (suc k, l, e) = in_cons (f x) (map f xs) (f y) (in_mapped f xs y (k, omega arith, e))
 
--- what holds of each of the others, where it is known that they are others
+-- where a fact of each held object but x gives another of it, the one of all gives the other of those without x
 pub all_without : (P Q : Held → Type 0) (x : ℕ) (held : List Held) → ((h : Held) → h.object ≢ x → P h → Q h) → All P held
     → All Q (without x held)
 all_without P Q x [] f all = All-nil Q
@@ -52,7 +52,7 @@ in_without x (g ∷ gs) h other (suc k, l, e) = here (ℕ_discrete g.object x) (
     here (yes e) r = let b : (g.object == x) ≡ true = eq-eqb g.object x e in rw b r
     here (no ne) r = let b : (g.object == x) ≡ false = ne_eqb g.object x ne in rw b (in_cons g (without x gs) h r)
 
--- what is held after the held object h was changed to g
+-- what was held is held after the held object h was changed to g
 pub has_after : (k : ℕ) (v : View) (h g : Held) → g.object ≡ h.object → HasObject v k → (f : Held)
     × Contains (g ∷ without h.object v.held) f × (f.object ≡ k)
 has_after k v h g same has = elim (ℕ_discrete has.0.object h.object) [
@@ -60,7 +60,7 @@ has_after k v h g same has = elim (ℕ_discrete has.0.object h.object) [
   | no ne ↦ (has.0, in_cons g (without h.object v.held) has.0 (in_without h.object v.held has.0 ne has.1), has.2)
 ]
 
--- the shelf of a view that has one
+-- what holds of all shelves of a view that has one holds of that one
 pub only_shelf : (P : Shelf → Type 0) (v : View) (s : Shelf) → v.shelves ≡ s ∷ [] → All P v.shelves → P s
 only_shelf P v s one all = All-head P s [] (subst (λ l. All P l) one all)
 

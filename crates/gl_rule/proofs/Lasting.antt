@@ -9,7 +9,7 @@ use Rattle.gl_rule.specs.Adding.{MayEnd}
 use Rattle.gl_rule.specs.View.{shelf}
 use Rattle.gl_rule.specs.Lives.{Life, Unbegun, Running, Ended, Closed, life_act, life_entry, life_after, life_from, life_of}
 
--- an end stays
+-- a closed list does not run after further entries
 closed_stays : (es : List Entry) → life_from Closed es ≡ Running → ⊥
 closed_stays [] e = absurd (cc)
 closed_stays (x ∷ es) e = closed_stays es e
@@ -100,7 +100,7 @@ has_block (Abort a b ∷ es) run = let r = has_block es run in (r.0, ap (λ o. o
 has_block (Trim a ∷ es) run = let r = has_block es run in (r.0, ap (λ o. or_else o None) r.1)
 has_block (Over a ∷ es) run = absurd (closed_stays es run)
 
--- an entry that is no Trim
+-- and an entry that is no Trim
 pub has_begun : (es : List Entry) → life_of es ≡ Running → (i : ℕ) × ((e : Entry) × At es i e × (IsTrim e → ⊥))
 has_begun [] run = absurd (cc)
 has_begun (Sync a b c ∷ es) run = (0, (Sync a b c, refl, λ t. t))

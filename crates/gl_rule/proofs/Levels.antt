@@ -135,7 +135,7 @@ is_free : (t n : ℕ) → IsLevel t Free n → n ≡ 0
 is_free t zero l = refl
 is_free t (suc n) l = absurd (let k : Free ≡ Owned t (suc n) = (l (suc n)).1 (refl, omega arith) in cc)
 
--- where t owns it neither before nor after
+-- where t owns a monitor neither before nor after, its level in it stays
 level_apart : (t : ℕ) (m k : MonitorState) (n : ℕ) → ((d : ℕ) → m ≡ Owned t d → ⊥) → ((d : ℕ) → k ≡ Owned t d → ⊥) → IsLevel t m n
     → IsLevel t k n
 level_apart t m k n before after l d = (λ e. absurd (after d e), λ w. absurd (before d ((l d).1 w)))
@@ -195,7 +195,7 @@ monitor_step setting old new u (Does Input) value k = keeps (λ o n. refl) (ap (
 monitor_step setting old new u (Does (Fail c)) value k = keeps (λ o n. refl) (ap (λ (s : State). s.monitors) k.1)
 monitor_step setting old new u (Commits xs) value k = keeps (λ o n. refl) (ap (λ (s : State). s.monitors) k)
 
--- one monitor changes
+-- where one monitor changes, the level in it is the new one, and in any other it stays
 one_changed : (t o n k : ℕ) (f g : ℕ → MonitorState) (p : ℕ) (m : MonitorState) → g ≡ with_at f p m → (o ≡ p → IsLevel t m k)
     → (o ≢ p → n ≡ k) → IsLevel t (f o) n → IsLevel t (g o) k
 one_changed t o n k f g p m is here others l = elim (ℕ_discrete o p) [
@@ -204,7 +204,7 @@ one_changed t o n k f g p m is here others l = elim (ℕ_discrete o p) [
       (subst (IsLevel t (f o)) (others ne) l)
 ]
 
--- an event of the thread
+-- an event of the thread changes its levels as the event says
 own_step : (t o n : ℕ) (e : Event) (f g : ℕ → MonitorState) → MonitorStep t e f g → IsLevel t (f o) n → IsLevel t (g o) (level_event o n e)
 own_step t o n e f g (enters p m is entered new) l =
     subst (λ x. IsLevel t (g o) (level_event o n x)) (sym is)
@@ -221,7 +221,7 @@ own_step t o n e f g (leaves p j is owned new) l =
 own_step t o n e f g (keeps none same) l =
     subst (IsLevel t (g o)) (sym (none o n)) (subst (λ (h : ℕ → MonitorState). IsLevel t (h o) n) (sym same) l)
 
--- an event of another thread
+-- an event of another thread leaves the thread's levels
 other_step : (t u o n : ℕ) → u ≢ t → (e : Event) (f g : ℕ → MonitorState) → MonitorStep u e f g → IsLevel t (f o) n → IsLevel t (g o) n
 other_step t u o n other e f g (enters p m is entered new) l =
     let w = entered_apart t u other (f p) m entered in
@@ -304,6 +304,7 @@ same_place e p q a b = cc
 -- the last event is the entry e of thread t: what stands before it are its events before, and behind it stands none
 module _ (l : List Stamp) (x : Stamp) (t : ℕ) (a : List Entry) (e : Entry) (b : List Entry) (k : AreEvents (l ++ x ∷ []) t (a ++ e ∷ b))
     (place : position_of e ≡ Some (length l)) where
+  -- no entry of the thread's list has a position behind that last event
   within : (i p : ℕ) (f : Entry) → At (a ++ e ∷ b) i f → position_of f ≡ Some p → p ≤ length l
   within i p f at pos =
       let v = event_there f p pos in
@@ -312,6 +313,7 @@ module _ (l : List Stamp) (x : Stamp) (t : ℕ) (a : List Entry) (e : Entry) (b 
         | inr new ↦ (let n = new.0 in omega arith)
       ]
 
+  -- the entries before e are the thread's events in the list without that last event
   events_before : AreEvents l t a
   events_before = record {
     listed = λ i p f ev at pos is.
@@ -336,6 +338,7 @@ module _ (l : List Stamp) (x : Stamp) (t : ℕ) (a : List Entry) (e : Entry) (b 
     rise = λ i j p q f g at bt lt pos qos. k.rise i j p q f g (at_kept a (e ∷ b) i f at) (at_kept a (e ∷ b) j g bt) lt pos qos;
   }
 
+  -- no entry behind e has a position
   none_behind : (j : ℕ) (f : Entry) → At b j f → position_of f ≡ None
   none_behind j f at = by (position_of f) refl
     where
@@ -495,7 +498,7 @@ of_level o es near =
     let n = length-replicate {A = ℕ} MONITORS 0 in
     from_level (replicate MONITORS 0) o es (omega arith) ∙ ap (λ k. level_from o k es) (get_or-replicate {A = ℕ} MONITORS o 0 0 near)
 
--- ---- the laws
+-- ---- what the levels of a list tell of the machine
 
 -- the levels of a thread's list are how often the machine has it in each monitor
 pub levels_tell : LevelsTell
@@ -580,7 +583,7 @@ questions_tell setting h now t es allowed k life q by held =
       held = subst (λ u. AreLeastOwned now u q.held) (sym by) held;
     }
 
--- an entry more
+-- the levels after two lists are those after the second, from the levels after the first
 levels_append : (levels : List ℕ) (xs ys : List Entry) → levels_from levels (xs ++ ys) ≡ levels_from (levels_from levels xs) ys
 levels_append levels [] ys = refl
 levels_append levels (x ∷ xs) ys = levels_append (levels_entry levels x) xs ys
@@ -595,7 +598,7 @@ pub levels_none : levels_of [] ≡ replicate MONITORS 0
 unfolding levels_of
 levels_none = refl
 
--- a thread is in a monitor at most so often as it has entries
+-- an act raises a level by at most one
 act_few : (levels : List ℕ) (o n : ℕ) (act : Act) → slice_index levels o ≤ n → slice_index (levels_act levels act) o ≤ suc n
 act_few levels o n act few = elim (cases_lt o (length levels)) [
   | inl near ↦ (let e = act_level levels o act near in let u = up o (slice_index levels o) act in omega arith)

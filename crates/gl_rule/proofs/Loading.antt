@@ -40,7 +40,7 @@ use Rattle.gl_rule.proofs.Tries.{tries_saw}
 pub below_more : (n m : ℕ) (s : Shelf) → n ≤ m → AreBelow n s → AreBelow m s
 below_more n m s le b i p e a q = let r = b i p e a q in omega arith
 
--- the held object's tails, when the tail m is seen
+-- the tail, as it is now, fits a held object
 tail_new : (setting : Setting) (w : World) (hold : ℕ → ℕ) (k : ℕ) (y : Slot) (drew : _) (m : ℕ) → m ≡ length w.log → k < objects
     → ((x : ℕ) → x < VARIABLES → hold (suc x) ≤ m) → StandsHeld setting w hold drew k y → TailFits (length w.log) hold m k y m
 tail_new setting w hold zero y drew m is near up st = is
@@ -202,7 +202,7 @@ above_in : (setting : Setting) (w : World) (hold : ℕ → ℕ) (drew : _) (k x 
 above_in setting w hold drew k x y e st row is = let s : StandsHeld setting w hold drew (suc x) (slot.Row row) =
     subst (λ z. StandsHeld setting w hold drew (suc x) z) is (subst (λ z. StandsHeld setting w hold drew z y) e st) in s.1
 
--- the position is in the ring
+-- a position that the pass may walk from is not below the first kept segment
 walked : (key : Key) (w : World) (s : table.State Slot View) (id p : ℕ) (v : View) → Holds key w s → get_elem? s.views id ≡ some v
     → MayWalk v p → (board (capacity key) s.words).hold 0 * key.cells ≤ p
 walked key w s id p v H here may =
@@ -257,7 +257,7 @@ fits_cell key b w j v q fit f = record {
   owed = f.owed;
 }
 
--- what is known to stand at p
+-- a view that fits, fits when it knows the event at p
 pub fits_knows : (key : Key) (b : Board) (w : World) (j p : ℕ) (v : View) (x : Stamp) → slice_get w.log p ≡ Some x → Fits key b w j v
     → Fits key b w j (knows v p x)
 fits_knows key b w j p v x is f = record {
@@ -326,7 +326,7 @@ all_at [] p x all e = absurd (cc)
 all_at (y ∷ xs) zero x all e = let same : y ≡ x = cc in subst IsStampInRange same (All-head IsStampInRange y xs all)
 all_at (y ∷ xs) (suc p) x all e = all_at xs p x (All-tail IsStampInRange y xs all) e
 
--- loading an event's last word tells the event
+-- the code of a refusal that the machine allows is below 256
 refused_small : (setting : Setting) (s : State) (t code : ℕ) (value : _) → Refuses setting s t code value → code < 256
 refused_small setting s t code value (not_owner is o a b c) = omega arith
 refused_small setting s t code value (heap_full is c a f b d) = omega arith
@@ -341,7 +341,7 @@ small_code setting old new x value step code is =
     subst (λ z. Effect setting old x.thread z value new) is step.effect in
     refused_small setting old x.thread code value e.0
 
--- a pass may load the words of an event that it has seen and may walk to
+-- loading the last word of an event that the pass has seen and may walk to tells the event
 pub loads_event : (key : Key) (slots id p : ℕ) (v : View) (c : List (ℕ × Slot)) → p < v.seen → MayWalk v p
     → table.Allows (Rule key) slots id (v, c) (cell_at (capacity key) p 4) (λ n. n) (SawEvent (capacity key) p v c)
 loads_event key slots id p v c below may s rule long here fits =

@@ -60,7 +60,7 @@ no_draw : (to x k : ℕ) → Draws (Trim to) x k → ⊥
 no_draw to x k (inl d) = d
 no_draw to x k (inr d) = d
 
--- where it rose
+-- where the first kept segment rose, the Trim is as it has to be in the list of the pass and among the Trims
 rose : (key : Key) (w : World) (id n to : ℕ) (v : View) (s : Shelf) → n < to → MayTrim key s v to → ShelfRefusals w.until s
     → ShelfCarries w.values s → OwedFits w.draws v.owed (s ∷ []) → ShelfFits w.log w.seat id s → ShelfDraws w.draws v.drawn s
     → AreBelow v.seen s → ShelfTrims w.trims s → LowHolds n w.trims

@@ -63,7 +63,7 @@ use Rattle.gl_rule.proofs.RingFrames.{ring_same}
 use Rattle.gl_rule.proofs.Drawing.{next_here, next_else, numbers_hold, numbers_other, verdicts_next, numbers_plain, numbers_open}
 use Rattle.gl_rule.proofs.Tries.{tries_moved, tries_same}
 
--- another object when a number was drawn on x
+-- a held object but the row of x stands as before when a number is drawn on x
 held_next : (setting : Setting) (w : World) (x : ℕ) (ds : List Draw) (hold hold' : ℕ → ℕ) (drew : Option Draw) (k : ℕ) (y : Slot)
     → k ≢ suc x → hold' k ≡ hold k → StandsHeld setting w hold drew k y
     → StandsHeld setting (record w { draws = with_at w.draws x ds }) hold' drew k y
@@ -408,7 +408,7 @@ draws_number key slots id v c s h x taken p what s' drawn' one may shows st rule
       (small, ap tells (sym count), above),
     )
 
--- where a draw of the thread stands
+-- a draw that a running thread makes in its last block has its place in the list of events
 pub placed_at : (log : List Stamp) (s : Shelf) (p : ℕ) (w : What) → Rattle.gl_draws.specs.Events.AreEvents log s.thread s.marked
     → last_position s.marked ≡ Some p → IsNotOver s.marked → ((e : Stamp) → BlockIs w e) → IsPlaced log (draw s.thread p w)
 placed_at log s p w events last goes_on is =
@@ -428,6 +428,8 @@ module _ (key : Key) (w : World) (b : Board) (id : ℕ) (v : View) (s : Shelf) (
     stands : RowStands key.setting log x ds taken
     verdicts : DrawsHold log x ds
 
+  -- where the first events of a list are as many as the pass has seen, what is said of the draws is right over the whole list with the
+  -- plain access as the last draw
   right_at : (ds : List Draw) → ((n : ℕ) → Contains h.tails n → (n ≤ v.seen) × IsWithin taken n) → (l more : List Stamp) → length l
       ≡ v.seen → Marks (l ++ more) ds → DrawsHold (l ++ more) x (draw s.thread p (Entered (Plain x (length ds) false write value raised))
       ∷ ds)
@@ -505,7 +507,7 @@ place_few : (look : Option ℤ) (x : ℕ) (drawn : List Drawn) → HasPlace look
 place_few (Some value) x drawn h = omega arith
 place_few None x drawn h = h
 
--- a look's number, or one for the end of an attempt
+-- so may a look, or the end of an attempt
 pub marks_open : (key : Key) (slots id : ℕ) (v : View) (c : List (ℕ × Slot)) (s : Shelf) (h : Held) (x : ℕ) (taken : Row) (p : ℕ)
     (look : Option ℤ) → v.shelves ≡ s ∷ [] → MayOpen s v h x taken p look
     → table.Allows (Rule key) slots id (v, c) (3 * h.object) (λ n. (n + 1) % 2 ^ 64) (Opened s h x p look v c)

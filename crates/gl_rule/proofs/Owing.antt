@@ -91,7 +91,7 @@ one_shelf_is s r (suc k, l, e) = absurd (omega arith)
 head_is : (a b : Shelf) → a ∷ [] ≡ b ∷ [] → a ≡ b
 head_is a b e = cc
 
--- one's own list and draws change
+-- what is owed fits still where the pass's own list and draws change, but not the owed last writes, nor what was repeated
 pub owed_moves : (draws draws' : ℕ → List Draw) (owed : List (ℕ × ℤ)) (shelves : List Shelf) (s s' : Shelf) → shelves ≡ s ∷ [] → s'.thread
     ≡ s.thread → ((x : ℕ) (value : ℤ) → Contains owed (x, value) → (last_write x (draws' x) ≡ last_write x (draws x))
     × (last_position s'.marked ≡ last_position s.marked))
@@ -153,7 +153,7 @@ owed_moves draws draws' owed shelves s s' is same owes calms keeps numbers f = r
       ]);
 }
 
--- the draws change by another thread
+-- what is owed fits still where another thread changes the draws
 pub owed_others : (draws draws' : ℕ → List Draw) (owed : List (ℕ × ℤ)) (shelves : List Shelf)
     → ((x : ℕ) → OwedOne draws shelves x → last_write x (draws' x) ≡ last_write x (draws x))
     → ((x : ℕ) → OwedOne draws shelves x → IsCalm x (draws x) → IsCalm x (draws' x))
@@ -188,7 +188,7 @@ owed_others draws draws' owed shelves owes calms numbers f = record {
       );
 }
 
--- nothing is owed, and nothing is drawn on
+-- where nothing is owed and there is no list, what is owed fits
 pub owed_none : (draws : ℕ → List Draw) → OwedFits draws [] []
 owed_none draws = record {
   calm = λ x v c. absurd (let l = c.1 in omega arith);
@@ -216,7 +216,7 @@ either_in (x ∷ xs) ys s (zero, l, e) = inl (zero, omega arith, e)
 either_in (x ∷ xs) ys s (suc k, l, e) = elim (either_in xs ys s (k, omega arith, e))
     [ inl c ↦ inl (suc c.0, (let q = c.1 in omega arith), c.2) | inr c ↦ inr c ]
 
--- what two seats owe, of which the second owes nothing
+-- where nothing is owed, this fits the lists of two seats together, if it fits those of each
 pub owed_both : (draws : ℕ → List Draw) (owed : List (ℕ × ℤ)) (xs ys : List Shelf) → owed ≡ [] → OwedFits draws owed xs
     → OwedFits draws [] ys → OwedFits draws owed (xs ++ ys)
 owed_both draws owed xs ys none f g = subst (λ o. OwedFits draws o (xs ++ ys)) (sym none)
@@ -228,7 +228,7 @@ owed_both draws owed xs ys none f g = subst (λ o. OwedFits draws o (xs ++ ys)) 
       tied = λ s c x k d at own. elim (either_in xs ys s c) [ inl a ↦ f'.tied s a x k d at own | inr a ↦ g.tied s a x k d at own ];
     })
 
--- one's own list has an entry more that is no cached write, and the draws stay
+-- what is owed fits still with one entry more in the own list that is no cached write, where the draws stay
 pub owed_push : (draws : ℕ → List Draw) (owed : List (ℕ × ℤ)) (shelves : List Shelf) (s : Shelf) (e : Entry) → shelves ≡ s ∷ []
     → ((o : ℕ × ℤ) → Contains owed o → last_position (s.marked ++ e ∷ []) ≡ last_position s.marked) → ((x k : ℕ) → repeat_value x k e ≡ [])
     → OwedFits draws owed shelves → OwedFits draws owed (shelf s.thread (s.marked ++ e ∷ []) ∷ [])

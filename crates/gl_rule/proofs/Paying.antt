@@ -53,9 +53,11 @@ module _ (key : Key) (w : World) (st : table.State Slot View) (id : ℕ) (v : Vi
   pub mine : Fits key b w id v
   mine = H.views.at id v here
 
+  -- its one list has its thread's events, in a form that it may have so far
   fits : ShelfFits w.log w.seat id s
   fits = only_shelf (ShelfFits w.log w.seat id) v s one mine.positions.shelves
 
+  -- each draw of its thread has its entry in the list, or waits for it
   draws : ShelfDraws w.draws v.drawn s
   draws = only_shelf (ShelfDraws w.draws v.drawn) v s one mine.numbers.shelves
 
@@ -63,6 +65,7 @@ module _ (key : Key) (w : World) (st : table.State Slot View) (id : ℕ) (v : Vi
   pub its : OwedOne w.draws v.shelves x
   its = mine.owed.owes x value may.owes
 
+  -- two lists of one shelf each that are equal have the same shelf
   head_is : (a c : Shelf) → a ∷ [] ≡ c ∷ [] → a ≡ c
   head_is a c e = cc
 
@@ -74,9 +77,11 @@ module _ (key : Key) (w : World) (st : table.State Slot View) (id : ℕ) (v : Vi
   pub has_shelf : Contains v.shelves s
   has_shelf = subst (λ l. Contains l s) (sym one) (zero, omega arith, refl)
 
+  -- draws that are equal as options are equal
   some_draw : (a c : Draw) → Some a ≡ Some c → a ≡ c
   some_draw a c e = cc
 
+  -- a number of the last write's draw is the one that its entry has
   number_once : (n : ℕ) → DrawAt (w.draws x) n its.draw → n ≡ its.number
   number_once n at = number_is w.draws s.thread s.marked v.drawn x its.number n its.value its.draw draws.numbers at own its.plain
 
@@ -94,12 +99,15 @@ module _ (key : Key) (w : World) (st : table.State Slot View) (id : ℕ) (v : Vi
   abbrev after : ℕ → List Draw
   after = with_at w.draws x (repeated x vs (w.draws x))
 
+  -- afterwards the draws of x have the owed repeats added to the last write
   after_here : after x ≡ repeated x vs (w.draws x)
   after_here = again_here x vs w.draws
 
+  -- the draws of any other variable stay
   after_else : (y : ℕ) → y ≢ x → after y ≡ w.draws y
   after_else y ne = again_else x vs w.draws y ne
 
+  -- behind the last write of x no access was performed
   calm : IsCalm x (w.draws x)
   calm = mine.owed.calm x value may.owes
 
@@ -128,6 +136,7 @@ module _ (key : Key) (w : World) (st : table.State Slot View) (id : ℕ) (v : Vi
     | no ne ↦ subst (λ l. DrawAt l k a) (after_else y ne) at
   ]
 
+  -- an object that is as it has to be at home is so afterwards, where it is not the row of x
   home_at : (k : ℕ) (y : Slot) → k ≢ suc x → Stands key.setting w b.hold k y → Stands key.setting w' b.hold k y
   home_at zero (slot.List l) ne q = q
   home_at (suc y) (slot.Row r) ne q = (subst (λ ds. RowStands key.setting w.log y ds r) (sym (after_else y (λ e. ne (ap suc e)))) q.0, q.1)
@@ -136,6 +145,7 @@ module _ (key : Key) (w : World) (st : table.State Slot View) (id : ℕ) (v : Vi
   home_at (suc y) slot.Empty ne q = absurd q
   home_at (suc y) (slot.List l) ne q = absurd q
 
+  -- and so is one that is as it has to be while it is held
   held_at : (drew : Option Draw) (k : ℕ) (y : Slot) → k ≢ suc x → StandsHeld key.setting w b.hold drew k y
       → StandsHeld key.setting w' b.hold drew k y
   held_at drew zero (slot.List l) ne q = q
@@ -153,6 +163,7 @@ module _ (key : Key) (w : World) (st : table.State Slot View) (id : ℕ) (v : Vi
   held_at drew (suc y) slot.Empty ne q = absurd q
   held_at drew (suc y) (slot.List l) ne q = absurd q
 
+  -- what the pass still owes fits the draws as they are afterwards
   owed_own : OwedFits after u.owed v.shelves
   owed_own = record {
     calm = calms;

@@ -123,7 +123,7 @@ no_trim (Over a) n e t = t
 pub no_abort : (e : Entry) (n : ℕ) → position_of e ≡ Some n → (tx : _) (a : _) → e ≡ Abort tx a → ⊥
 no_abort e n p tx a is = let q : position_of (Abort tx a) ≡ Some n = subst (λ z. position_of z ≡ Some n) is p in cc
 
--- the Trims of a list with an entry more that is none
+-- the Trims of a list stay those of its thread with an entry more that is none
 pub trims_push : (trims : List (ℕ × ℕ)) (t : ℕ) (es : List Entry) (e : Entry) → (IsTrim e → ⊥) → ShelfTrims trims (shelf t es)
     → ShelfTrims trims (shelf t (es ++ e ∷ []))
 trims_push trims t es e not k = record {
@@ -155,7 +155,7 @@ after_object n y drew h = elim (ℕ_discrete h.object 0) [
   | no e ↦ ap (λ (z : Held). z.object) (after_row n y drew h e)
 ]
 
--- what holds of each held object afterwards
+-- where a fact of each held object, the list or a row, gives another of it after publishing, the one of all gives the other of all
 mapped_publish : (P Q : Held → Type 0) (n : ℕ) (y : Slot) (drew : Held → Option Draw) (held : List Held)
     → ((h : Held) → Contains held h → h.object ≡ 0 → P h → Q (record h { taken = y; tails = suc n ∷ [] }))
     → ((h : Held) → Contains held h → h.object ≢ 0 → P h → Q (record h { tails = suc n ∷ h.tails; drew = drew h })) → All P held
@@ -231,7 +231,7 @@ pub record Change (key : Key) (b : Board) (w w' : World) (id : ℕ) (v : View) (
     pub refused : (x : ℕ) → RefusalsHold w'.log (w.until x) x (w'.draws x)
     pub behind : (g : Held) (x : ℕ) (ds : List Draw) → Contains v.held g → g.object ≡ suc x → w'.draws x ≡ with_draw (drew g) ds → w.draws x
         ≡ with_draw g.drew ds
-    -- only rows that are held are drawn on
+    -- a draw of the thread had the same number before, or it has no repeats, and the list has no cached write under its number
     pub repeats : (x k : ℕ) (d : Draw) → DrawAt (w'.draws x) k d → d.thread ≡ s.thread → DrawAt (w.draws x) k d
         ⊎ ((d.repeats ≡ []) × (repeats_of x k s.marked ≡ []))
     pub calm : (shelves : List Shelf) (x : ℕ) → OwedOne w.draws shelves x
@@ -241,13 +241,14 @@ pub record Change (key : Key) (b : Board) (w w' : World) (id : ℕ) (v : View) (
         → ((r : Shelf) → Contains shelves r → (s.thread ≢ r.thread) × AreEvents w.log r.thread r.marked) → IsCalm x (w.draws x)
         → IsCalm x (w'.draws x)
     pub foreign : (u x k : ℕ) (d : Draw) → u ≢ s.thread → d.thread ≡ u → DrawAt (w'.draws x) k d → DrawAt (w.draws x) k d
+    -- only rows that are held are drawn on
     pub elsewhere : (x : ℕ) → (w'.draws x ≡ w.draws x) ⊎ HasObject v (suc x)
     pub others : (r : Shelf) (drawn : _) → r.thread ≢ s.thread → ShelfDraws w.draws drawn r → ShelfDraws w'.draws drawn r
     pub own : ShelfDraws w'.draws [] (shelf s.thread (s.marked ++ e ∷ []))
     pub held : (g : Held) (x : ℕ) (row : Row) → Contains v.held g → g.object ≡ suc x → RowHeld key.setting w x g.drew row
         → RowHeld key.setting w' x (drew g) row
 
--- another pass's held row
+-- a held object that is not the list stands still when the log grows, if its draws and its hold are the same
 row_else : (setting : Setting) (w w' : World) (more : List Stamp) (hold hold' : ℕ → ℕ) (drew : Option Draw) (k : ℕ) (y : Slot) → w'.log
     ≡ w.log ++ more → k ≢ 0 → ((x : ℕ) → k ≡ suc x → w'.draws x ≡ w.draws x) → hold' k ≡ hold k
     → StandsHeld setting w hold drew k y → StandsHeld setting w' hold' drew k y
@@ -287,7 +288,7 @@ home_else setting w w' more hold hold' (suc x) (slot.Row row) is nz same e st = 
 home_else setting w w' more hold hold' (suc x) slot.Empty is nz same e st = absurd st
 home_else setting w w' more hold hold' (suc x) (slot.List l) is nz same e st = absurd st
 
--- a tail of a row when the list grows
+-- a tail that was seen while a row was held fits still when the log grows
 tail_else : (long long' seen : ℕ) (hold hold' : ℕ → ℕ) (k n : ℕ) (y : Slot) → k ≢ 0 → hold' k ≡ hold k → TailFits long hold seen k y n
     → TailFits long' hold' seen k y n
 tail_else long long' seen hold hold' zero n y nz e t = absurd (nz refl)

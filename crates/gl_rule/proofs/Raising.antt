@@ -68,7 +68,7 @@ trim_held setting w trims' hold drew zero (slot.Row r) s = absurd s
 trim_held setting w trims' hold drew (suc x) slot.Empty s = absurd s
 trim_held setting w trims' hold drew (suc x) (slot.List l) s = absurd s
 
--- a view where holds rose, but those of what it holds
+-- a view fits still where holds rose, but none of what it holds
 pub fits_holds : (key : Key) (b b' : Board) (w : World) (trims' : List (ℕ × ℕ)) (j : ℕ) (v : View) → SameTurns b b' → SameCells b b'
     → ((h : Held) → HeldOne b.turn w.holder j v.shelves h → h.object ≢ 0 → b'.hold h.object ≡ b.hold h.object)
     → ((k : ℕ) → k < objects → b.hold k ≤ b'.hold k)
@@ -120,7 +120,7 @@ trim_home setting w trims' hold zero (slot.Row r) s = absurd s
 trim_home setting w trims' hold (suc x) slot.Empty s = absurd s
 trim_home setting w trims' hold (suc x) (slot.List l) s = absurd s
 
--- what a held row on which nothing was drawn says
+-- a held row on which nothing was drawn stands for the draws of its variable, with no Info below its hold
 pub row_in : (setting : Setting) (w : World) (hold : ℕ → ℕ) (k x : ℕ) (y : Slot) (drew : Option Draw) (row : Row) → k ≡ suc x → y
     ≡ slot.Row row → drew ≡ None → StandsHeld setting w hold drew k y → RowStands setting w.log x (w.draws x) row
     × IsAbove row (hold (suc x))
@@ -130,7 +130,7 @@ row_in setting w hold k x y drew row e is none st =
     (subst (λ z. StandsHeld setting w hold drew (suc x) z) is (subst (λ z. StandsHeld setting w hold drew z y) e st)) in
     (subst (λ ds. RowStands setting w.log x ds row) (sym s.0.draws_are) s.0.stands, s.1)
 
--- and what makes it so
+-- and a row of which this is so stands as held
 pub in_row : (setting : Setting) (w : World) (hold : ℕ → ℕ) (k x : ℕ) (drew : Option Draw) (row : Row) → k ≡ suc x → drew ≡ None
     → RowStands setting w.log x (w.draws x) row × IsAbove row (hold (suc x)) → StandsHeld setting w hold drew k (slot.Row row)
 in_row setting w hold k x drew row e none st =
@@ -139,13 +139,13 @@ in_row setting w hold k x drew row e none st =
     subst (λ z. StandsHeld setting w hold z k (slot.Row row)) (sym none)
     (subst (λ z. StandsHeld setting w hold None z (slot.Row row)) (sym e) a)
 
--- what a tail says of a held row
+-- a tail that was seen while a row was held is at most what was seen, and not below the row's Infos and its hold
 pub row_tail : (long : ℕ) (hold : ℕ → ℕ) (seen k x n : ℕ) (y : Slot) (row : Row) → k ≡ suc x → y ≡ slot.Row row
     → TailFits long hold seen k y n → (n ≤ seen) × IsWithin row n × (hold (suc x) ≤ n)
 row_tail long hold seen k x n y row e is t = let a : TailFits long hold seen (suc x) (slot.Row row) n =
     subst (λ z. TailFits long hold seen (suc x) z n) is (subst (λ z. TailFits long hold seen z y n) e t) in a
 
--- and what makes it so
+-- and one of which this is so fits the row
 pub tail_row : (long : ℕ) (hold : ℕ → ℕ) (seen k x n : ℕ) (row : Row) → k ≡ suc x → (n ≤ seen) × IsWithin row n × (hold (suc x) ≤ n)
     → TailFits long hold seen k (slot.Row row) n
 tail_row long hold seen k x n row e t = subst (λ z. TailFits long hold seen z (slot.Row row) n) (sym e)
@@ -349,7 +349,7 @@ raises_hold key slots id v c s h x taken row to one may st rule long here fits =
     some_is : (a n : ℕ) → Some a ≡ Some n → a ≡ n
     some_is a n e = cc
 
--- the hold of a row that the pass holds
+-- so does loading the hold of a row that the pass holds
 pub loads_floor : (key : Key) (slots id : ℕ) (v : View) (c : List (ℕ × Slot)) (h : Held) → Contains v.held h → h.object ≢ 0
     → table.Allows (Rule key) slots id (v, c) (3 * h.object + 2) (λ n. n) (SawFloor h v c)
 loads_floor key slots id v c h has nz st rule long here fits =

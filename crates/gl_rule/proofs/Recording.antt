@@ -90,12 +90,15 @@ module _ (key : Key) (w : World) (st : table.State Slot View) (id : ℕ) (v : Vi
   abbrev e : Entry
   e = Abort tx why
 
+  -- the pass's view fits
   mine : Fits key b w id v
   mine = H.views.at id v here
 
+  -- its one list has its thread's events, in a form that it may have so far
   fits : ShelfFits w.log w.seat id s
   fits = only_shelf (ShelfFits w.log w.seat id) v s one mine.positions.shelves
 
+  -- each draw of its thread has its entry in the list, or waits for it
   draws : ShelfDraws w.draws v.drawn s
   draws = only_shelf (ShelfDraws w.draws v.drawn) v s one mine.numbers.shelves
 
@@ -118,6 +121,7 @@ module _ (key : Key) (w : World) (st : table.State Slot View) (id : ℕ) (v : Vi
       by (in_flight look c q) = (may.owns y (length ds)).0
           (subst (λ o. Contains v.drawn (record { var = y; nth = length ds; look = o })) q c)
 
+  -- each number of the attempt is on one of the variables that were marked for its end
   named_in : (y k : ℕ) → Contains tx.numbers (record { var = y; nth = k }) → is_in y zs ≡ true
   named_in y k c = contains-is_in y zs (subst (λ l. Contains l y) may.names.variables
       (map_contains (λ n. n.var) tx.numbers (record { var = y; nth = k }) c))
@@ -134,26 +138,32 @@ module _ (key : Key) (w : World) (st : table.State Slot View) (id : ℕ) (v : Vi
     abbrev after : ℕ → List Draw
     after = resolved w.draws zs (draw s.thread p w0)
 
+    -- on the marked variables the draw for w0 stands afterwards in the place of the mark
     after_in : (y : ℕ) → is_in y zs ≡ true → (ds : List Draw) → w.draws y ≡ draw s.thread p Open ∷ ds → after y ≡ d ∷ ds
     after_in y c ds is = rw (c, is) refl
 
+    -- on any other variable the draws stay
     after_out : (y : ℕ) → is_in y zs ≡ false → after y ≡ w.draws y
     after_out y c = rw c refl
 
-    -- what stands last on each of the attempt's variables
+    -- on each of the attempt's marked variables the mark is the last draw
     heads : (y : ℕ) → is_in y zs ≡ true → (ds : List Draw) × (w.draws y ≡ draw s.thread p Open ∷ ds)
     heads y c = let r = open_row y c in (r.0, r.1)
 
+    -- each thread has as many draws on each variable as before
     same_count : (u y : ℕ) → count_by u (after y) ≡ count_by u (w.draws y)
     same_count u y = count_resolved w.draws s.thread p zs d refl heads u y
 
+    -- on each variable there are as many draws as before
     same_length : (y : ℕ) → length (after y) ≡ length (w.draws y)
     same_length y = length_resolved w.draws s.thread p zs d refl heads y
 
+    -- each number that the attempt's entry draws is one that waits
     waits : (y k : ℕ) → Draws (Abort tx why) y k → (look : Option ℤ) × Contains v.drawn (record { var = y; nth = k; look = look })
     waits y k (inl l) = (Some l.0, (may.looks y k l.0).1 l.1)
     waits y k (inr n) = (None, (may.owns y k).1 n)
 
+    -- the number of a look that waits is no number of the attempt's end
     not_own : (y k : ℕ) (value : ℤ) → Contains v.drawn (record { var = y; nth = k; look = Some value })
         → Contains tx.numbers (record { var = y; nth = k }) → ⊥
     not_own y k value c n =
@@ -162,6 +172,7 @@ module _ (key : Key) (w : World) (st : table.State Slot View) (id : ℕ) (v : Vi
         let same : f.0 ≡ g.0 = one_draw (w.draws y) k f.0 g.0 f.1 g.1 in
         still_some g.0.what value g.3 (sym (ap (λ (z : Draw). z.what) same) ∙ still_none f.0.what f.3)
 
+    -- the numbers that wait are those of the attempt that ends by this entry, and its marks become draws for w0
     are_dropped : AreEnded w.draws s.thread p p zs w0 tx e s.marked v.drawn
     are_dropped = record {
       heads = λ y c. let r = open_row y c in (r.0, r.1, number_of y r.0 r.1);
@@ -174,6 +185,7 @@ module _ (key : Key) (w : World) (st : table.State Slot View) (id : ℕ) (v : Vi
       in_block = B.in_block;
     }
 
+    -- with the entry in the list its thread's draws are tied to it, and no number waits
     numbers_own : ShelfDraws after [] (shelf s.thread (s.marked ++ e ∷ []))
     numbers_own = record {
       numbers = drawn_ended w.draws s.thread p p zs w0 tx e s.marked v.drawn draws.numbers are_dropped;
@@ -184,6 +196,7 @@ module _ (key : Key) (w : World) (st : table.State Slot View) (id : ℕ) (v : Vi
       runs = λ o has. absurd (let l = has.1 in omega arith);
     }
 
+    -- each draw is afterwards one of a thread that there is
     among_after : (y : ℕ) (f : Draw) → Among (after y) f → f.thread < THREADS
     among_after y f among = by (is_in y zs) refl
       where
@@ -196,7 +209,7 @@ module _ (key : Key) (w : World) (st : table.State Slot View) (id : ℕ) (v : Vi
               | inr old ↦ H.whole.numbers.threads y f (subst (λ l. Among l f) (sym r.1) (inr old))
             ]
 
-    -- what is said of the draws
+    -- what is said of the draws is right with w0 in the place of the marks
     verdicts : (y : ℕ) → DrawsHold w.log y (after y)
     verdicts y = by (is_in y zs) refl
       where
@@ -216,6 +229,7 @@ module _ (key : Key) (w : World) (st : table.State Slot View) (id : ℕ) (v : Vi
               old.1,
             )
 
+    -- the refused attempts on each variable were judged rightly, with the draws and the counts of judged events as they are afterwards
     refused : (y : ℕ) → RefusalsHold w.log (until' y) y (after y)
     refused y = by (is_in y zs) refl
       where
@@ -254,6 +268,7 @@ module _ (key : Key) (w : World) (st : table.State Slot View) (id : ℕ) (v : Vi
                 let f : IsFor Open (Abort tx' (Raised var)) y n = subst (λ (a : Draw). IsFor a.what (Abort tx' (Raised var)) y n) is m.4
                 in f))
 
+    -- each variable has the same last write as before
     write_same : (y : ℕ) → last_write y (after y) ≡ last_write y (w.draws y)
     write_same y = by (is_in y zs) refl
       where
@@ -262,6 +277,7 @@ module _ (key : Key) (w : World) (st : table.State Slot View) (id : ℕ) (v : Vi
         by true c = let r = open_row y c in ap (last_write y) (after_in y c r.0 r.1) ∙ write_past y d r.0 (B.unwritten y)
             ∙ sym (ap (last_write y) r.1 ∙ write_past y (draw s.thread p Open) r.0 refl)
 
+    -- a draw of the thread had the same number before, or it has no repeats, and the list has no cached write under its number
     repeats_after : (y k : ℕ) (g : Draw) → DrawAt (after y) k g → g.thread ≡ s.thread → DrawAt (w.draws y) k g
         ⊎ ((g.repeats ≡ []) × (repeats_of y k s.marked ≡ []))
     repeats_after y k g at own = by (is_in y zs) refl
@@ -279,6 +295,7 @@ module _ (key : Key) (w : World) (st : table.State Slot View) (id : ℕ) (v : Vi
               | inr old ↦ inl (subst (λ l. DrawAt l k g) (sym r.1) (inr old))
             ]
 
+    -- where no access was performed behind the last write, none is afterwards
     calm_same : (y : ℕ) → IsCalm y (w.draws y) → IsCalm y (after y)
     calm_same y calm = by (is_in y zs) refl
       where
@@ -290,6 +307,7 @@ module _ (key : Key) (w : World) (st : table.State Slot View) (id : ℕ) (v : Vi
             subst (IsCalm y) (sym (after_in y c r.0 r.1))
             (elim old [ inl q ↦ absurd (let z : false ≡ true = q in cc) | inr q ↦ inr (B.unwritten y, B.unperformed, q.2) ])
 
+    -- a draw that is the last write afterwards had the same number before
     written_after : (y k : ℕ) (g : Draw) → DrawAt (after y) k g → last_write y (after y) ≡ Some g → DrawAt (w.draws y) k g
     written_after y k g at last = by (is_in y zs) refl
       where
@@ -306,6 +324,7 @@ module _ (key : Key) (w : World) (st : table.State Slot View) (id : ℕ) (v : Vi
     abbrev w' : World
     w' = record w { draws = resolved w.draws zs (draw s.thread p w0); until = until' }
 
+    -- an object that is as it has to be at home is so afterwards, where the draws of its variable stay
     home_at : (k : ℕ) (y : Slot) → ((x : ℕ) → k ≡ suc x → after x ≡ w.draws x) → Stands key.setting w b.hold k y
         → Stands key.setting w' b.hold k y
     home_at zero (slot.List l) same q = q
@@ -315,6 +334,7 @@ module _ (key : Key) (w : World) (st : table.State Slot View) (id : ℕ) (v : Vi
     home_at (suc x) slot.Empty same q = absurd q
     home_at (suc x) (slot.List l) same q = absurd q
 
+    -- a held object that is as it has to be is so afterwards, if a row stands afterwards for the draws that it was taken with
     held_at : (drew drew' : Option Draw) (k : ℕ) (y : Slot)
         → ((x : ℕ) (row : Row) → k ≡ suc x → RowHeld key.setting w x drew row → RowHeld key.setting w' x drew' row)
         → StandsHeld key.setting w b.hold drew k y → StandsHeld key.setting w' b.hold drew' k y
@@ -325,6 +345,7 @@ module _ (key : Key) (w : World) (st : table.State Slot View) (id : ℕ) (v : Vi
     held_at drew drew' (suc x) slot.Empty step q = absurd q
     held_at drew drew' (suc x) (slot.List l) step q = absurd q
 
+    -- a held row stands afterwards for the draws that it was taken with, the mark that was made on it having become d
     row_after : (g : Held) (y : ℕ) (row : Row) → Contains v.held g → g.object ≡ suc y → RowHeld key.setting w y g.drew row
         → RowHeld key.setting w' y (drew_commit zs d g) row
     row_after g y row has is r = by (is_in y zs) refl
@@ -337,6 +358,7 @@ module _ (key : Key) (w : World) (st : table.State Slot View) (id : ℕ) (v : Vi
             let was : w.draws y ≡ draw s.thread p Open ∷ r.before = r.draws_are ∙ ap (λ z. with_draw z r.before) (may.each g y has is c) in
             rw o (record { before = r.before; draws_are = after_in y c r.before was; stands = r.stands })
 
+    -- the draws below the one that was made on a held row are the same afterwards as before
     behind_same : (g : Held) (y : ℕ) (ds : List Draw) → Contains v.held g → g.object ≡ suc y → after y ≡ with_draw (drew_commit zs d g) ds
         → w.draws y ≡ with_draw g.drew ds
     behind_same g y ds has is q = by (is_in y zs) refl
@@ -352,6 +374,7 @@ module _ (key : Key) (w : World) (st : table.State Slot View) (id : ℕ) (v : Vi
             ∙ ap (λ z. with_draw z ds) (the_then (is_object g.object zs) (Some d) g.drew o) in
             r.1 ∙ ap (λ l. draw s.thread p Open ∷ l) (cons_tail d d r.0 ds cons) ∙ sym (ap (λ z. with_draw z ds) (may.each g y has is c))
 
+    -- the draws of each variable stay, or the pass holds its row
     elsewhere : (y : ℕ) → (after y ≡ w.draws y) ⊎ HasObject v (suc y)
     elsewhere y = by (is_in y zs) refl
       where
@@ -359,6 +382,7 @@ module _ (key : Key) (w : World) (st : table.State Slot View) (id : ℕ) (v : Vi
         by false c = inl (after_out y c)
         by true c = let r = may.rows y c in inr (r.one, r.held, r.object)
 
+    -- where a fact of each held object gives another one of it with its new draw, the first one of all gives the other of all
     held_map : (P Q : Held → Type 0) → ((g : Held) → Contains v.held g → P g → Q (with_drew zs d g)) → (xs : List Held)
         → ((g : Held) → Contains xs g → Contains v.held g) → All P xs → All Q (map (with_drew zs d) xs)
     held_map P Q f [] sub all = Rattle.std.proofs.lemmas.List.Elements.All-nil Q

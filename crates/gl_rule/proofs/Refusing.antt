@@ -13,11 +13,11 @@ use Rattle.gl_rule.specs.View.{Held, shelf, new_held}
 use Rattle.gl_rule.specs.Values.{with_draw}
 use Rattle.gl_rule.specs.Refusals.{DrawsBelow}
 
--- the held object's commits
+-- the draws of a row that was just taken stand below each tail seen since, as none was
 pub commits_new : (draws : ℕ → List Draw) (k : ℕ) (y : _) → DrawsBelow draws (new_held k y)
 commits_new draws k y = record { at = λ x before a n o d among has. absurd (let l = has.1 in omega arith) }
 
--- the same object, with a tail more
+-- they stand below the tail, too, when it is seen
 pub commits_tail : (log : List Stamp) (draws : ℕ → List Draw) (h g : Held) → ((x : ℕ) → DrawsHold log x (draws x)) → g.object ≡ h.object
     → g.drew ≡ h.drew → g.tails ≡ length log ∷ h.tails → DrawsBelow draws h → DrawsBelow draws g
 commits_tail log draws h g all same drew tails c =
@@ -36,7 +36,7 @@ commits_tail log draws h g all same drew tails c =
         in let q = block_in log x (draws x) a (all x) (inner x before a h.drew d among) in omega arith
     by x before a n o d among (suc i, l, e) = c.at x before a n o d among (i, omega arith, e)
 
--- what was drawn on a held object stands below its tails whatever else of it changed
+-- and so they do whatever else of the object changes
 pub commits_same : (draws : ℕ → List Draw) (h g : Held) → g.object ≡ h.object → g.drew ≡ h.drew → g.tails ≡ h.tails → DrawsBelow draws h
     → DrawsBelow draws g
 commits_same draws h g same drew tails c =
@@ -45,7 +45,7 @@ commits_same draws h g same drew tails c =
           (subst (λ l. Contains l n) tails has);
     }
 
--- the tails are forgotten but for what was seen last
+-- and below what was seen last, when the other tails are forgotten
 pub commits_raised : (draws : ℕ → List Draw) (seen : ℕ) (h g : Held) → (n : ℕ) × Contains h.tails n → g.object ≡ h.object → g.drew ≡ h.drew
     → g.tails ≡ seen ∷ [] → ((n : ℕ) → Contains h.tails n → n ≤ seen) → DrawsBelow draws h → DrawsBelow draws g
 commits_raised draws seen h g fresh same drew tails upto c = record {
@@ -57,7 +57,7 @@ commits_raised draws seen h g fresh same drew tails upto c = record {
     by n a (zero, l, e) lt le = let s : seen ≡ n = e in omega arith
     by n a (suc i, l, e) lt le = absurd (omega arith)
 
--- a number was drawn on the object, on which none was drawn before
+-- they do so still when a number is drawn on the object, on which none was drawn before
 pub commits_drew : (draws draws' : ℕ → List Draw) (x : ℕ) (d : Draw) (h g : Held) → h.object ≡ suc x → draws' x ≡ d ∷ draws x → h.drew
     ≡ None → g.object ≡ h.object → g.drew ≡ Some d → g.tails ≡ h.tails → DrawsBelow draws h → DrawsBelow draws' g
 commits_drew draws draws' x d h g is next none same drew tails c = record {
@@ -68,12 +68,12 @@ commits_drew draws draws' x d h g is next none same drew tails c = record {
       c.at x before a n is (behind ∙ ap (λ y. with_draw y before) (sym none)) among (subst (λ l. Contains l n) tails has);
 }
 
--- another object
+-- and when draws change, but not those of the object
 pub commits_else : (draws draws' : ℕ → List Draw) (h : Held) → ((x : ℕ) → h.object ≡ suc x → draws' x ≡ draws x) → DrawsBelow draws h
     → DrawsBelow draws' h
 commits_else draws draws' h same c = record { at = λ x before a n o d among has. c.at x before a n o (sym (same x o) ∙ d) among has }
 
--- an event was published while the object was held
+-- and when an event is published while the object is held
 pub commits_published : (log : List Stamp) (draws draws' : ℕ → List Draw) (h g : Held) → ((x : ℕ) → DrawsHold log x (draws x))
     → ((x : ℕ) (ds : List Draw) → h.object ≡ suc x → draws' x ≡ with_draw g.drew ds → draws x ≡ with_draw h.drew ds) → g.object ≡ h.object
     → g.tails ≡ suc (length log) ∷ h.tails → DrawsBelow draws h → DrawsBelow draws' g

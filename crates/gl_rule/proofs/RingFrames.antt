@@ -32,7 +32,7 @@ ring_same key b b' log low holds cells r = subst (λ n. RingHolds (capacity key)
       in (subst (λ n. b.hold 0 * key.cells ≤ n) (sym e) h.0, subst (λ n. n ≤ length log) (sym e) h.1);
 })
 
--- the others that are held
+-- a view without the held object k fits still, where holds, cells and the turns of the others that are held stay
 pub fits_without : (key : Key) (b b' : Board) (w : World) (j k : ℕ) (v : View) → SameHolds b b' → SameCells b b'
     → ((g : Held) → g.object ≢ k → HeldOne b.turn w.holder j v.shelves g → HeldOne b'.turn w.holder j v.shelves g)
     → Fits key b w j v → Fits key b' w j (record v { held = without k v.held; stored = if k == 0 then [] else v.stored })

@@ -67,6 +67,7 @@ module _ (key : Key) (s : table.State Slot View) (rule : Rule key s) where
       subst (λ k. b.hold k ≤ p) is (first_named b.hold h.object p h.first h.floor (λ z. let q : suc x ≡ 0 = sym is ∙ z
       in absurd (omega arith)) fl i above)
 
+  -- the table's words keep its events safely
   pub safe : (log : List _) × IsSafe key b s log
   safe = (
     rule.0.log,

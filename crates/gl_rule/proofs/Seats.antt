@@ -35,7 +35,7 @@ use Rattle.gl_rule.proofs.Loading.{below_more}
 use Rattle.gl_rule.specs.Tries.{TellsTaken}
 use Rattle.gl_rule.proofs.Tries.{tries_none, tries_both}
 
--- a view with nothing but shelves
+-- a view with nothing but shelves fits, where each of them does and nothing is owed
 pub blank_fits : (key : Key) (b : Board) (w : World) (j : ℕ) (l : List Shelf) → All (ShelfFits w.log w.seat j) l
     → All (ShelfDraws w.draws []) l → All (AreBelow 0) l → All (ShelfTrims w.trims) l → All (ShelfRefusals w.until) l
     → All (ShelfCarries w.values) l → OwedFits w.draws [] l → All (TellsTaken w.takers []) l → Fits key b w j (blank l)
@@ -72,7 +72,7 @@ nothing_fits key b w j = blank_fits key b w j [] (All-nil (ShelfFits w.log w.sea
     (All-nil (AreBelow 0)) (All-nil (ShelfTrims w.trims)) (All-nil (ShelfRefusals w.until)) (All-nil (ShelfCarries w.values))
     (owed_none w.draws) (All-nil (TellsTaken w.takers []))
 
--- only the seats of threads change
+-- a value at home stands whatever the seats are
 stands_seat : (setting : Setting) (w : World) (seat' hold : ℕ → ℕ) (k : ℕ) (y : Slot) → Stands setting w hold k y
     → Stands setting (record w { seat = seat' }) hold k y
 stands_seat setting w seat' hold zero (slot.List l) s = s
@@ -122,7 +122,7 @@ turns_longer turn holder views more p = record {
       in (q.0, at_longer views more (holder k) q.0 q.1, q.2);
 }
 
--- the table with other views, and other seats of threads
+-- the table holds with other views and other seats of threads, where each of the views fits and the turns are held
 with_views : (key : Key) (w : World) (s : table.State Slot View) (seat' : ℕ → ℕ) (views : List View) → Holds key w s
     → TurnsHold (board (capacity key) s.words).turn w.holder views
     → Each (Fits key (board (capacity key) s.words) (record w { seat = seat' })) views
@@ -145,7 +145,7 @@ with_views key w s seat' views H turns each =
       views = each;
     }
 
--- a new seat with nothing
+-- a new seat with nothing may come in
 pub enters : (key : Key) (slots i : ℕ) → table.Enters (Rule key) slots i (λ n u. u ≡ blank [])
 enters key slots i s rule long fits =
     let w = rule.0 in

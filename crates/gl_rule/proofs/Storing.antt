@@ -27,7 +27,7 @@ use Rattle.gl_rule.proofs.RingFrames.{ring_same}
 use Rattle.gl_rule.specs.Tries.{TriesFit}
 use Rattle.gl_rule.proofs.Tries.{tries_same, tries_saw, tries_grow}
 
--- the stop word
+-- setting the stop word keeps the rule
 pub sets_stop : (key : Key) (slots id : ℕ) (v : View) (c : List (ℕ × Slot))
     → table.Allows (Rule key) slots id (v, c) 3075 (λ _. 1) (λ _. Saw SetStop v c)
 sets_stop key slots id v c st rule long here fits =
@@ -112,7 +112,7 @@ front_here [] ys i h = absurd (omega arith)
 front_here (x ∷ xs) ys zero h = refl
 front_here (x ∷ xs) ys (suc i) h = front_here xs ys i (omega arith)
 
--- a view where cells changed that it says nothing of
+-- a view fits still where no cells change but those of which it says nothing
 fits_cells : (key : Key) (b b' : Board) (w : World) (j : ℕ) (v : View) → SameTurns b b' → SameHolds b b'
     → ((i : ℕ) → i < length v.stored → b'.cell (length w.log) i ≡ b.cell (length w.log) i) → Fits key b w j v → Fits key b' w j v
 fits_cells key b b' w j v turns holds cells f =
@@ -151,7 +151,7 @@ fits_cells key b b' w j v turns holds cells f =
       owed = f.owed;
     }
 
--- the next word in the cell of the tail
+-- storing the next word in the cell of the tail keeps the rule
 pub puts_word : (key : Key) (slots id n : ℕ) (v : View) (c : List (ℕ × Slot)) (h : Held) (tail : ℕ) → MayStoreWord key v h tail
     → table.Allows (Rule key) slots id (v, c) (cell_at (capacity key) tail (length v.stored)) (λ _. n) (λ _. PutWord n v c)
 puts_word key slots id n v c h tail may st rule long here fits =

@@ -14,12 +14,13 @@ use Rattle.gl_rule.proofs.Words.{SameTurns}
 use Rattle.gl_rule.proofs.HeldLists.{all_map, in_cons, only_shelf, one_shelf}
 
 module _ {X : Type 0} where
-  -- what is in the front of a list, or behind it, is in it
+  -- what is in the first of two lists is in both of them joined
   pub in_front : (xs ys : List X) (x : X) → Contains xs x → Contains (xs ++ ys) x
   in_front [] ys x c = absurd (let l = c.1 in omega arith)
   in_front (z ∷ xs) ys x (zero, l, e) = (zero, omega arith, e)
   in_front (z ∷ xs) ys x (suc k, l, e) = in_cons z (xs ++ ys) x (in_front xs ys x (k, omega arith, e))
 
+  -- what is in the second of two lists is in both of them joined
   pub in_back : (xs ys : List X) (x : X) → Contains ys x → Contains (xs ++ ys) x
   in_back [] ys x c = c
   in_back (z ∷ xs) ys x c = in_cons z (xs ++ ys) x (in_back xs ys x c)
@@ -37,19 +38,19 @@ module _ {X : Type 0} where
   all_in P Q (x ∷ xs) f all = All-cons Q x xs (f x (zero, omega arith, refl) (All-head P x xs all))
       (all_in P Q xs (λ y c. f y (in_cons x xs y c)) (All-tail P x xs all))
 
--- the turns and the stop word stay
+-- what is said of the tries holds still where the turns and the stop word stay
 pub tries_same : (b b' : Board) (stopped : ℕ) (takers : ℕ → List ℕ) → SameTurns b b' → b'.stop ≡ b.stop
     → TriesHold b.turn b.stop stopped takers → TriesHold b'.turn b'.stop stopped takers
 tries_same b b' stopped takers turns stop h =
     record { named = λ k t near e. h.named k t near (sym (turns k near) ∙ e); word = stop ∙ h.word; least = h.least }
 
--- a pass that read nothing
+-- the tries of a pass that read nothing fit, where its threads took no turn
 pub tries_none : (stopped : ℕ) (takers : ℕ → List ℕ) (shelves : List Shelf) → All (TellsTaken takers []) shelves
     → TriesFit stopped takers shelves []
 tries_none stopped takers shelves taken =
     record { each = All-nil (TryFits stopped takers); taken = taken; others = λ s k by one c. absurd (let l = c.1 in omega arith) }
 
--- the one list changes, and its thread is the same
+-- tries fit still when the one list changes, and its thread is the same
 pub tries_moved : (stopped : ℕ) (takers : ℕ → List ℕ) (v : View) (s s' : Shelf) → v.shelves ≡ s ∷ [] → s'.thread ≡ s.thread
     → TriesFit stopped takers v.shelves v.reads → TriesFit stopped takers (s' ∷ []) v.reads
 tries_moved stopped takers v s s' one same f = record {
@@ -63,7 +64,7 @@ tries_moved stopped takers v s s' one same f = record {
     first_same : (a c : Shelf) → a ∷ [] ≡ c ∷ [] → a ≡ c
     first_same a c e = cc
 
--- something was read that is no try of a turn that was held
+-- one more read fits, where it fits by itself and is no turn that was read as held by the pass itself
 pub tries_saw : (stopped : ℕ) (takers : ℕ → List ℕ) (shelves : List Shelf) (reads : List Read) (r : Read) → TryFits stopped takers r
     → ((s : Shelf) (k by : ℕ) → shelves ≡ s ∷ [] → r ≡ Busy k by → by ≢ s.thread) → TriesFit stopped takers shelves reads
     → TriesFit stopped takers shelves (reads ++ r ∷ [])
@@ -121,6 +122,7 @@ module _ (takers : ℕ → List ℕ) (k t : ℕ) where
   abbrev pub taker : ℕ → List ℕ
   taker = with_at takers k (t ∷ takers k)
 
+  -- each taker of an object is one still
   pub taker_more : (g u : ℕ) → Contains (takers g) u → Contains (taker g) u
   taker_more g u c = elim (ℕ_discrete g k) [
     | yes e ↦ subst (λ l. Contains l u) (sym (ap taker e ∙ with_here takers k (t ∷ takers k)))
@@ -128,9 +130,11 @@ module _ (takers : ℕ → List ℕ) (k t : ℕ) where
     | no ne ↦ subst (λ l. Contains l u) (sym (with_else takers k g (t ∷ takers k) ne)) c
   ]
 
+  -- the thread t is a taker of k
   pub taker_here : Contains (taker k) t
   taker_here = subst (λ l. Contains l t) (sym (with_here takers k (t ∷ takers k))) (zero, omega arith, refl)
 
+  -- a taker of an object was one before, or it is t and the object is k
   pub taker_cases : (g u : ℕ) → Contains (taker g) u → Contains (takers g) u ⊎ ((g ≡ k) × (t ≡ u))
   taker_cases g u c = elim (ℕ_discrete g k) [
     | yes e ↦ here e (subst (λ l. Contains l u) (ap taker e ∙ with_here takers k (t ∷ takers k)) c)

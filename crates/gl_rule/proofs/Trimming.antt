@@ -24,12 +24,14 @@ use Rattle.gl_rule.proofs.Closing.{closes, events}
 use Rattle.gl_rule.proofs.Ending.{all_quiet, none, paid}
 
 module _ (setting : Setting) (low : ℕ) (R : Lists) (c : IsClosed setting low R) where
+  -- each Trim of the record is among those that its thread made
   pub trims_of : (p : Place) (l : ℕ) → EntryAt R p (Trim l) → Contains c.trims (p.thread, l)
   trims_of p l at = elim (cases_lt p.thread THREADS) [
     | inl near ↦ (c.lows p.thread near).made p.index l at
     | inr far ↦ absurd (let z : At [] p.index (Trim l) = subst (λ es. At es p.index (Trim l)) (c.beyond p.thread far) at in cc)
   ]
 
+  -- no two Trims of the record have the same low
   once : (p q : Place) (l : ℕ) → EntryAt R p (Trim l) → EntryAt R q (Trim l) → p ≡ q
   once p q l a b =
       let t : p.thread ≡ q.thread = c.lowest.once (p.thread, l) (q.thread, l) (trims_of p l a) (trims_of q l b) refl in
@@ -42,7 +44,7 @@ module _ (setting : Setting) (low : ℕ) (R : Lists) (c : IsClosed setting low R
         ]
       ])
 
-  -- the Trims of a closed table
+  -- the Trims of a closed table's record are as the ring's segments ask
   pub are_trims : (cells segments n : ℕ) → low * cells ≤ n → n ≤ low * cells + segments * cells → AreTrims cells segments R n
   are_trims cells segments n below room = record {
     once = once;

@@ -111,7 +111,7 @@ row_stands setting row w = record {
     some_info : (i j : Info) → Some i ≡ Some j → i ≡ j
     some_info i j e = cc
 
--- it fails the test of a commit by another thread
+-- the element of the transactions is not a thread
 tx_is_no_thread : Tx ≡ Thread 0 → ⊥
 tx_is_no_thread e = cc
 

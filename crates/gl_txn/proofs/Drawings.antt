@@ -29,20 +29,25 @@ use Rattle.gl_txn.proofs.LookSteps.{block_is}
 module _ (held : List Held) (list : Option Held) (rows : List TakenRow) (tails : List ℕ) (drew drew' : ℕ → Option Draw)
     (a : AreHeld held list rows tails drew) (x : ℕ) (r : TakenRow) (there : row_at rows x ≡ Some r) (d : Draw)
     (now : drew' x ≡ Some d) (others : (y : ℕ) → y ≢ x → drew' y ≡ drew y) where
+  -- the row that is found for x is of x
   at_var : r.var ≡ x
   at_var = (row_among rows x r there).1
 
+  -- this row as it is held, with d drawn on it
   h : Held
   h = record (row_held tails drew r) { drew = Some d }
 
+  -- the row of any other variable is held as before
   by_row : (y : ℕ) → y ≢ x → (o : Option TakenRow) → row_at rows y ≡ o → held_by tails drew o ≡ held_by tails drew' o
   by_row y ne None e = refl
   by_row y ne (Some q) e = let at : q.var ≡ y = (row_among rows y q e).1
       in ap (λ (z : Option Draw). Some (record (row_held tails drew q) { drew = z })) (sym (others q.var (λ s. ne (sym at ∙ s))))
 
+  -- the row of x is held as before, with d drawn on it
   here : held_by tails drew' (Some r) ≡ Some (record (row_held tails drew r) { drew = Some d })
   here = ap (λ (z : Option Draw). Some (record (row_held tails drew r) { drew = z })) (ap drew' at_var ∙ now)
 
+  -- so just the same objects are held, each of them once, the row of x with d drawn on it
   pub held_marked : AreHeld (record (row_held tails drew r) { drew = Some d } ∷ without (suc x) held) list rows tails drew'
   held_marked = record {
     at = at;
@@ -62,7 +67,7 @@ module _ (held : List Held) (list : Option Held) (rows : List TakenRow) (tails :
             ∙ by_row y other (row_at rows y) refl
       ]
 
--- no number of an end of x is among those of others
+-- numbers of an end on other variables leave the count of those on x
 count_ends : (x : ℕ) (drawn : List Drawn) (numbers : List Number) → (Contains (numbered numbers) x → ⊥)
     → count_on x (drawn ++ map end_of numbers) ≡ count_on x drawn
 count_ends x [] [] out = refl
@@ -80,21 +85,27 @@ module _ (p q : PassView) (list : Option Held) (rows : List TakenRow) (tails : L
     moves = moved (length numbers) p.moves;
   }
 
+  -- x is not among the variables that have a number
   not_drawn : is_in x (numbered numbers) ≡ false
   not_drawn = elim (cases_Bool (is_in x (numbered numbers))) [ inl b ↦ absurd (out (is_in-contains x (numbered numbers) b)) | inr b ↦ b ]
 
+  -- so nothing was drawn on its row yet
   none : drew_on p (numbered numbers) x ≡ None
   none = let b = not_drawn in rw b refl
 
+  -- the row that is found for x is of x
   of : r.var ≡ x
   of = (row_among rows x r there).1
 
+  -- what the pass holds of x is this row
   held_is : found (suc x) q.own.held ≡ Some (row_held tails (drew_on p (numbered numbers)) r)
   held_is = drawn.held.at (suc x) ∙ ap (held_by tails (drew_on p (numbered numbers))) there
 
+  -- so it is what is found as object x + 1
   at_is : held_at (x + 1) q.own.held ≡ row_held tails (drew_on p (numbered numbers)) r
   at_is = found_at (x + 1) q.own.held (row_held tails (drew_on p (numbered numbers)) r) (ap (λ k. found k q.own.held) (add-one x) ∙ held_is)
 
+  -- the row of x may be marked for the end of the attempt
   pub may_number : MayOpenOn q x None
   may_number = subst (λ (q : PassView). MayOpenOn q x None) (sym drawn.is) (record {
     taken = r.row;
@@ -116,7 +127,7 @@ module _ (p q : PassView) (list : Option Held) (rows : List TakenRow) (tails : L
         });
   })
 
-  -- the pass after it drew n on it
+  -- a pass that drew n on x has that number behind those that wait, and made one step more
   after_is : (r' : PassView) (n : ℕ) → r' ≡ opened q x n None → r'
       ≡ record p {
         own = record p.own {
@@ -151,25 +162,31 @@ module _ (p q : PassView) (list : Option Held) (rows : List TakenRow) (tails : L
         moves = moved 1 z.moves;
       }) drawn.is
 
+  -- with a number of the end more, those that wait are the ones before and that one
   ends_pushed : (ns : List Number) (n : Number) → map end_of (ns ++ n ∷ []) ≡ map end_of ns ++ end_of n ∷ []
   ends_pushed [] n = refl
   ends_pushed (k ∷ ns) n = ap (λ (l : List Drawn). end_of k ∷ l) (ends_pushed ns n)
 
+  -- with a number more, the variables that have one are those before and that number's
   keys_pushed : (ns : List Number) (n : Number) → numbered (ns ++ n ∷ []) ≡ numbered ns ++ n.var ∷ []
   keys_pushed [] n = refl
   keys_pushed (k ∷ ns) n = ap (λ (l : List ℕ). k.var ∷ l) (keys_pushed ns n)
 
+  -- the last variable of a list is in it
   in_last : (ys : List ℕ) (y : ℕ) → is_in y (ys ++ y ∷ []) ≡ true
   in_last ys y = contains-is_in y (ys ++ y ∷ [])
       (Rattle.std.proofs.lemmas.List.Elements.Contains-append_right ys (y ∷ []) y (0, omega arith, refl))
 
+  -- a variable other than the last one is in a list just where it is in the list without that
   in_other : (ys : List ℕ) (y z : ℕ) → z ≢ y → is_in z (ys ++ y ∷ []) ≡ is_in z ys
   in_other [] y z ne = let b : (z == y) ≡ false = ne_eqb z y ne in rw b refl
   in_other (k ∷ ys) y z ne = ap (λ b. if z == k then true else b) (in_other ys y z ne)
 
+  -- numbers that are equal are on the same variable, and as numbers on it the same
   number_same : (a b : Number) → a ≡ b → (a.var ≡ b.var) × (a.nth ≡ b.nth)
   number_same a b e = (ap (λ (k : Number). k.var) e, ap (λ (k : Number). k.nth) e)
 
+  -- where n is above the numbers of x that wait, a pass that draws it for the end has drawn these numbers and that one
   pub number_more : (r' : PassView) (n : ℕ) → r' ≡ opened q x n None → IsAboveDrawn x n q.own.drawn
       → HasDrawn p r' list rows tails (numbers ++ record { var = x; nth = n } ∷ [])
   number_more r' n is above = record {

@@ -46,20 +46,24 @@ one_only y x b = elim (ℕ_discrete y x) [
 -- the attempt whose word was changed, with the number n of its end
 module _ (a : Attempting) (writes : List Pair) (p : PassView) (rows : List TakenRow) (c : Change) (m : MayNumber p rows)
     (held : AreHeld p.own.held None rows [] undrawn) (draws : Draws a p.own) (f : IsFirstChange a.looks rows c) where
+  -- the row that is found for the change's variable is the changed one
   there : row_at rows c.var ≡ Some f.row
   there = ap (row_at rows) f.is.var ∙ row_found rows f.place f.row held.are.1 f.there
 
   abbrev number_of : ℕ → Number
   number_of n = record { var = c.var; nth = n }
 
+  -- the change's variable is one that there is
   pub change_near : c.var < Rattle.gl_model.specs.declared.limits.TheConstants.VARIABLES
   change_near = subst (λ k. k < Rattle.gl_model.specs.declared.limits.TheConstants.VARIABLES) (sym f.is.var)
       (row_near rows f.place f.row held.are f.there)
 
+  -- its row may be marked for the end of the attempt
   pub change_open : Rattle.gl_table.specs.Putting.MayOpenOn p c.var None
   change_open = may_number p p None rows [] [] m (drawn_none p None rows [] held) c.var f.row there
       (λ z. absurd (let l = z.1 in omega arith))
 
+  -- where n is above the numbers of this variable that wait, a pass that draws it for the end has drawn just that number
   pub change_drawn : (q : PassView) (n : ℕ) → q ≡ opened p c.var n None → IsAboveDrawn c.var n p.own.drawn
       → HasDrawn p q None rows [] (record { var = c.var; nth = n } ∷ [])
   change_drawn q n is above = number_more p p None rows [] [] m (drawn_none p None rows [] held) c.var f.row there
@@ -68,6 +72,7 @@ module _ (a : Attempting) (writes : List Pair) (p : PassView) (rows : List Taken
   abbrev in_rows : (y : ℕ) → is_in y (c.var ∷ []) ≡ true → (r : TakenRow) × (row_at rows y ≡ Some r)
   in_rows y b = (f.row, ap (row_at rows) (one_only y c.var b) ∙ there)
 
+  -- the entry that drops the attempt as changed has its form, where its one number is named as it has to be
   formed : (n : ℕ) → Rattle.gl_model.specs.Form.NumbersName
       (record { looks = a.looks; writes = writes; numbers = record { var = c.var; nth = n } ∷ [] }) (c.var ∷ [])
       → Rattle.gl_model.specs.Form.EntryForm p.own.id
@@ -79,6 +84,7 @@ module _ (a : Attempting) (writes : List Pair) (p : PassView) (rows : List Taken
       look_is : (k : Look) → k.var ≡ c.var → k.value ≡ c.read → k ≡ record { var = c.var; value = c.read; nth = k.nth }
       look_is k e g = ap (λ v. record k { var = v }) e ∙ ap (λ v. record k { var = c.var; value = v }) g
 
+  -- the row of each look at a lower variable is held, and has the word that was looked at
   unchanged : vars_of rows ≡ with_all (map (λ w. w.var) writes) (map (λ l. l.var) a.looks) → AreVariables (map (λ l. l.var) a.looks)
       → (q : PassView) (n : ℕ) → HasDrawn p q None rows [] (record { var = c.var; nth = n } ∷ []) → (l : Look) → Contains a.looks l
       → l.var < c.var
@@ -114,6 +120,7 @@ module _ (a : Attempting) (writes : List Pair) (p : PassView) (rows : List Taken
       among (x ∷ xs) l (zero, n, e) = (0, omega arith, ap (λ (z : Look). z.var) e)
       among (x ∷ xs) l (suc k, n, e) = let f = among xs l (k, omega arith, e) in (suc f.0, (let n = f.1 in omega arith), f.2)
 
+  -- once its number is drawn, the attempt may be dropped as changed
   pub may_change : vars_of rows ≡ with_all (map (λ w. w.var) writes) (map (λ l. l.var) a.looks) → AreVariables (map (λ l. l.var) a.looks)
       → (q : PassView) (n : ℕ) → HasDrawn p q None rows [] (record { var = c.var; nth = n } ∷ [])
       → MayAbort q (record { looks = a.looks; writes = writes; numbers = record { var = c.var; nth = n } ∷ [] })
@@ -136,9 +143,11 @@ module _ (a : Attempting) (writes : List Pair) (p : PassView) (rows : List Taken
 -- once the entry is stored, no access was drawn on the rows, and they may go back
 module _ (p q : PassView) (rows : List TakenRow) (tails : List ℕ) (numbers : List Number) (zs : List ℕ) (are : numbered numbers ≡ zs)
     (d : HasDrawn p q None rows tails numbers) (tx : Tx) where
+  -- the pass holds these rows, those of zs marked for the end of the attempt
   held_on : AreHeld q.own.held None rows tails (drew_on p zs)
   held_on = subst (λ ys. AreHeld q.own.held None rows tails (drew_on p ys)) are d.held
 
+  -- once the attempt is dropped as changed, just the rows are held, and no access of them was drawn
   pub change_unused : (var : ℕ) (read found : ℤ) → zs ≡ var ∷ [] → (r : PassView) → r ≡ after_adding q (Abort tx (Changed var read found))
       → AreUnused r.own.held rows
   change_unused var read found is r added =
@@ -147,6 +156,7 @@ module _ (p q : PassView) (rows : List TakenRow) (tails : List ℕ) (numbers : L
       ∙ ap (λ ys. map (with_drew ys (draw q.own.id (block_of q.own.mine) (Looked found))) q.own.held) (sym is)))
       (unused_dropped p q.own.held rows tails zs held_on (draw q.own.id (block_of q.own.mine) (Looked found)) (λ y. refl) (λ y. refl))
 
+  -- so it is once the attempt is dropped for a race
   pub raise_unused : (var : ℕ) → zs ≡ Rattle.gl_model.specs.Records.variables_of tx → (r : PassView) → r
       ≡ after_adding q (Abort tx (Raised var)) → AreUnused r.own.held rows
   raise_unused var is r added =
@@ -156,6 +166,8 @@ module _ (p q : PassView) (rows : List TakenRow) (tails : List ℕ) (numbers : L
       (unused_dropped p q.own.held rows tails zs held_on (draw q.own.id (block_of q.own.mine) (Entered (Abort tx (Raised var))))
       (λ y. refl) (λ y. refl))
 
+  -- once all is put back, a pass that dropped its attempt as changed has that entry more, and no number waits; but for its steps and its
+  -- spare room the rest is as before
   pub change_stored : (var : ℕ) (read found : ℤ) (r s : PassView) → r ≡ after_adding q (Abort tx (Changed var read found)) → s
       ≡ record r { own = record r.own { held = [] }; moves = s.moves }
       → s ≡ record (with_entry p (Abort tx (Changed var read found))) { moves = s.moves }
@@ -164,6 +176,7 @@ module _ (p q : PassView) (rows : List TakenRow) (tails : List ℕ) (numbers : L
       ∙ ap (λ (z : PassView). record (after_adding z (Abort tx (Changed var read found)))
       { own = record (after_adding z (Abort tx (Changed var read found))).own { held = [] }; moves = s.moves }) d.is
 
+  -- so it is for one that dropped it for a race
   pub raise_stored : (var : ℕ) (r s : PassView) → r ≡ after_adding q (Abort tx (Raised var)) → s
       ≡ record r { own = record r.own { held = [] }; moves = s.moves }
       → s ≡ record (with_entry p (Abort tx (Raised var))) { moves = s.moves }
@@ -172,7 +185,7 @@ module _ (p q : PassView) (rows : List TakenRow) (tails : List ℕ) (numbers : L
       ∙ ap (λ (z : PassView). record (after_adding z (Abort tx (Raised var)))
       { own = record (after_adding z (Abort tx (Raised var))).own { held = [] }; moves = s.moves }) d.is
 
--- the transaction with its one number
+-- a transaction without numbers that gets one more has just that one
 pub tx_is : (t d : Tx) (ns : List Number) (n : Number) → d ≡ t → t.numbers ≡ [] → ns ≡ d.numbers ++ n ∷ []
     → ◌≡◌ {A = Tx} (record { looks = d.looks; writes = d.writes; numbers = ns })
     (record { looks = t.looks; writes = t.writes; numbers = n ∷ [] })

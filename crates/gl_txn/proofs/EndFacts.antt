@@ -36,7 +36,7 @@ in_either (z ∷ xs) ys x (zero, l, e) = inl (0, omega arith, e)
 in_either (z ∷ xs) ys x (suc k, l, e) = elim (in_either xs ys x (k, omega arith, e))
     [ inl a ↦ inl (suc a.0, (let l = a.1 in omega arith), a.2) | inr b ↦ inr b ]
 
--- of numbers that wait for an end none is a look's, and each is one of them
+-- none of the numbers of an end that wait is a look's
 ends_none : (ns : List Number) (y k : ℕ) (value : ℤ) → Contains (map end_of ns) (record { var = y; nth = k; look = Some value }) → ⊥
 ends_none [] y k value c = absurd (let l = c.1 in omega arith)
 ends_none (n ∷ ns) y k value (zero, l, e) = let z : None ≡ Some value = ap (λ (o : Drawn). o.look) e in cc
@@ -59,7 +59,7 @@ ends_to [] n c = absurd (let l = c.1 in omega arith)
 ends_to (m ∷ ns) n (zero, l, e) = (0, omega arith, ap end_of e)
 ends_to (m ∷ ns) n (suc i, l, e) = let r = ends_to ns n (i, omega arith, e) in (suc r.0, (let l = r.1 in omega arith), r.2)
 
--- each variable has one number
+-- where all variables of the numbers are above x, that of each of them is
 above_number : (x : ℕ) (ns : List Number) (n : Number) → AllByRecursion (λ y. x < y) (numbered ns) → Contains ns n → x < n.var
 above_number x [] n all c = absurd (let l = c.1 in omega arith)
 above_number x (m ∷ ns) n all (zero, l, e) = subst (λ (k : Number). x < k.var) e all.0
@@ -75,7 +75,7 @@ number_once (n ∷ ns) r a b (suc i, l, e) (zero, m, f) same = let near = above_
     in let z = ap (λ (k : Number). k.var) f in absurd (omega arith)
 number_once (n ∷ ns) r a b (suc i, l, e) (suc j, m, f) same = number_once ns r.1 a b (i, omega arith, e) (j, omega arith, f) same
 
--- held slots that are equal as options are equal
+-- held objects that are equal as options are equal
 some_held : (a b : Held) → Some a ≡ Some b → a ≡ b
 some_held a b e = cc
 
@@ -96,12 +96,15 @@ module _ (a : Attempting) (writes : List Pair) (p : PassView) (H : List Held) (l
   abbrev pub one_of : (y : ℕ) → is_in y zs ≡ true → Held
   one_of y b = row_held tails (drew_on p zs) (in_rows y b).0
 
+  -- what is held of each variable of zs is its row
   pub found_one : (y : ℕ) (b : is_in y zs ≡ true) → found (suc y) H ≡ Some (one_of y b)
   found_one y b = held.at (suc y) ∙ ap (held_by tails (drew_on p zs)) (in_rows y b).1
 
+  -- the row that is found for such a variable is of it
   pub at_one : (y : ℕ) (b : is_in y zs ≡ true) → (in_rows y b).0.var ≡ y
   at_one y b = (row_among rows y (in_rows y b).0 (in_rows y b).1).1
 
+  -- on each of these rows the mark for the end was drawn
   pub drew_one : (y : ℕ) (b : is_in y zs ≡ true) → (one_of y b).drew ≡ Some (draw p.own.id (block_of p.own.mine) Open)
   drew_one y b = ap (drew_on p zs) (at_one y b) ∙ rw b refl
 
@@ -115,12 +118,14 @@ module _ (a : Attempting) (writes : List Pair) (p : PassView) (H : List Held) (l
     drew = drew_one y b;
   }
 
+  -- so it was on whatever is held of a variable of zs
   pub each_one : (g : Held) (y : ℕ) → Contains H g → g.object ≡ suc y → is_in y zs ≡ true → g.drew
       ≡ Some (draw p.own.id (block_of p.own.mine) Open)
   each_one g y c e b = let same : one_of y b
       ≡ g = some_held (one_of y b) g (sym (found_one y b) ∙ ap (λ k. found k H) (sym e) ∙ held.once g c)
       in ap (λ (h : Held). h.drew) (sym same) ∙ drew_one y b
 
+  -- the number of a look waits just where the attempt has that look
   pub looks_one : (y k : ℕ) (value : ℤ) → Contains (p.own.drawn ++ map end_of numbers) (record { var = y; nth = k; look = Some value }) ↔
       Contains a.looks (record { var = y; value = value; nth = k })
   looks_one y k value = (
@@ -130,6 +135,7 @@ module _ (a : Attempting) (writes : List Pair) (p : PassView) (H : List Held) (l
         ((draws.looks y k value).1 c)),
   )
 
+  -- a number of the end waits just where it is one of these numbers
   pub owns_one : (y k : ℕ) → Contains (p.own.drawn ++ map end_of numbers) (record { var = y; nth = k; look = None }) ↔ Contains numbers
       (record { var = y; nth = k })
   owns_one y k = (
@@ -139,10 +145,12 @@ module _ (a : Attempting) (writes : List Pair) (p : PassView) (H : List Held) (l
         (ends_to numbers (record { var = y; nth = k }) c)),
   )
 
+  -- no variable has two of these numbers
   pub once_one : (y k i : ℕ) → Contains numbers (record { var = y; nth = k }) → Contains numbers (record { var = y; nth = i }) → k ≡ i
   once_one y k i c d = number_once numbers (subst Rises (sym are) rises) (record { var = y; nth = k }) (record { var = y; nth = i }) c d
       refl
 
+  -- the numbers are on just the variables of zs, each above that of a look of the same variable
   pub names_one : NumbersName end_tx zs
   names_one = record { variables = are; after_looks = λ y k m value l n. above y k m (Some value) ((draws.looks y k value).1 l) n }
 
@@ -167,10 +175,12 @@ module _ (p : PassView) (H : List Held) (rows : List TakenRow) (tails : List ℕ
   abbrev dropped_drew : ℕ → Option Draw
   dropped_drew y = if is_in y zs then Some d else drew_on p zs y
 
+  -- a held row becomes the same row with what is drawn on it after the drop
   at_dropped : (y : ℕ) (o : Option TakenRow) → changed (with_drew zs d) (held_by tails (drew_on p zs) o) ≡ held_by tails dropped_drew o
   at_dropped y None = refl
   at_dropped y (Some r) = refl
 
+  -- so just these rows are held, each of them once, those of zs with d drawn on them
   held_dropped : AreHeld (map (with_drew zs d) H) None rows tails dropped_drew
   held_dropped = record {
     at = at;
@@ -183,9 +193,11 @@ module _ (p : PassView) (H : List Held) (rows : List TakenRow) (tails : List ℕ
       at (suc y) = found_mapped (with_drew zs d) (λ h. refl) (suc y) H ∙ ap (changed (with_drew zs d)) (held.at (suc y))
           ∙ at_dropped y (row_at rows y)
 
+  -- draws that are equal as options are equal
   some_draw : (u w : Draw) → Some u ≡ Some w → u ≡ w
   some_draw u w e = cc
 
+  -- so these rows alone are held, and no access of them was drawn
   pub unused_dropped : AreUnused (map (with_drew zs d) H) rows
   unused_dropped = record { tails = tails; drew = dropped_drew; holds = held_dropped; unused = unused }
     where

@@ -10,7 +10,7 @@ use Rattle.gl_txn.specs.Holding.{found}
 some_same : {A : Type 0} (a b : A) → Some a ≡ Some b → a ≡ b
 some_same a b e = cc
 
--- the one that stands first is found by its number, and is passed over by another one
+-- the one that stands first is found by its number
 pub found_here : (h : Held) (hs : List Held) (k : ℕ) → h.object ≡ k → found k (h ∷ hs) ≡ Some h
 found_here h hs k e = let b : (h.object == k) ≡ true = eq-eqb h.object k e in rw b refl
 
@@ -52,7 +52,7 @@ found_mapped f same k (h ∷ hs) = elim (ℕ_discrete h.object k) [
       ∙ ap (changed f) (sym (found_past h hs k ne))
 ]
 
--- without one of them
+-- taking out an object takes it out where it stands first
 pub without_here : (h : Held) (hs : List Held) (j : ℕ) → h.object ≡ j → without j (h ∷ hs) ≡ without j hs
 without_here h hs j e = let b : (h.object == j) ≡ true = eq-eqb h.object j e in rw b refl
 

@@ -19,7 +19,7 @@ use Rattle.gl_txn.specs.declared.taken.TakenRow.{TakenRow}
 use Rattle.gl_txn.specs.Holding.{vars_of, found, row_at, row_held, held_by, held_of, AreHeld, AreUnused, undrawn}
 use Rattle.gl_txn.proofs.Finding.{found_here, found_past, found_held, found_gone, found_still, once_more, once_without, none_held}
 
--- the row of a variable among others
+-- the row that stands first is found for its variable
 pub row_here : (r : TakenRow) (rs : List TakenRow) (y : ℕ) → r.var ≡ y → row_at (r ∷ rs) y ≡ Some r
 row_here r rs y e = let b : (r.var == y) ≡ true = eq-eqb r.var y e in rw b refl
 
@@ -50,13 +50,13 @@ row_none (q ∷ rs) y e (suc k, l, is) = elim (ℕ_discrete q.var y) [
   | no other ↦ row_none rs y (sym (row_past q rs y other) ∙ e) (k, omega arith, is)
 ]
 
--- a variable that has no row has none
+-- for a variable that is none of the rows' no row is found
 pub row_absent : (rows : List TakenRow) (y : ℕ) → (Contains (vars_of rows) y → ⊥) → row_at rows y ≡ None
 row_absent [] y out = refl
 row_absent (q ∷ rs) y out = row_past q rs y (λ e. out (0, omega arith, e))
     ∙ row_absent rs y (λ c. out (suc c.0, (let l = c.1 in omega arith), c.2))
 
--- with one behind them
+-- a row of another variable that is put last leaves what is found for y
 row_pushed : (rows : List TakenRow) (r : TakenRow) (y : ℕ) → r.var ≢ y → row_at (rows ++ r ∷ []) y ≡ row_at rows y
 row_pushed [] r y ne = row_past r [] y ne
 row_pushed (q ∷ rs) r y ne = elim (ℕ_discrete q.var y) [
@@ -71,12 +71,12 @@ row_last [] r y e out = row_here r [] y e
 row_last (q ∷ rs) r y e out = row_past q (rs ++ r ∷ []) y (λ z. out (0, omega arith, z))
     ∙ row_last rs r y e (λ c. out (suc c.0, (let l = c.1 in omega arith), c.2))
 
--- the variables of rows with one behind them
+-- the variables of rows with one put last are theirs and then its
 pub vars_pushed : (rows : List TakenRow) (r : TakenRow) → vars_of (rows ++ r ∷ []) ≡ vars_of rows ++ r.var ∷ []
 vars_pushed [] r = refl
 vars_pushed (q ∷ rs) r = ap (λ l. q.var ∷ l) (vars_pushed rs r)
 
--- the last of rising numbers stands once
+-- what is in a list of numbers above x is above x
 pub above_in : (x : ℕ) (xs : List ℕ) (y : ℕ) → AllByRecursion (λ z. x < z) xs → Contains xs y → x < y
 above_in x [] y all c = absurd (let l = c.1 in omega arith)
 above_in x (z ∷ xs) y all (zero, l, e) = subst (λ k. x < k) e all.0
@@ -116,7 +116,7 @@ front_are xs y a = let e = length_last xs y in let few = a.0 in let f = front_al
 
 -- ---- what is held
 
--- one row more
+-- with one row more taken, just the rows and that one are held
 pub held_more : (held : List Held) (rows : List TakenRow) (r : TakenRow) → AreHeld held None rows [] undrawn
     → AreVariables (vars_of rows ++ r.var ∷ []) → AreHeld (new_held (suc r.var) (slot.Row r.row) ∷ held) None (rows ++ r ∷ []) [] undrawn
 held_more held rows r a are = record {
@@ -148,7 +148,7 @@ held_last held list rows r tails drew a =
     a.at (suc r.var) ∙ ap (held_by tails drew)
     (row_last rows r r.var refl (last_once (vars_of rows) r.var (subst AreVariables (vars_pushed rows r) a.are).1))
 
--- it was put back
+-- once the last row is put back, just the others are held
 pub held_fewer : (held : List Held) (list : Option Held) (rows : List TakenRow) (r : TakenRow) (tails : List ℕ) (drew : ℕ → Option Draw)
     → AreHeld held list (rows ++ r ∷ []) tails drew → AreHeld (without (suc r.var) held) list rows tails drew
 held_fewer held list rows r tails drew a =
@@ -216,7 +216,7 @@ unused_none held u = held_none held u.tails u.drew u.holds
 pub last_near : (held : List Held) (rows : List TakenRow) (r : TakenRow) → AreUnused held (rows ++ r ∷ []) → r.var < VARIABLES
 last_near held rows r u = (front_are (vars_of rows) r.var (subst AreVariables (vars_pushed rows r) u.holds.are)).1
 
--- a variable behind those of the rows is not held, nor is the list where it is none of what is held
+-- the row of a variable behind those of the rows is not held
 pub lacks_next : (held : List Held) (rows : List TakenRow) (y : ℕ) → AreHeld held None rows [] undrawn
     → AreVariables (vars_of rows ++ y ∷ []) → DoesNotHold held (suc y)
 lacks_next held rows y a are h c e =

@@ -19,7 +19,7 @@ use Rattle.gl_table.specs.Putting.{MayOpenOn, MayPutBack, held_at, opened}
 use Rattle.gl_table.proofs.Doing.{with_row}
 use Rattle.gl_txn.proofs.Finding.{found_here, found_at, without_here}
 
--- the block of a thread that runs
+-- a thread that runs has a last event, which is its block
 pub block_is : (es : List Entry) → life_of es ≡ Running → last_position es ≡ Some (block_of es)
 block_is es runs = let b = has_block es runs in b.1 ∙ ap (λ (o : Option ℕ). Some (or_zero o)) (sym b.1)
 
@@ -65,7 +65,7 @@ with_look_on p x row n value = opened (with_row p x row) x n (Some value)
 abbrev pub looked_held : PassView → ℕ → Row → ℤ → Held
 looked_held p x row value = record (new_held (suc x) (slot.Row row)) { drew = Some (draw p.own.id (block_of p.own.mine) (Looked value)) }
 
--- what is held then
+-- once its number is drawn, just this row is held
 held_then : (p : PassView) (x : ℕ) (row : Row) (n : ℕ) (value : ℤ) → p.own.held ≡ [] → (with_look_on p x row n value).own.held
     ≡ looked_held p x row value ∷ []
 held_then p x row n value held =

@@ -54,6 +54,7 @@ key_of x (k ∷ ls) m (suc i, n, is) same = let r = key_of x ls m (i, omega arit
 
 -- where no number on x waits, the numbers of the looks go on to be those that wait, with one more
 module _ (a : Attempting) (o : Own) (d : Draws a o) (l : Look) (out : looked a l.var ≡ None) where
+  -- no number on the look's variable waits
   none_on : (q : Drawn) → Contains o.drawn q → q.var ≢ l.var
   none_on q c e = by_look q.look refl
     where
@@ -64,6 +65,7 @@ module _ (a : Attempting) (o : Own) (d : Draws a o) (l : Look) (out : looked a l
           c) in
           not_found of_look l.var a.looks out (key_of l.var a.looks (record { var = q.var; value = v; nth = q.nth }) has e)
 
+  -- with the new look's number, those that wait are the numbers of the attempt's looks with that one, at most one a variable
   pub draws_more : Draws (with_look l.var l.value l.nth a) (record o { drawn = o.drawn ++ drawn_of l ∷ [] })
   draws_more = record {
     looks = λ y k value. (

@@ -43,7 +43,7 @@ none_at zero k = refl
 none_at (suc n) zero = refl
 none_at (suc n) (suc k) = none_at n k
 
--- whether the writes have x, and the word that they give it
+-- a variable with a write is among those that were written, and its value is that of the write
 written_by : (x : ℕ) (ws : List Pair) (v : ℤ) → write_in ws x ≡ Some v → (is_in x (map (λ w. w.var) ws) ≡ true) × (value_in x ws ≡ v)
 written_by x [] v e = absurd (cc)
 written_by x (w ∷ ws) v e = elim (ℕ_discrete x w.var) [
@@ -67,7 +67,7 @@ module _ (setting : Setting) (l : List Stamp) (x t n : ℕ) (near : t < THREADS)
   abbrev d : Draw
   d = draw t n (Entered (Commit n tx))
 
-  -- a write is the last write, and drops the reads
+  -- a row whose last write is the commit, with no reads and its word, stands with the commit as the last draw
   pub wrote_stands : (v : ℤ) → write_in tx.writes x ≡ Some v → (new : Row) → new.value ≡ v → new.last_write ≡ Some i → new.reads
       ≡ replicate THREADS None → InfoFor setting l i (access_of (draw t n (Entered (Commit n tx)))) true
       → RowStands setting l x (draw t n (Entered (Commit n tx)) ∷ ds) new
@@ -81,9 +81,11 @@ module _ (setting : Setting) (l : List Stamp) (x t n : ℕ) (near : t < THREADS)
         reads = λ u. (let r : read_of new.reads u ≡ None = ap (λ xs. read_of xs u) reads ∙ none_at THREADS u in rw (iw, r) tt);
       }
 
+  -- the row has a place for the thread's read
   there : t < length old.reads
   there = let k = s.threads in omega arith
 
+  -- with i in that place, each thread's read in the row stands for its last read, and that of thread t for the commit
   by_read : (new : Row) (u : ℕ) → new.reads ≡ slice_set old.reads t (Some i)
       → InfoFor setting l i (access_of (draw t n (Entered (Commit n tx)))) false
       → InfoOf setting l false (read_of new.reads u) (if t == u then Some (draw t n (Entered (Commit n tx))) else last_read x u ds)
@@ -100,7 +102,7 @@ module _ (setting : Setting) (l : List Stamp) (x t n : ℕ) (near : t < THREADS)
         rw (b, r) (s.reads u))
   ]
 
-  -- a read is its thread's
+  -- so does one in which the commit is its thread's read, where it writes nothing there
   pub read_stands : write_in tx.writes x ≡ None → (new : Row) → new.value ≡ old.value → new.last_write ≡ old.last_write → new.reads
       ≡ slice_set old.reads t (Some i) → InfoFor setting l i (access_of (draw t n (Entered (Commit n tx)))) false
       → RowStands setting l x (draw t n (Entered (Commit n tx)) ∷ ds) new
@@ -116,6 +118,7 @@ module _ (setting : Setting) (l : List Stamp) (x t n : ℕ) (near : t < THREADS)
 -- the Info of an own commit, directly behind it, stands for it over each fitting list
 module _ (p : PassView) (rows : List TakenRow) (base : Question) (at : ℕ) (c : AreCommitted p rows base at) (write : Bool) (i : Info)
     (is : IsNewInfo (record base { write = write }) at i) where
+  -- over each list that fits the pass, such an Info stands for the commit's access
   pub info_stands : (setting : Setting) (l : List Stamp) → IsFitting setting (shelf_of p) p.seen p.known l
       → InfoFor setting l i (access_of (draw p.own.id c.position (Entered (Commit c.position c.tx)))) write
   info_stands setting l fits = commit_stands setting (shelf_of p) p.seen p.known c.position c.tx write i (record {
@@ -139,15 +142,19 @@ some_info i j e = cc
 
 module _ (setting : Setting) (p : PassView) (rows : List TakenRow) (base : Question) (at : ℕ) (r : TakenRow)
     (c : AreCommitted p (rows ++ r ∷ []) base at) (new : Row) where
+  -- the last row is held, with the commit drawn on it
   last : found (suc r.var) p.own.held ≡ Some (row_held c.tails (drew_commit_at p c.tx c.position) r)
   last = held_last p.own.held None rows r c.tails (drew_commit_at p c.tx c.position) c.held
 
+  -- the word that is to be written to it is the one that the transaction writes there
   word : r.write ≡ write_in c.tx.writes r.var
   word = c.writes r (Contains-append_right rows (r ∷ []) r (0, omega arith, refl))
 
+  -- the thread is one that there is
   t_near : p.own.id < THREADS
   t_near = subst (λ k. k < THREADS) c.thread c.near
 
+  -- over each fitting list over which the row stood as it was taken, the noted row stands with the commit as the last draw
   follows_by : (w : Option ℤ) → r.write ≡ w → IsNotedRow base at w r.row new → (l : List Stamp)
       → IsFitting setting (shelf_of p) p.seen p.known l → (ds : List Draw) → RowStands setting l r.var ds r.row
       → RowStands setting l r.var (draw p.own.id c.position (Entered (Commit c.position c.tx)) ∷ ds) new
@@ -166,9 +173,11 @@ module _ (setting : Setting) (p : PassView) (rows : List TakenRow) (base : Quest
   abbrev Above : Info → Type 0
   Above i = ((n : ℕ) × Contains c.tails n × (n ≤ i.pos)) ⊎ ((o : Info) × InRow r.row o × (o.pos ≤ i.pos))
 
+  -- an Info that stands directly behind the commit stands at a tail that was seen since the row was taken
   above_new : (i info : Info) → info ≡ i → info.pos ≡ at → Above i
   above_new i info e pos = inl (at, c.fresh, (let q = ap (λ (z : Info). z.pos) e in omega arith))
 
+  -- each Info of the noted row stands at or behind such a tail, or no lower than one of the row as it was taken
   above_by : (w : Option ℤ) → IsNotedRow base at w r.row new → (i : Info) → InRow new i → Above i
   above_by None noted i (inl e) = let k = noted.read refl in inr (i, inl (sym k.0 ∙ e), omega arith)
   above_by None noted i (inr (u, e)) =
@@ -192,6 +201,7 @@ module _ (setting : Setting) (p : PassView) (rows : List TakenRow) (base : Quest
       absurd (let z : None ≡ Some i = sym (none_at THREADS u) ∙ ap (λ xs. read_of xs u) (sym k.1)
       ∙ sym (ap (λ (z : Row). read_of z.reads u) noted.2) ∙ e in cc)
 
+  -- so the noted row may be put back
   pub may_put_noted : IsNotedRow base at r.write r.row new → MayPutBack setting (shelf_of p) (view_of p) (suc r.var) (slot.Row new) false
   may_put_noted noted = record {
     held = row_held c.tails (drew_commit_at p c.tx c.position) r;
@@ -204,9 +214,11 @@ module _ (setting : Setting) (p : PassView) (rows : List TakenRow) (base : Quest
     quiet = λ e. absurd (cc);
   }
 
+  -- its variable is one that there is
   pub noted_near : r.var < VARIABLES
   noted_near = (front_are (vars_of rows) r.var (subst AreVariables (vars_pushed rows r) c.held.are)).1
 
+  -- once it is put back, the pass holds the other rows of its commit
   pub noted_fewer : (q : PassView) → q ≡ after p (left (view_of p) (suc r.var) false) → AreCommitted q rows base at
   noted_fewer q is = subst (λ (z : PassView). AreCommitted z rows base at) (sym (put_is p q r.var is)) (record {
     tx = c.tx;

@@ -33,7 +33,7 @@ pub keys_last : (ns : List Number) (n : Number) → numbered (ns ++ n ∷ []) �
 keys_last [] n = refl
 keys_last (k ∷ ns) n = ap (λ (l : List ℕ). k.var ∷ l) (keys_last ns n)
 
--- the variable of the row at a place
+-- the variable at a place of the rows' variables is that of the row there
 pub var_at : (rows : List TakenRow) (i : ℕ) (r : TakenRow) → slice_get rows i ≡ Some r → (i < length (vars_of rows))
     × (get_or (vars_of rows) i 0 ≡ r.var)
 var_at [] i r e = absurd (cc)
@@ -64,26 +64,31 @@ near_in (x ∷ xs) (suc i) all near = near_in xs i all.1 (omega arith)
 -- the row at place i, where those before it have their number
 module _ (rows : List TakenRow) (i : ℕ) (r : TakenRow) (there : slice_get rows i ≡ Some r) (are : AreVariables (vars_of rows))
     (numbers : List Number) (done : numbered numbers ≡ take i (vars_of rows)) where
+  -- the row's variable is one that there is
   pub near_var : r.var < VARIABLES
   near_var = let v = var_at rows i r there in subst (λ k. k < VARIABLES) v.1 (near_in (vars_of rows) i are.2 v.0)
 
+  -- with it, the variables that have a number rise
   pub rises_on : Rises (numbered numbers ++ r.var ∷ [])
   rises_on = let v = var_at rows i r there in subst (λ l. Rises (l ++ r.var ∷ [])) (sym done)
       (subst (λ k. Rises (take i (vars_of rows) ++ k ∷ [])) v.1 (take_are (vars_of rows) i are v.0).1)
 
+  -- it has no number yet
   pub not_numbered : Contains (numbered numbers) r.var → ⊥
   not_numbered = last_once (numbered numbers) r.var rises_on
 
+  -- the row is the one that is found for it
   pub found_there : row_at rows r.var ≡ Some r
   found_there = row_found rows i r are.1 there
 
+  -- with a number on it, just the variables of the rows up to place i have one
   pub numbered_on : (nth : ℕ) → numbered (numbers ++ record { var = r.var; nth = nth } ∷ []) ≡ take (i + 1) (vars_of rows)
   numbered_on nth =
       let v = var_at rows i r there in
       keys_last numbers (record { var = r.var; nth = nth }) ∙ ap (λ l. l ++ r.var ∷ []) done
       ∙ ap (λ k. take i (vars_of rows) ++ k ∷ []) (sym v.1) ∙ sym (take_more (vars_of rows) i 0 v.0)
 
--- no number is drawn yet
+-- a pass on whose held rows nothing was drawn has drawn no number
 pub drawn_none : (p : PassView) (list : Option Held) (rows : List TakenRow) (tails : List ℕ) → AreHeld p.own.held list rows tails undrawn
     → HasDrawn p p list rows tails []
 drawn_none p list rows tails a = record {

@@ -24,10 +24,12 @@ module _ (held : List Held) (rows : List TakenRow) (tails : List ℕ) (a : AreHe
   abbrev pub list_held : Held
   list_held = with_tail n (new_held 0 y)
 
+  -- a row as it was held becomes, with that tail seen, the row with one tail more
   at_tail : (o : Option TakenRow) → changed (with_tail n) (held_by tails undrawn o) ≡ held_by (n ∷ tails) undrawn o
   at_tail None = refl
   at_tail (Some r) = refl
 
+  -- so just the list and these rows are held, each of them once, with the tail seen
   pub held_reached : AreHeld (map (with_tail n) (new_held 0 y ∷ held)) (Some (with_tail n (new_held 0 y))) rows (n ∷ tails) undrawn
   held_reached = record {
     at = at;
@@ -47,6 +49,7 @@ module _ (held : List Held) (l : Held) (l0 : l.object ≡ 0) (rows : List TakenR
   abbrev pub changes : Held → Held
   changes h = after_publish n y (drew_commit ys d) h
 
+  -- publishing changes the number of no held object
   same_object : (h : Held) → (after_publish n y (drew_commit ys d) h).object ≡ h.object
   same_object h = by_bool (h.object == 0)
     where
@@ -55,6 +58,7 @@ module _ (held : List Held) (l : Held) (l0 : l.object ≡ 0) (rows : List TakenR
       by_bool true = refl
       by_bool false = refl
 
+  -- a held row of one of the commit's variables gets the new tail, and the commit drawn on it
   changes_row : (r : TakenRow) → Contains ys r.var → after_publish n y (drew_commit ys d) (row_held tails drew r)
       ≡ row_held (suc n ∷ tails) (λ z. Some d) r
   changes_row r c =
@@ -62,6 +66,7 @@ module _ (held : List Held) (l : Held) (l0 : l.object ≡ 0) (rows : List TakenR
       let b : is_in r.var ys ≡ true = contains-is_in r.var ys c in
       rw (f, b) refl
 
+  -- so does whatever is held of a variable
   at_row : (z : ℕ) (o : Option TakenRow) → row_at rows z ≡ o → changed (after_publish n y (drew_commit ys d)) (held_by tails drew o)
       ≡ held_by (suc n ∷ tails) (λ z. Some d) o
   at_row z None e = refl
@@ -73,6 +78,7 @@ module _ (held : List Held) (l : Held) (l0 : l.object ≡ 0) (rows : List TakenR
       in_vars_of (x ∷ xs) r (zero, l, e) = (0, omega arith, ap (λ (z : TakenRow). z.var) e)
       in_vars_of (x ∷ xs) r (suc k, l, e) = let f = in_vars_of xs r (k, omega arith, e) in (suc f.0, (let l = f.1 in omega arith), f.2)
 
+  -- so just these rows are held, each of them once, with the new tail and the commit drawn on them
   pub held_published : AreHeld (without 0 (map (after_publish n y (drew_commit ys d)) held)) None rows (suc n ∷ tails) (λ z. Some d)
   held_published = record {
     at = at;

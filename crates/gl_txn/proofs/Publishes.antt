@@ -71,10 +71,12 @@ module _ (z : TableView) (o : PassView) (rows : List TakenRow) (tx : Tx) (l : Li
   abbrev pub the_list : Held
   the_list = with_tail tail (new_held 0 (slot.List l))
 
+  -- the pass holds just the list and the rows, with this tail seen
   pub held_there : AreHeld (with_room o l low tail).own.held (Some (with_tail tail (new_held 0 (slot.List l)))) rows (tail ∷ o.seen ∷ [])
       undrawn
   held_there = held_reached o.own.held rows (o.seen ∷ []) R.held (slot.List l) tail
 
+  -- so it may draw the numbers of the commit
   pub numbers_there : MayNumber (with_room o l low tail) rows
   numbers_there = record {
     list = Some (with_tail tail (new_held 0 (slot.List l)));
@@ -100,31 +102,38 @@ module _ (z : TableView) (o : PassView) (rows : List TakenRow) (tx : Tx) (l : Li
     abbrev end : Tx
     end = record { looks = tx.looks; writes = tx.writes; numbers = numbers }
 
+    -- the numbers are on just the variables of the transaction
     are : numbered numbers ≡ variables_of tx
     are = all ∙ R.of
 
+    -- the variables of the transaction rise
     rises : Rises (variables_of tx)
     rises = subst Rises R.of R.held.are.1
 
+    -- the pass holds just the list and the rows, each row of the transaction's variables marked for its end
     held : AreHeld H (Some (with_tail tail (new_held 0 (slot.List l)))) rows (tail ∷ o.seen ∷ [])
         (drew_on (with_room o l low tail) (variables_of tx))
     held = subst (λ ys. AreHeld H (Some (with_tail tail (new_held 0 (slot.List l)))) rows (tail ∷ o.seen ∷ [])
         (drew_on (with_room o l low tail) ys)) are drawn_held
 
+    -- before the numbers of the end, those that wait are the numbers of the attempt's looks, at most one a variable
     draws : Draws (attempt_in tx) (with_room o l low tail).own
     draws = record { looks = R.draws.looks; ends = R.draws.ends; each = R.draws.each }
 
+    -- each variable of the transaction is one of the rows'
     in_by : (y : ℕ) → is_in y (variables_of tx) ≡ true → is_in y (vars_of rows) ≡ true
     in_by y b = subst (λ ys. is_in y ys ≡ true) (sym R.of) b
 
     abbrev in_rows : (y : ℕ) → is_in y (variables_of tx) ≡ true → (r : TakenRow) × (row_at rows y ≡ Some r)
     in_rows y b = row_of rows y (in_by y b)
 
+    -- the variable of a row is among those of the rows
     among : (xs : List TakenRow) (r : TakenRow) → Contains xs r → Contains (vars_of xs) r.var
     among [] r c = absurd (let n = c.1 in omega arith)
     among (x ∷ xs) r (zero, n, e) = (0, omega arith, ap (λ (z : TakenRow). z.var) e)
     among (x ∷ xs) r (suc k, n, e) = let f = among xs r (k, omega arith, e) in (suc f.0, (let n = f.1 in omega arith), f.2)
 
+    -- where the Infos of the row of each of the transaction's variables stand for accesses, those of all rows do
     stand_all : (setting : Setting) (k : List Stamp)
         → ((y : ℕ) (b : is_in y (variables_of tx) ≡ true) → InfosStand setting k (in_rows y b).0.row) → (r : TakenRow) → Contains rows r
         → InfosStand setting k r.row
@@ -133,10 +142,12 @@ module _ (z : TableView) (o : PassView) (rows : List TakenRow) (tx : Tx) (l : Li
         let d : is_in r.var (variables_of tx) ≡ true = subst (λ ys. is_in r.var ys ≡ true) R.of b in
         subst (λ (u : TakenRow). InfosStand setting k u.row) (row_is rows R.held.are.1 r c (in_by r.var d)) (stand r.var d)
 
+    -- the numbers are on just the variables of the transaction, each above that of a look of the same variable
     names : NumbersName (record { looks = tx.looks; writes = tx.writes; numbers = numbers }) (variables_of tx)
     names = names_one (attempt_in tx) tx.writes (with_room o l low tail) H (Some (with_tail tail (new_held 0 (slot.List l)))) rows (tail
         ∷ o.seen ∷ []) numbers (variables_of tx) draws are rises held above in_rows R.runs
 
+    -- so the transaction may be committed, as it was judged over the events that were seen before the list was taken
     commits : MayCommit z.key.setting (shelf_of o)
         (view_of (record (with_room o l low tail) {
           own = record (with_room o l low tail).own { held = H; drawn = o.own.drawn ++ map end_of numbers };
@@ -174,6 +185,7 @@ module _ (z : TableView) (o : PassView) (rows : List TakenRow) (tx : Tx) (l : Li
           (subst (λ n. SomeFails k r.row (asked_of o.own.id tx n)) (sym at) fails));
     }
 
+    -- the commit is a step of the machine from the list's state, and leaves that state
     steps : (now : State) → IsStateOf l now → (new : State)
         × Step z.key.setting now (commit_stamp o.own.id (record { looks = tx.looks; writes = tx.writes; numbers = numbers })) (pos 0) new
         × IsStateOf l new
@@ -224,9 +236,11 @@ module _ (setting : Setting) (q r : PassView) (l : ListView) (t : Held) (object 
   abbrev list_after : Held
   list_after = after_publish n (slot.List l) (drew_commit (variables_of tx) (draw q.own.id n (Entered (Commit n tx)))) t
 
+  -- the list may be put back with the value that is held of it
   leave_list : (s : _) (v : View) (h : Held) (k : ℕ) (x y : Slot) → k ≡ 0 → y ≡ x → MayLeaveAt setting s v h k x y
   leave_list s v h k x y e same = subst (λ z. MayLeaveAt setting s v h z x y) (sym e) same
 
+  -- so the list may be put back once the commit was published
   pub list_back : MayPutBack setting (shelf_of r) (view_of r) 0 (slot.List l) false
   list_back =
       let drew : Held → Option Draw = drew_commit (variables_of tx) (draw q.own.id n (Entered (Commit n tx))) in
@@ -242,9 +256,11 @@ module _ (setting : Setting) (q r : PassView) (l : ListView) (t : Held) (object 
       })
 
   module _ (s : PassView) (put : s ≡ after r (left (view_of r) 0 false)) where
+    -- the pass is then the one that published the commit and put the list back
     whole : s ≡ after (published_tx q tx n l) (left (view_of (published_tx q tx n l)) 0 false)
     whole = put ∙ ap (λ (r : PassView). after r (left (view_of r) 0 false)) is
 
+    -- where the question is of the commit, the pass holds just its rows, with the commit as the last event that it has seen
     pub committed : (rows_written : Rattle.gl_txn.specs.Holding.HaveWrites tx.writes rows) (base : Question) → base.thread ≡ s.own.id
         → base.thread < THREADS → base.commit ≡ Some (variables_of tx)
         → ((setting : Setting) (k : List Stamp) (now : State) → AreEvents k s.own.id s.own.mine → Allows setting k now
@@ -269,6 +285,8 @@ module _ (setting : Setting) (q r : PassView) (l : ListView) (t : Held) (object 
       owned = owned;
     }
 
+    -- once all is put back, the pass has the commit at n more in its list and among what it knows, no number waits, and it has seen the
+    -- tail behind n
     pub published_is : (p u : PassView) (numbers : List Number) → q
         ≡ record p {
           own = record p.own { held = q.own.held; drawn = p.own.drawn ++ map end_of numbers };

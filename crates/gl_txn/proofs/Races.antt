@@ -82,11 +82,13 @@ says_same s a b q u verdict e f says = subst (λ (u : Question). Says s b u verd
 
 module _ (p q : PassView) (rows : List TakenRow) (base : Question) (writes : List Pair) (m : MayJudge p rows base) (k : KnowsOn p q)
     (i : ℕ) (r : TakenRow) (there : slice_get rows i ≡ Some r) where
+  -- a row that stands at a place is in the list
   in_place : (xs : List TakenRow) (j : ℕ) → slice_get xs j ≡ Some r → Contains xs r
   in_place [] j e = absurd (cc)
   in_place (x ∷ xs) zero e = (0, omega arith, (let same : x ≡ r = cc in same))
   in_place (x ∷ xs) (suc j) e = let c = in_place xs j e in (suc c.0, (let l = c.1 in omega arith), c.2)
 
+  -- the pass holds the row at place i
   pub holds_it : HoldsRow q r.row
   holds_it = subst (λ (z : PassView). HoldsRow z r.row) (sym k.is) (
     row_held m.tails m.drew r,
@@ -96,6 +98,7 @@ module _ (p q : PassView) (rows : List TakenRow) (base : Question) (writes : Lis
     refl,
   )
 
+  -- the Infos of this row stand within what the pass has seen
   pub within_it : Rattle.gl_draws.specs.RowFacts.IsWithin r.row q.seen
   within_it = subst (λ (z : PassView). Rattle.gl_draws.specs.RowFacts.IsWithin r.row z.seen) (sym k.is) (m.within r (in_place rows i there))
 
@@ -120,18 +123,23 @@ module _ (p q : PassView) (rows : List TakenRow) (base : Question) (writes : Lis
   -- what a check answered
   module _ (s : PassView) (w : HasWalked r.row q s) (verdict : Verdict)
       (says : Says s r.row (asked_on base writes r.var) verdict) where
+    -- over each list that fits the pass, and over which the rows' Infos stand for accesses, the check says Race just where the commit
+    -- completes a race on the row
     pub says_on : (setting : Setting) (l : List Stamp) → IsFitting setting (shelf_of s) s.seen s.known l
         → ((u : TakenRow) → Contains rows u → InfosStand setting l u.row)
         → (verdict ≡ Race) ↔ SomeFails l r.row (asked_on base writes r.var)
     says_on setting l fits stand = says setting l fits (next s (knows_more r.row p q s k w) setting l fits)
         (stand_judged setting l r.row (stand r (in_place rows i there)))
 
+    -- rows that are equal as options are equal
     some_is : (u v : TakenRow) → Some u ≡ Some v → u ≡ v
     some_is u v e = cc
 
+    -- the rows before place i that were clear before the check are clear after it
     before_on : AreClearBefore i q base writes rows → AreClearBefore i s base writes rows
     before_on before j u near at = over_more r.row q s rows (λ l. SomeFails l u.row (asked_on base writes u.var) → ⊥) w (before j u near at)
 
+    -- where the check does not say Race, the rows before place i + 1 are clear, if those before place i are
     pub clear_next : (verdict ≡ Race → ⊥) → AreClearBefore i q base writes rows → AreClearBefore (i + 1) s base writes rows
     clear_next clear before j u near at = elim (cases_lt j i) [
       | inl low ↦ before_on before j u low at
@@ -140,6 +148,7 @@ module _ (p q : PassView) (rows : List TakenRow) (base : Question) (writes : Lis
           (λ setting l fits stand fails. clear ((says_on setting l fits stand).1 fails)))
     ]
 
+    -- where it does, and the rows before place i are clear, the first race is on this row's variable
     pub race_here : verdict ≡ Race → AreClearBefore i q base writes rows → IsFirstRace s base writes rows r.var
     race_here race before = record {
       place = i;

@@ -72,10 +72,12 @@ module _ (p q r : PassView) (rows : List TakenRow) (tx : Tx) (h : HoldsRows p ro
   abbrev T : PassView
   T = after p (saw_tail (view_of p) n)
 
+  -- the pass is the one that saw the tail, but for the events that it has come to know since, their words and its steps
   is : r ≡ record (after p (saw_tail (view_of p) n)) { known = p.known ++ k.more; loaded = r.loaded; moves = r.moves }
   is = ap (λ (u : PassView). record u { moves = r.moves }) k.is
       ∙ ap (λ (u : PassView). record u { known = u.known ++ k.more; loaded = r.loaded; moves = r.moves }) saw
 
+  -- it may draw the numbers of the attempt's end
   pub may_number_seen : MayNumber r rows
   may_number_seen = subst (λ (u : PassView). MayNumber u rows) (sym is)
       (record {
@@ -88,29 +90,37 @@ module _ (p q r : PassView) (rows : List TakenRow) (tx : Tx) (h : HoldsRows p ro
         each = h.draws.each;
       })
 
+  -- once the tail is seen, the numbers that wait are those of the attempt's looks, at most one a variable
   draws_seen : Draws (attempt_in tx) (after p (saw_tail (view_of p) n)).own
   draws_seen = record { looks = h.draws.looks; ends = h.draws.ends; each = h.draws.each }
 
+  -- so they are of the judging pass
   pub draws_now : Draws (attempt_in tx) r.own
   draws_now = subst (λ (u : PassView). Draws (attempt_in tx) u.own) (sym is) draws_seen
 
+  -- where the question that was judged fails on a row, that of the transaction does
   test_same : (id : ℕ) → id ≡ p.own.id → (l : List Stamp) (row : Row) (y : ℕ) → SomeFails l row (asked_on base tx.writes y)
       → SomeFails l row (asked_of id tx y)
   test_same id e l row y f = same_test l row (asked_on base tx.writes y) (asked_of id tx y) (thread ∙ sym e) refl commit f
 
+  -- and where that of the transaction fails on it, the one that was judged does
   test_back : (id : ℕ) → id ≡ p.own.id → (l : List Stamp) (row : Row) (y : ℕ) → SomeFails l row (asked_of id tx y)
       → SomeFails l row (asked_on base tx.writes y)
   test_back id e l row y f = same_test l row (asked_of id tx y) (asked_on base tx.writes y) (e ∙ sym thread) refl (sym commit) f
 
+  -- the pass is of the same thread
   id_is : r.own.id ≡ p.own.id
   id_is = ap (λ (u : PassView). u.own.id) is
 
+  -- it holds just the rows, as they were taken, with the tail seen that it has seen last
   seen_held : AreHeld r.own.held None rows (r.seen ∷ []) undrawn
   seen_held = subst (λ (u : PassView). AreHeld u.own.held None rows (u.seen ∷ []) undrawn) (sym is) (held_tail p.own.held rows [] h.held n)
 
+  -- its own events stand below that tail
   seen_below : AreBelow r.seen (shelf_of r)
   seen_below = subst (λ (u : PassView). AreBelow u.seen (shelf_of u)) (sym is) below
 
+  -- where no word was changed and the first race is on x, the commit completes a race on x and on no variable below
   pub races_on : AreUnchangedIn tx.looks rows → AreVariables (map (λ l. l.var) tx.looks) → (x : ℕ) → IsFirstRace r base tx.writes rows x
       → RacesOn r rows tx x
   races_on unchanged looks x f = record {
@@ -129,6 +139,7 @@ module _ (p q r : PassView) (rows : List TakenRow) (tx : Tx) (h : HoldsRows p ro
         (test_back r.own.id id_is l u.row u.var fails);
   }
 
+  -- where no word was changed and all rows are clear, the pass is ready to commit
   pub is_ready : AreClear r base tx.writes rows → AreUnchangedIn tx.looks rows → AreVariables (map (λ l. l.var) tx.looks)
       → IsReady r rows tx
   is_ready clear unchanged looks = record {
@@ -145,6 +156,7 @@ module _ (p q r : PassView) (rows : List TakenRow) (tx : Tx) (h : HoldsRows p ro
     clear = λ j u at setting l fits stand fails. clear j u at setting l fits stand (test_back r.own.id id_is l u.row u.var fails);
   }
 
+  -- an end that is stored by the judging pass leaves the pass as one that is stored right after the rows were taken
   pub ends_seen : (e : TxEnd) (s : PassView) → EndsAs tx e r s → EndsAs tx e p s
   ends_seen e s f = record {
     ended = f.ended;
@@ -155,6 +167,7 @@ module _ (p q r : PassView) (rows : List TakenRow) (tx : Tx) (h : HoldsRows p ro
     spare = f.spare ∙ ap (λ (u : PassView). u.spare - 1) is;
   }
 
+  -- and so does putting all back
   pub back_seen : (s : PassView) → IsPutBack r s → IsPutBack p s
   back_seen s f = record {
     own = f.own ∙ ap (λ (u : PassView). record u.own { held = [] }) is;
@@ -163,9 +176,11 @@ module _ (p q r : PassView) (rows : List TakenRow) (tx : Tx) (h : HoldsRows p ro
     spare = f.spare ∙ ap (λ (u : PassView). u.spare) is;
   }
 
+  -- the pass is of the same table
   pub seen_table : r.own.table ≡ p.own.table
   seen_table = ap (λ (u : PassView). u.own.table) is
 
+  -- and has as much spare room in its list
   pub seen_spare : r.spare ≡ p.spare
   seen_spare = ap (λ (u : PassView). u.spare) is
 
@@ -237,7 +252,7 @@ may_try_writes z p a b e m = record {
   };
 }
 
--- ---- causes
+-- ---- why an attempt ended, or has to wait
 
 -- a row that stands at a place is in the list
 in_at : (rows : List TakenRow) (i : ℕ) (r : TakenRow) → slice_get rows i ≡ Some r → Contains rows r
@@ -251,7 +266,7 @@ at_in [] r c = absurd (let l = c.1 in omega arith)
 at_in (x ∷ xs) r (zero, l, e) = (0, ap (λ (z : TakenRow). Some z) e)
 at_in (x ∷ xs) r (suc k, l, e) = let f = at_in xs r (k, omega arith, e) in (suc f.0, f.1)
 
--- words that are unchanged in the rows, by places and by looks
+-- where the looks' variables rise, each look is the one that is found for the variable of its row
 look_same : (a : Tx) (l : Look) (r : TakenRow) → Rises (map (λ l. l.var) a.looks) → Contains a.looks l → r.var ≡ l.var
     → look_in a.looks r.var ≡ Some l
 look_same a l r rises c e = ap (look_in a.looks) e ∙ look_found a.looks rises l c
@@ -269,13 +284,16 @@ module _ (p q r : PassView) (rows : List TakenRow) (tx : Tx) (h : HoldsRows p ro
   abbrev J : PassView
   J = record (after p (saw_tail (view_of p) n)) { known = p.known ++ k.more; loaded = r.loaded; moves = r.moves }
 
+  -- the pass is the one that saw the tail, but for the events that it has come to know since, their words and its steps
   at_j : r ≡ record (after p (saw_tail (view_of p) n)) { known = p.known ++ k.more; loaded = r.loaded; moves = r.moves }
   at_j = ap (λ (u : PassView). record u { moves = r.moves }) k.is
       ∙ ap (λ (u : PassView). record u { known = u.known ++ k.more; loaded = r.loaded; moves = r.moves }) saw
 
+  -- it has seen the tail n
   seen_j : r.seen ≡ n
   seen_j = ap (λ (u : PassView). u.seen) at_j
 
+  -- it has read no turn, hold or stop word since
   reads_j : r.reads ≡ p.reads
   reads_j = ap (λ (u : PassView). u.reads) at_j
 
@@ -286,6 +304,7 @@ module _ (p q r : PassView) (rows : List TakenRow) (tx : Tx) (h : HoldsRows p ro
       over setting l (subst (λ (u : PassView). IsFitting setting (shelf_of u) r.seen r.known l) (sym at_j)
       (fits_before setting (shelf_of p) r.seen r.known more l (subst (λ ks. IsFitting setting (shelf_of p) r.seen ks l) e fits))) stand
 
+  -- where all rows are clear, nothing speaks against the commit, also where the pass knows more events by then
   pub is_clear_by : AreClear r base tx.writes rows → (setting : Setting) (s : PassView) (more : List (ℕ × Stamp)) → s.known ≡ r.known
       ++ more → (most : ℕ) → r.seen ≤ most → IsClear setting (attempt_in tx) (shelf_of p) p.seen most rows s
   is_clear_by clear setting s more known most within = record {
@@ -301,6 +320,7 @@ module _ (p q r : PassView) (rows : List TakenRow) (tx : Tx) (h : HoldsRows p ro
         (same_test l u.row (asked_of p.own.id tx u.var) (asked_on base tx.writes u.var) (sym thread) refl (sym commit) fails));
   }
 
+  -- where all rows are clear, a commit for which the list was reached has its cause
   pub done_cause : (z : TableView) → AreClear r base tx.writes rows → (e : TxEnd) (s : PassView) → ReachedEnd z e r s
       → IsCauseBy z (attempt_in tx) e (shelf_of p) p.seen p.reads rows s
   done_cause z clear (end.Done at) s d = record {
@@ -316,6 +336,7 @@ module _ (p q r : PassView) (rows : List TakenRow) (tx : Tx) (h : HoldsRows p ro
   done_cause z clear (end.Raised var) s d = absurd d
   done_cause z clear (end.Changed var read found) s d = absurd d
 
+  -- where all rows are clear, a wait for the list or for room has its cause
   pub wait_cause : (z : TableView) → AreClear r base tx.writes rows → (w : TxWait) (s : PassView) → ReachedWait z w r s
       → IsWaitBy z (attempt_in tx) w (shelf_of p) p.seen p.reads rows s
   wait_cause z clear (wait.Busy by) s d = record {
@@ -333,6 +354,7 @@ module _ (p q r : PassView) (rows : List TakenRow) (tx : Tx) (h : HoldsRows p ro
     full = d.full;
   }
 
+  -- where the first race is on x, an attempt that is dropped has the cause of one that was raised on x
   pub raised_cause : (z : TableView) (x : ℕ) → IsFirstRace r base tx.writes rows x → (why : _) (s : PassView) → HasDropped tx why r s
       → IsCauseBy z (attempt_in tx) (end.Raised x) (shelf_of p) p.seen p.reads rows s
   raised_cause z x f why s d =
@@ -359,7 +381,7 @@ module _ (p q r : PassView) (rows : List TakenRow) (tx : Tx) (h : HoldsRows p ro
             (same_test l u.row (asked_of p.own.id tx u.var) (asked_on base tx.writes u.var) (sym thread) refl (sym commit) fails));
       }
 
--- an attempt that was dropped as changed
+-- an attempt that was dropped as changed has its cause
 pub changed_cause : (z : TableView) (p s : PassView) (rows : List TakenRow) (tx : Tx) → HoldsRows p rows tx
     → AreVariables (map (λ l. l.var) tx.looks) → (c : Change) → IsFirstChange tx.looks rows c → (why : _) → HasDropped tx why p s
     → IsCauseBy z (attempt_in tx) (end.Changed c.var c.read c.found) (shelf_of p) p.seen p.reads rows s
@@ -382,7 +404,7 @@ changed_cause z p s rows tx h looks c f why d =
           f.before k.0 r before k.1 l (look_same tx l r looks.1 a e));
     }
 
--- a fact of each answer becomes another
+-- a result that answers with one fact of the end answers with what follows from it
 pub cause_ok : {E : Type 0} (z : TableView) (r : Result TxEnd E) (P Q : TxEnd → Type 0) → ((e : TxEnd) → P e → Q e) → IfOk r P → IfOk r Q
 cause_ok z (Ok e) P Q f h = f e h
 cause_ok z (Err w) P Q f h = tt

@@ -28,7 +28,7 @@ use Rattle.gl_txn.proofs.EndFacts.{may_drop, names_one}
 use Rattle.gl_txn.proofs.Holdings.{row_among, row_here, row_past, above_in}
 use Rattle.gl_txn.proofs.Numberings.{row_found, in_vars}
 
--- the row of each of these variables
+-- a row is found for each of the rows' variables
 pub row_of : (rows : List TakenRow) (y : ℕ) → is_in y (vars_of rows) ≡ true → (r : TakenRow) × (row_at rows y ≡ Some r)
 row_of [] y b = absurd (cc)
 row_of (q ∷ rs) y b = elim (ℕ_discrete q.var y) [
@@ -84,21 +84,26 @@ module _ (tx : Tx) (p q : PassView) (rows : List TakenRow) (x : ℕ) (numbers : 
   abbrev zs : List ℕ
   zs = variables_of tx
 
+  -- the numbers are on just the variables of the transaction
   are : numbered numbers ≡ variables_of tx
   are = all ∙ races.of
 
+  -- the variables of the transaction rise
   rises : Rises (variables_of tx)
   rises = subst Rises races.of races.held.are.1
 
+  -- the pass holds just the rows, each one of the transaction's variables marked for its end
   held : AreHeld q.own.held None rows (p.seen ∷ []) (drew_on p (variables_of tx))
   held = subst (λ ys. AreHeld q.own.held None rows (p.seen ∷ []) (drew_on p ys)) are drawn.held
 
+  -- each variable of the transaction is one of the rows'
   in_by : (y : ℕ) → is_in y (variables_of tx) ≡ true → is_in y (vars_of rows) ≡ true
   in_by y b = subst (λ ys. is_in y ys ≡ true) (sym races.of) b
 
   abbrev in_rows : (y : ℕ) → is_in y (variables_of tx) ≡ true → (r : TakenRow) × (row_at rows y ≡ Some r)
   in_rows y b = row_of rows y (in_by y b)
 
+  -- where the Infos of the row of each of the transaction's variables stand for accesses, those of all rows do
   stand_all : (setting : Setting) (l : List Stamp)
       → ((y : ℕ) (b : is_in y (variables_of tx) ≡ true) → InfosStand setting l (in_rows y b).0.row) → (r : TakenRow) → Contains rows r
       → InfosStand setting l r.row
@@ -120,10 +125,12 @@ module _ (tx : Tx) (p q : PassView) (rows : List TakenRow) (x : ℕ) (numbers : 
     | no other ↦ (let f = place_of xs y r (sym (row_past u xs y other) ∙ e) in (suc f.0, f.1))
   ]
 
+  -- the row that is found for x is the one with the race
   row_x : (b : is_in x (variables_of tx) ≡ true) → (in_rows x b).0 ≡ races.row
   row_x b = some_row (in_rows x b).0 races.row (sym (in_rows x b).1 ∙ ap (row_at rows) races.var
       ∙ row_found rows races.place races.row races.held.are.1 races.there)
 
+  -- once its numbers are drawn, the attempt may be dropped for a race on x
   pub may_refuse : MayAbort q (record { looks = tx.looks; writes = tx.writes; numbers = numbers }) (Raised x)
   may_refuse = subst (λ (z : PassView). MayAbort z (record { looks = tx.looks; writes = tx.writes; numbers = numbers }) (Raised x))
       (sym drawn.is) (

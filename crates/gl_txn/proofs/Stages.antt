@@ -13,7 +13,7 @@ use Rattle.gl_txn.specs.declared.taken.TakenRow.{TakenRow}
 use Rattle.gl_txn.proofs.Finding.{found_gone, found_still, once_without}
 use Rattle.gl_txn.proofs.Published.{held_reached}
 
--- the list was put back beside the rows
+-- once the list is put back, just the rows are held
 held_list_left : (held : List Held) (t : Held) (rows : List TakenRow) (tails : List ℕ) → AreHeld held (Some t) rows tails undrawn
     → AreHeld (without 0 held) None rows tails undrawn
 held_list_left held t rows tails a = record { at = at; once = once_without 0 held a.once; are = a.are }

@@ -15,7 +15,7 @@ use Rattle.gl_txn.specs.declared.taken.TakenRow.{TakenRow}
 use Rattle.gl_txn.proofs.Holdings.{held_more, vars_pushed, unused_none}
 use Rattle.gl_txn.proofs.LookSteps.{or_no}
 
--- a row that was put back
+-- once a row is put back, what is held is the rest
 pub put_held : (p q : PassView) (x : ℕ) → q ≡ after p (left (view_of p) (suc x) false) → q.own.held ≡ without (suc x) p.own.held
 put_held p q x is = ap (λ (r : PassView). r.own.held) is
 
@@ -46,7 +46,7 @@ takes_pushed : (rows : List TakenRow) (r : TakenRow) → takes (rows ++ r ∷ []
 takes_pushed [] r = refl
 takes_pushed (q ∷ rs) r = ap (λ (l : List Read). Taken (suc q.var) (slot.Row q.row) ∷ l) (takes_pushed rs r)
 
--- one row more was taken
+-- a pass that takes one row more has taken the rows and that one
 pub taken_more : (p q r : PassView) (ys : List ℕ) (rows : List TakenRow) (y : ℕ) (w : Option ℤ) (row : Row) → HaveTaken p q ys rows
     → AreVariables (ys ++ y ∷ []) → r ≡ after q (took (view_of q) (suc y) (slot.Row row))
     → HaveTaken p r (ys ++ y ∷ []) (rows ++ record { var = y; write = w; row = row } ∷ [])
@@ -90,7 +90,7 @@ taken_more p q r ys rows y w row t are is = record {
         (sym held_is)
         ∙ ap (λ (l : List Read). record p { own = record p.own { held = r.own.held }; reads = l; moves = r.moves }) reads_are
 
--- the next one's turn was held, and those that were taken were put back
+-- a pass that read the next turn as held by another and put back what it took found it busy
 pub were_busy : (p q r s : PassView) (ids : List ℕ) (i by : ℕ) (rows : List TakenRow) → p.own.held ≡ [] → i < length ids
     → HaveTaken p q (take i ids) rows → by < THREADS → by ≢ q.own.id → r ≡ after q (refused (view_of q) (suc (get_or ids i 0)) by)
     → s ≡ record r { own = record r.own { held = [] }; moves = s.moves } → WereBusy ids by p s
@@ -129,7 +129,7 @@ pub empty_of : {A : Type 0} (xs : List A) → length xs ≡ 0 → xs ≡ []
 empty_of [] e = refl
 empty_of (x ∷ xs) e = absurd (omega arith)
 
--- one row more has its word
+-- with one row more that has its word, each row has its word
 pub writes_more : (ws : List Rattle.gl_model.specs.declared.tx.Pair.Pair) (rows : List TakenRow) (r : TakenRow) → HaveWrites ws rows
     → r.write ≡ write_in ws r.var → HaveWrites ws (rows ++ r ∷ [])
 writes_more ws rows r have is u c = elim (Rattle.std.proofs.lemmas.List.Elements.Contains-push_cases rows r u c) [
