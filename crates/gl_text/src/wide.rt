@@ -1,5 +1,5 @@
-// The first bytes of a kind, looked for eight bytes at a time: a chunk of eight is asked as a whole, with no early end, so that its bytes are
-// compared side by side, and only from the first chunk on that has such a byte are the bytes looked at one by one.
+// The first bytes of a kind, looked for eight bytes at a time: a chunk of eight is asked as a whole, with no early end, so that its bytes
+// are compared side by side, and only from the first chunk on that has such a byte are the bytes looked at one by one.
 ghost use Rattle.std.specs.Prelude.{◌≡◌, ◌≤◌, not, false, length, take};
 ghost use Rattle.std.specs.List.{position, list_any};
 ghost use Rattle.gl_text.specs.Text.{is_blank, is_hash, is_unprintable};

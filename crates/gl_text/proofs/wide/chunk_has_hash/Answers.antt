@@ -9,4 +9,5 @@ pub returns : goal.returns
 returns c =
     subst (λ l. c.fold.result ≡ list_any is_hash l) c.iter.ensures.rest
     (fold_over fronts (λ y. y.now) _ (λ ys some. some ≡ list_any is_hash ys) _
-    (λ ys a x b f' j k. let more = any_more is_hash ys x.now a b j in search rules) _ _ _ _ (slice_gives c.iter.result) refl c.fold.ensures.ran)
+    (λ ys a x b f' j k. let more = any_more is_hash ys x.now a b j in search rules)
+    _ _ _ _ (slice_gives c.iter.result) refl c.fold.ensures.ran)
