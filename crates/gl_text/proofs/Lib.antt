@@ -1,4 +1,5 @@
 pub mod TextLemmas
+pub mod WideLemmas
 pub mod PlainLemmas
 pub mod SpanLemmas
 pub mod WordLines

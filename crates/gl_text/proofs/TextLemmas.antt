@@ -10,7 +10,7 @@ use Rattle.std.proofs.lemmas.List.Splits.{slice_split-cons_yes, slice_split-cons
 use Rattle.gl_text.specs.Text.{is_line_feed, is_blank, is_some_word, parts, is_unprintable, is_bad_byte, is_bad}
 
 -- what `position(p).unwrap_or(len)` gives
-pub place_or_len : (p : ℕ → Bool) (bs : List ℕ) → unwrap_or (position p bs) (length bs) ≡ position_or_len p bs
+pub place_or_len : {X : Type 0} (p : X → Bool) (bs : List X) → unwrap_or (position p bs) (length bs) ≡ position_or_len p bs
 place_or_len p bs =
     let le : position_or_len p bs ≤ length bs = prefix_len-le-length (λ x. not (p x)) bs in
     elim (cases_lt (position_or_len p bs) (length bs)) [

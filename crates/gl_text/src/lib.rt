@@ -7,6 +7,7 @@ mod numerals;
 mod parts;
 mod stated;
 mod text;
+mod wide;
 
 pub use fault::{TextError, TextFault};
 pub use numerals::{magnitude, natural, number};

@@ -5,21 +5,8 @@ ghost use Rattle.std.specs.Iterator.{YieldsFirstBy, item_count};
 ghost use Rattle.gl_text.specs.Text.{is_blank, is_hash, words, parts};
 ghost use Rattle.gl_text.specs.Spans.{spans_at, spans_from, AreSlices, IsPart, Rise};
 
+use crate::wide::{hash_at, word_at};
 use std::marker::Model;
-
-// The place of the first `#`.
-fn comment(line: &[u8]) -> Option<usize>
-    ensures { result ≡ position is_hash line.now }
-{
-    line.iter().position(|b| *b == b'#')
-}
-
-// The place of the first byte of a word.
-fn word_start(text: &[u8]) -> Option<usize>
-    ensures { result ≡ position (λ b. not (is_blank b)) text.now }
-{
-    text.iter().position(|b| !matches!(b, b' ' | b'\t'))
-}
 
 // The place of the first blank.
 fn word_end(text: &[u8]) -> Option<usize>
@@ -41,7 +28,7 @@ fn split_word(text: &[u8]) -> (&[u8], &[u8])
 fn first_word(text: &[u8]) -> Option<(&[u8], &[u8])>
     ensures { MatchOption result (parts text.now ≡ []) (λ x. parts text.now ≡ x.0.now ∷ parts x.1.now) }
 {
-    match word_start(text) {
+    match word_at(text) {
         Some(start) => Some(split_word(&text[start..])),
         None => None,
     }
@@ -63,18 +50,11 @@ impl<'a> Model for Words<'a> {
     ghost view = { λ s. parts s.rest.now };
 }
 
-/// The words of a text, a `#` as any other byte.
-pub(crate) fn parts_of(text: &[u8]) -> Words<'_>
-    ensures { result ≡ parts text.now }
-{
-    Words { rest: text }
-}
-
 /// The words of a line, up to the first `#`.
 pub fn words_of(line: &[u8]) -> Words<'_>
     ensures { result ≡ words line.now }
 {
-    match comment(line) {
+    match hash_at(line) {
         Some(end) => Words { rest: &line[..end] },
         None => Words { rest: line },
     }
@@ -124,7 +104,7 @@ pub(crate) fn spans_of(line: &[u8], start: usize) -> Spans<'_>
     requires { start + length line.now < 2 ^ 63 }
     ensures { result ≡ spans_at start line.now }
 {
-    match comment(line) {
+    match hash_at(line) {
         Some(end) => Spans {
             rest: &line[..end],
             at: start,
@@ -149,7 +129,7 @@ fn first_span(text: &[u8]) -> Option<(usize, usize)>
     ensures value { (at : ℕ) → MatchOption result (spans_from at (slice_split is_blank text.now) ≡ [])
         (λ x. spans_from at (slice_split is_blank text.now) ≡ (at + x.0, at + x.0 + x.1) ∷ spans_from (at + x.0 + x.1) (slice_split is_blank (drop (x.0 + x.1) text.now))) }
 {
-    match word_start(text) {
+    match word_at(text) {
         Some(start) => Some((start, word_size(&text[start..]))),
         None => None,
     }

@@ -1,13 +1,14 @@
 // Lines of a text.
-ghost use Rattle.std.specs.Prelude.{◌≡◌, ◌+◌, ◌-◌, ◌<◌, ℕ, List, take, drop, length, MatchOption, IfSome, [], ◌∷◌, slice_get, Some, None, true};
+ghost use Rattle.std.specs.Prelude.{◌≡◌, ◌+◌, ◌-◌, ◌<◌, ℕ, List, take, drop, length, MatchOption, IfSome, [], ◌∷◌, slice_get, Some, None, true, false};
 ghost use Rattle.std.specs.List.{position, list_any};
 ghost use Rattle.std.specs.Str.Lines.{lines, strip_carriage_return};
 ghost use Rattle.std.specs.Iterator.{YieldsFirstBy, item_count};
-ghost use Rattle.gl_text.specs.Text.{is_line_feed, is_special, is_unprintable, is_bad, words, IsPlain};
+ghost use Rattle.gl_text.specs.Text.{is_line_feed, is_unprintable, is_bad, words};
 ghost use Rattle.gl_text.specs.Numbered.{AreLeftOf};
 ghost use Rattle.gl_text.specs.Spans.{spans_at, IsPart};
 
-use crate::parts::{Spans, Words, parts_of, spans_of, words_of};
+use crate::parts::{Spans, Words, spans_of, words_of};
+use crate::wide::unprintable_at;
 use std::marker::Model;
 
 // The place of the first line feed.
@@ -28,23 +29,15 @@ fn without_return(line: &[u8]) -> &[u8]
     }
 }
 
-// The place of the first byte that a plain line does not have.
-fn plain_end(text: &[u8]) -> Option<usize>
-    ensures { result ≡ position is_special text.now }
-{
-    text.iter()
-        .position(|b| *b == b'#' || !matches!(b, 32..=126))
-}
-
-// The first line of a text where it is plain and ends with a line feed, and what follows it.
-fn plain_line(text: &[u8]) -> Option<(&[u8], &[u8])>
+// The first line of a text where it ends with a line feed and each of its bytes is printable, and what follows it.
+fn printable_line(text: &[u8]) -> Option<(&[u8], &[u8])>
     ensures lines { IfSome result (λ x. lines text.now ≡ x.0.now ∷ lines x.1.now) }
     ensures shorter { IfSome result (λ x. length x.1.now < length text.now) }
-    ensures plain { IfSome result (λ x. IsPlain x.0.now) }
+    ensures good { IfSome result (λ x. is_bad x.0.now ≡ false) }
     ensures front { IfSome result (λ x. take (length x.0.now) text.now ≡ x.0.now) }
     ensures rest { IfSome result (λ x. drop (length text.now - length x.1.now) text.now ≡ x.1.now) }
 {
-    let end = plain_end(text)?;
+    let end = unprintable_at(text)?;
     if text[end] != b'\n' {
         return None;
     }
@@ -65,16 +58,16 @@ fn any_line(text: &[u8]) -> (&[u8], &[u8])
     }
 }
 
-// The first line of a text, whether it is known to be plain, and what follows it.
+// The first line of a text, whether it is known to have no bad byte, and what follows it.
 fn first_line(text: &[u8]) -> (&[u8], bool, &[u8])
     requires { 0 < length text.now }
     ensures lines { lines text.now ≡ result.0.now ∷ lines result.2.now }
     ensures shorter { length result.2.now < length text.now }
-    ensures plain { result.1 ≡ true → IsPlain result.0.now }
+    ensures good { result.1 ≡ true → is_bad result.0.now ≡ false }
     ensures front { take (length result.0.now) text.now ≡ result.0.now }
     ensures rest { drop (length text.now - length result.2.now) text.now ≡ result.2.now }
 {
-    if let Some((line, rest)) = plain_line(text) {
+    if let Some((line, rest)) = printable_line(text) {
         return (line, true, rest);
     }
     let (line, rest) = any_line(text);
@@ -156,7 +149,7 @@ impl<'a> Lines<'a> {
         if self.rest.is_empty() {
             return None;
         }
-        let (text, plain, rest) = first_line(self.rest);
+        let (text, good, rest) = first_line(self.rest);
         let start = self.at;
         self.at += self.rest.len() - rest.len();
         self.rest = rest;
@@ -165,7 +158,7 @@ impl<'a> Lines<'a> {
             number: self.given,
             start,
             text,
-            plain,
+            good,
         })
     }
 }
@@ -191,21 +184,21 @@ pub struct Line<'a> {
     number: u32,
     start: usize,
     text: &'a [u8],
-    // Whether it is known that the line has no bad byte and no comment.
-    plain: bool,
+    // Whether it is known that the line has no bad byte.
+    good: bool,
 }
 
 // Seen as its number, its place and its bytes.
 impl<'a> Model for Line<'a> {
-    ghost use Rattle.std.specs.Prelude.{◌≡◌, ◌+◌, ◌-◌, ◌<◌, ◌^◌, length, true};
+    ghost use Rattle.std.specs.Prelude.{◌≡◌, ◌+◌, ◌-◌, ◌<◌, ◌^◌, length, true, false};
     ghost use Rattle.gl_text.specs.Numbered.{NumberedLine};
-    ghost use Rattle.gl_text.specs.Text.{IsPlain};
+    ghost use Rattle.gl_text.specs.Text.{is_bad};
 
     ghost Value = { NumberedLine };
 
     ghost view = { λ s. record { number = s.number; start = s.start; text = s.text.now } };
 
-    ghost invariant = { λ s. (s.plain ≡ true → IsPlain s.text.now) × (s.start + length s.text.now < 2 ^ 32 - 1) };
+    ghost invariant = { λ s. (s.good ≡ true → is_bad s.text.now ≡ false) × (s.start + length s.text.now < 2 ^ 32 - 1) };
 }
 
 impl<'a> Line<'a> {
@@ -227,18 +220,14 @@ impl<'a> Line<'a> {
     pub fn bad(&self) -> bool
         ensures { result ≡ is_bad self.now.text }
     {
-        !self.plain && is_bad(self.text)
+        !self.good && is_bad(self.text)
     }
 
     /// The words of the line, in order.
     pub fn words(&self) -> Words<'a>
         ensures { result ≡ words self.now.text }
     {
-        if self.plain {
-            parts_of(self.text)
-        } else {
-            words_of(self.text)
-        }
+        words_of(self.text)
     }
 
     fn spans(&self) -> Spans<'a>
