@@ -62,6 +62,7 @@ fn raise_at(table: &mut [[u32; ALL]], i: usize, by: &[u32; ALL], ticks: &mut u64
 }
 
 // One clock of a table joined with one of another table.
+#[inline(always)]
 fn raise_from(table: &mut [[u32; ALL]], i: usize, from: &[[u32; ALL]], k: usize, ticks: &mut u64)
     requires { i < length table.old }
     ensures joined { (j : ℕ) (u : ℕ) → cell table.new j u ≡ (if j == i then max (cell table.old j u) (cell from.now k u) else cell table.old j u) }
@@ -94,6 +95,7 @@ fn make_clock(table: &mut Vec<[u32; ALL]>, i: u16, most: u16)
 
 // One clock of a table joined with a clock, where there is room for so many. It is joined in a copy, which nothing else can name, so
 // that all threads are joined at once.
+#[inline(always)]
 fn raise_in(table: &mut Vec<[u32; ALL]>, i: u16, most: u16, by: &[u32; ALL], ticks: &mut u64)
     requires within { i < most }
     requires room { most ≤ vec_capacity table.old }
