@@ -46,7 +46,8 @@ module _ (h : List Stamp) (s : Stamp) (C C1 C2 : Clocks) (n : ℕ) (same : (y : 
 twice : (k : ℕ) → max k k ≡ k
 twice k = omega arith
 
--- an own clock that was moved on before the release, in the place of the old one: what was released knows it, and only that
+-- where a thread's own tick is set in its clock before it releases, and again after, the thread is left with the second, and what it
+-- released knows the first
 moved_in_place : (q r c : Bool) (m n k x : ℕ) → (if q then (if c then m
     else (if r then max (if q then (if c then n else k) else x) (if c then n else k) else (if q then (if c then n else k) else x)))
     else (if r then max (if q then (if c then n else k) else x) (if c then n else k) else (if q then (if c then n else k) else x)))

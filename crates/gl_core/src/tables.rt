@@ -173,10 +173,15 @@ impl Tables {
                 let known = self.threads[other as usize];
                 raise_at(&mut self.threads, i, &known, ticks);
             }
-            Act::Rel(_) | Act::VWrite(_) | Act::Fork { .. } => {}
-            Act::Begin(_) | Act::End | Act::Alloc(_) | Act::Print | Act::Input | Act::Fail(_) => {
-                *ticks = ticks.saturating_add(1);
-            }
+            Act::Begin(_)
+            | Act::End
+            | Act::Rel(_)
+            | Act::VWrite(_)
+            | Act::Fork { .. }
+            | Act::Alloc(_)
+            | Act::Print
+            | Act::Input
+            | Act::Fail(_) => {}
         }
     }
 
@@ -232,7 +237,7 @@ impl Tables {
         self.threads[thread as usize] = *clock;
     }
 
-    /// An act of the thread, more.
+    /// An act of the thread, more. The clocks are moved where they lie; the thread's own tick counts as one more.
     pub fn take_act(&mut self, thread: u8, act: Act, ticks: &mut u64)
         requires sized { IsSized self.old }
         requires thread { thread < THREADS }
@@ -247,6 +252,7 @@ impl Tables {
         self.put_own(thread, self.next + 1);
         self.release(thread, act, ticks);
         self.put_own(thread, self.next + 2);
+        *ticks = ticks.saturating_add(1);
         self.next += 1;
     }
 
