@@ -1,5 +1,5 @@
 -- An event more: the tables go on to be the clocks.
-use Rattle.std.proofs.Common.{◌≡◌, ℕ, zero, suc, replicate, ◌+◌, ◌==◌, List, [], ◌∷◌, ◌++◌, length, refl, ap, sym, ◌∙◌, arith, true, false, Bool}
+use Rattle.std.proofs.Common.{◌≡◌, ℕ, zero, suc, replicate, ◌+◌, ◌==◌, List, [], ◌∷◌, ◌++◌, length, refl, ap, sym, ◌∙◌, arith, true, false, Bool, eq-eqb}
 use Rattle.std.specs.Prelude.{max, if◌then◌else◌}
 use Rattle.std.proofs.lemmas.List.{length_push}
 use Rattle.gl_model.specs.declared.event.Stamp.{Stamp}
@@ -41,6 +41,59 @@ module _ (h : List Stamp) (s : Stamp) (C C1 C2 : Clocks) (n : ℕ) (same : (y : 
   moved_on y u =
       let eq : C ≡ clocks h = (λ i z v. same z v i) in
       after_is y u ∙ ap (λ (D : Clocks). after_event D n s y u) eq ∙ ap (λ m. after_event (clocks h) m s y u) long
+      ∙ ap (λ (D : Clocks). D y u) (sym (clocks_push h s))
+
+-- ---- an event that moves the clocks where they lie
+
+-- a number is the greater of it and itself
+twice : (k : ℕ) → max k k ≡ k
+twice k = omega arith
+
+-- where a thread's own tick is set in its clock before it releases, and again after, the thread is left with the second, and what it
+-- released knows the first
+moved_in_place : (q r c : Bool) (m n k x : ℕ) → (if q then (if c then m
+    else (if r then max (if q then (if c then n else k) else x) (if c then n else k) else (if q then (if c then n else k) else x)))
+    else (if r then max (if q then (if c then n else k) else x) (if c then n else k) else (if q then (if c then n else k) else x)))
+    ≡ (if q then (if c then m else k) else if r then max x (if c then n else k) else x)
+moved_in_place true r true m n k x = refl
+moved_in_place true true false m n k x = twice k
+moved_in_place true false false m n k x = refl
+moved_in_place false r c m n k x = refl
+
+-- clocks that are moved where they lie: the thread acquires (Ca), counts its event (Cb), releases (Cr), and counts what it does next (C2)
+module _ (h : List Stamp) (s : Stamp) (C Ca Cb Cr C2 : Clocks) (n : ℕ) (same : (y : Element) (u : ℕ) → C y u ≡ clocks h y u) (long : n
+    ≡ length h)
+    (a : (y : Element) (u : ℕ) → Ca y u ≡ (if is_thread s.thread y then taken C s u else C y u))
+    (b : (y : Element) (u : ℕ) → Cb y u ≡ (if is_thread s.thread y then (if u == s.thread then n + 1 else Ca y u) else Ca y u))
+    (r : (y : Element) (u : ℕ) → Cr y u ≡ (if is_released s.event y then max (Cb y u) (Cb (Thread s.thread) u) else Cb y u))
+    (p : (y : Element) (u : ℕ) → C2 y u ≡ (if is_thread s.thread y then (if u == s.thread then n + 2 else Cr y u) else Cr y u)) where
+  -- counted, the thread knows what it hands on, and all others what they knew
+  counted : (y : Element) (u : ℕ) → Cb y u ≡ (if is_thread s.thread y then handed C n s u else C y u)
+  counted y u = b y u ∙ ap (λ z. if is_thread s.thread y then (if u == s.thread then n + 1 else z) else z) (a y u)
+      ∙ here (is_thread s.thread y) (u == s.thread) (taken C s u) (C y u)
+    where
+      here : (q c : Bool) (k x : ℕ) → (if q then (if c then n + 1 else (if q then k else x)) else (if q then k else x))
+          ≡ (if q then (if c then n + 1 else k) else x)
+      here true c k x = refl
+      here false c k x = refl
+
+  -- the thread itself, counted, knows what it hands on
+  own_counted : (u : ℕ) → Cb (Thread s.thread) u ≡ handed C n s u
+  own_counted u = counted (Thread s.thread) u ∙ ap (λ q. if q then handed C n s u else C (Thread s.thread) u) (eq-eqb s.thread s.thread refl)
+
+  -- after all four the clocks are those after the event
+  after_is_here : (y : Element) (u : ℕ) → C2 y u ≡ after_event C n s y u
+  after_is_here y u = p y u ∙ ap (λ z. if is_thread s.thread y then (if u == s.thread then n + 2 else z) else z) (r y u
+      ∙ ap (λ z. if is_released s.event y then max z (Cb (Thread s.thread) u) else z) (counted y u)
+      ∙ ap (λ z. if is_released s.event y then max (if is_thread s.thread y then handed C n s u else C y u) z
+      else (if is_thread s.thread y then handed C n s u else C y u)) (own_counted u))
+      ∙ moved_in_place (is_thread s.thread y) (is_released s.event y) (u == s.thread) (n + 2) (n + 1) (taken C s u) (C y u)
+
+  -- so they are the clocks of the list with the event behind it
+  pub moved_on_here : (y : Element) (u : ℕ) → C2 y u ≡ clocks (h ++ s ∷ []) y u
+  moved_on_here y u =
+      let eq : C ≡ clocks h = (λ i z v. same z v i) in
+      after_is_here y u ∙ ap (λ (D : Clocks). after_event D n s y u) eq ∙ ap (λ m. after_event (clocks h) m s y u) long
       ∙ ap (λ (D : Clocks). D y u) (sym (clocks_push h s))
 
 -- the next position after an event more is the length with it

@@ -61,6 +61,18 @@ fn raise_at(table: &mut [[u32; ALL]], i: usize, by: &[u32; ALL], ticks: &mut u64
     table[i] = clock;
 }
 
+// One clock of a table joined with one of another table.
+#[inline(always)]
+fn raise_from(table: &mut [[u32; ALL]], i: usize, from: &[[u32; ALL]], k: usize, ticks: &mut u64)
+    requires { i < length table.old }
+    ensures joined { (j : ℕ) (u : ℕ) → cell table.new j u ≡ (if j == i then max (cell table.old j u) (cell from.now k u) else cell table.old j u) }
+    ensures cost { ticks.new ≤ ticks.old + THREADS }
+{
+    if let Some(clock) = from.get(k) {
+        raise_at(table, i, clock, ticks);
+    }
+}
+
 // Room for so many clocks. A clock is only put there when it comes to know something, so no page of the room is touched before.
 fn room_for_clocks(alloc: Global, count: u16) -> Result<Vec<[u32; ALL]>, AllocError>
     ensures { IfOk result (λ table. (count ≤ vec_capacity table) × (table.items ≡ [])) }
@@ -83,6 +95,7 @@ fn make_clock(table: &mut Vec<[u32; ALL]>, i: u16, most: u16)
 
 // One clock of a table joined with a clock, where there is room for so many. It is joined in a copy, which nothing else can name, so
 // that all threads are joined at once.
+#[inline(always)]
 fn raise_in(table: &mut Vec<[u32; ALL]>, i: u16, most: u16, by: &[u32; ALL], ticks: &mut u64)
     requires within { i < most }
     requires room { most ≤ vec_capacity table.old }
@@ -124,6 +137,7 @@ impl Tables {
     ghost use Rattle.gl_lines.specs.Traced.{Traced, with_stamp, after_act};
     ghost use Rattle.gl_model.specs.declared.event.Act.TheVariants.{Join};
     ghost use Rattle.gl_model.specs.declared.event.Element.{Element};
+    ghost use Rattle.gl_model.specs.declared.event.Element.TheVariants.{Thread};
     ghost use Rattle.gl_model.specs.declared.event.Event.TheVariants.{Act as Does, Commit};
     ghost use Rattle.gl_model.specs.declared.event.Stamp.{Stamp};
     ghost use Rattle.gl_model.specs.Elements.{IsActInRange};
@@ -141,19 +155,24 @@ impl Tables {
         })
     }
 
-    /// What the thread knows after what the act acquires.
-    fn acquired(&self, thread: u8, act: Act, ticks: &mut u64) -> [u32; ALL]
-        requires sized { IsSized self.now }
+    /// The thread knows what the act acquires.
+    fn acquire(&mut self, thread: u8, act: Act, ticks: &mut u64)
+        requires sized { IsSized self.old }
         requires thread { thread < THREADS }
         requires act { IsActInRange act }
-        ensures known { (u : ℕ) → at result u ≡ taken (clocks_in self.now) (record { thread = thread; event = Does act }) u }
+        ensures sized { IsSized self.new }
+        ensures next { self.new.next ≡ self.old.next }
+        ensures known { (y : Element) (u : ℕ) → clocks_in self.new y u ≡ (if is_thread thread y then taken (clocks_in self.old) (record { thread = thread; event = Does act }) u else clocks_in self.old y u) }
         ensures cost { ticks.new ≤ ticks.old + THREADS }
     {
-        let mut known = self.threads[thread as usize];
+        let i = thread as usize;
         match act {
-            Act::Acq(o) => join_at(&mut known, &self.monitors, o as usize, ticks),
-            Act::VRead(v) => join_at(&mut known, &self.volatiles, v as usize, ticks),
-            Act::Join(other) => join_at(&mut known, &self.threads, other as usize, ticks),
+            Act::Acq(o) => raise_from(&mut self.threads, i, &self.monitors, o as usize, ticks),
+            Act::VRead(v) => raise_from(&mut self.threads, i, &self.volatiles, v as usize, ticks),
+            Act::Join(other) => {
+                let known = self.threads[other as usize];
+                raise_at(&mut self.threads, i, &known, ticks);
+            }
             Act::Begin(_)
             | Act::End
             | Act::Rel(_)
@@ -164,22 +183,26 @@ impl Tables {
             | Act::Input
             | Act::Fail(_) => {}
         }
-        known
     }
 
-    /// What the act releases knows what the clock knows.
-    fn release(&mut self, act: Act, by: &[u32; ALL], ticks: &mut u64)
+    /// What the act releases knows what the thread knows.
+    fn release(&mut self, thread: u8, act: Act, ticks: &mut u64)
         requires sized { IsSized self.old }
+        requires thread { thread < THREADS }
         requires act { IsActInRange act }
         ensures sized { IsSized self.new }
         ensures next { self.new.next ≡ self.old.next }
-        ensures raised { (y : Element) (u : ℕ) → clocks_in self.new y u ≡ (if is_released_by act y then max (clocks_in self.old y u) (at by.now u) else clocks_in self.old y u) }
+        ensures raised { (y : Element) (u : ℕ) → clocks_in self.new y u ≡ (if is_released_by act y then max (clocks_in self.old y u) (clocks_in self.old (Thread thread) u) else clocks_in self.old y u) }
         ensures cost { ticks.new ≤ ticks.old + THREADS }
     {
+        let by = &self.threads[thread as usize];
         match act {
             Act::Rel(o) => raise_in(&mut self.monitors, o, MONITORS, by, ticks),
             Act::VWrite(v) => raise_in(&mut self.volatiles, v, VOLATILES, by, ticks),
-            Act::Fork { child, .. } => raise_at(&mut self.threads, child as usize, by, ticks),
+            Act::Fork { child, .. } => {
+                let known = *by;
+                raise_at(&mut self.threads, child as usize, &known, ticks);
+            }
             Act::Begin(_)
             | Act::End
             | Act::Acq(_)
@@ -190,6 +213,17 @@ impl Tables {
             | Act::Input
             | Act::Fail(_) => {}
         }
+    }
+
+    /// The thread knows so much of itself.
+    fn put_own(&mut self, thread: u8, own: u32)
+        requires sized { IsSized self.old }
+        requires thread { thread < THREADS }
+        ensures sized { IsSized self.new }
+        ensures next { self.new.next ≡ self.old.next }
+        ensures put { (y : Element) (u : ℕ) → clocks_in self.new y u ≡ (if is_thread thread y then (if u == thread then own else clocks_in self.old y u) else clocks_in self.old y u) }
+    {
+        put_own(&mut self.threads[thread as usize], thread, own);
     }
 
     /// The thread's clock is this one.
@@ -203,7 +237,7 @@ impl Tables {
         self.threads[thread as usize] = *clock;
     }
 
-    /// An act of the thread, more.
+    /// An act of the thread, more. The clocks are moved where they lie; the thread's own tick counts as one more.
     pub fn take_act(&mut self, thread: u8, act: Act, ticks: &mut u64)
         requires sized { IsSized self.old }
         requires thread { thread < THREADS }
@@ -214,12 +248,11 @@ impl Tables {
         ensures clocks { (h : List Stamp) → AreClocksOf h self.old → AreClocksOf (with_stamp h thread (Does act)) self.new }
         ensures cost { ticks.new ≤ ticks.old + 3 * THREADS }
     {
-        let mut known = self.acquired(thread, act, ticks);
-        put_own(&mut known, thread, self.next + 1);
-        self.release(act, &known, ticks);
-        put_own(&mut known, thread, self.next + 2);
-        self.put_thread(thread, &known);
-        *ticks = ticks.saturating_add(THREADS as u64);
+        self.acquire(thread, act, ticks);
+        self.put_own(thread, self.next + 1);
+        self.release(thread, act, ticks);
+        self.put_own(thread, self.next + 2);
+        *ticks = ticks.saturating_add(1);
         self.next += 1;
     }
 

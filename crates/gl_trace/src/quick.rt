@@ -236,6 +236,7 @@ fn quick_verb<'a>(text: &'a [u8], item: &mut Item) -> Option<(u8, &'a [u8])>
 }
 
 // What the first line of a text says, where it is a commit of two rising lists, as `quick_line`.
+#[inline(never)]
 fn quick_commit<'a>(text: &'a [u8], item: &mut Item) -> Option<(u8, &'a [u8])>
     ensures said { IfSome result (λ x. (line : List ℕ) × IsFirstLine text.now line x.1.now × (said (words line) ≡ Ok (Some (x.0, item.new)))) }
     ensures range { IfSome result (λ x. IsStep (x.0, item.new)) }

@@ -95,6 +95,7 @@ impl Standing {
     }
 
     // The fault of an item, behind the steps so far.
+    #[inline(always)]
     pub fn fault(&self, thread: u8, item: &Item) -> Option<StepFault>
         requires thread { thread < THREADS }
         requires item { IsLineItem item.now }

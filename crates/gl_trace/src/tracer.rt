@@ -322,6 +322,7 @@ impl Tracer {
 
     /// The thread's next line says this, and this is said of it. After want of memory what was recorded is there still; of what the line
     /// adds a part may be, so nothing more can be recorded.
+    #[inline(never)]
     pub fn item(
         &mut self,
         alloc: Global,
