@@ -79,12 +79,14 @@ module _ (looks : List Look) (x : ℕ) where
       let same : l ≡ look_of x value k = one_look looks rises found.0.0 place.0 l (look_of x value k) found.0.1 place.1 found.1 in
       (ap (λ (q : Look). q.value) same, ap (λ (q : Look). q.nth) same)
 
+  -- the look that is found is in the list: a look at x, with its value and number
   pub found_contains : (l : Look) → find (λ p. p.var == x) looks ≡ Some l → Contains looks (look_of x l.value l.nth)
   found_contains l is =
       let found = found_at looks x l is in
       let same : l ≡ look_of x l.value l.nth = ap (λ y. look_of y l.value l.nth) found.1 in
       contains_at looks found.0.0 (look_of x l.value l.nth) (found.0.1 ∙ ap Some same)
 
+  -- where nothing is found, no look in the list is at x
   pub none_contains : find (λ p. p.var == x) looks ≡ None → (value : ℤ) (k : ℕ) → Contains looks (look_of x value k) → ⊥
   none_contains none value k c = (let place = at_of looks (look_of x value k) c in
       none_found looks x none place.0 (look_of x value k) place.1 refl)
@@ -100,6 +102,7 @@ module _ (looks : List Look) (x : ℕ) where
         rw test (λ stands. let less = stands l.nth l.value (found_contains l is) in omega arith))
   ]
 
+  -- where nothing is found, each number on x stands after all looks at x, since there is none
   pub after_none : find (λ p. p.var == x) looks ≡ None → (m : ℕ) → OwnStandAfter looks x m
   after_none none m k value c = absurd (none_contains none value k c)
 
@@ -118,6 +121,7 @@ module _ (looks : List Look) (x : ℕ) where
   )
   read_found rises l is read false other = λ reads. other (found_is rises l is read reads.0 reads.1).0
 
+  -- where nothing is found, no look read a value of x
   pub read_none : find (λ p. p.var == x) looks ≡ None → (read : ℤ) → Reads read → ⊥
   read_none none read reads = none_contains none read reads.0 reads.1
 
@@ -127,6 +131,7 @@ module _ (tx : Tx) where
   abbrev AllAfter : Type 0
   AllAfter = (x m : ℕ) → Contains tx.numbers (record { var = x; nth = m }) → OwnStandAfter tx.looks x m
 
+  -- where the number at i does not stand after each look at its variable, not all numbers of the attempt do so
   pub none_after : (i : ℕ) (n : Number) → slice_get tx.numbers i ≡ Some n → (OwnStandAfter tx.looks n.var n.nth → ⊥) → AllAfter → ⊥
   none_after i n at wrong all = wrong (all n.var n.nth (contains_at tx.numbers i n at))
 
@@ -141,16 +146,19 @@ module _ (tx : Tx) where
         let P : Number → Type 0 = λ q. OwnStandAfter tx.looks q.var q.nth in subst P (sym one') stands)
   ]
 
+  -- where no number stands at place i, those at places below i + 1 stand after their looks if those at places below i do
   pub after_past : (i : ℕ) → AfterBelow i → slice_get tx.numbers i ≡ None → AfterBelow (i + 1)
   after_past i below past k n less there = elim (before_next i k less) [
     | inl lt ↦ below k n lt there
     | inr same ↦ (let here : slice_get tx.numbers i ≡ Some n = rw (sym same) there in absurd cc)
   ]
 
+  -- where there are at most TX_VARIABLES numbers, all stand after their looks if those at places below TX_VARIABLES do
   pub all_after : length tx.numbers ≤ TX_VARIABLES → AfterBelow TX_VARIABLES → AllAfter
   all_after few below x m c = (let place = at_of tx.numbers (record { var = x; nth = m }) c in
       let within = slice_get_within tx.numbers place.0 _ place.1 in below place.0 (record { var = x; nth = m }) (omega arith) place.1)
 
+  -- an attempt that keeps to what there is has at most TX_VARIABLES numbers
   pub numbers_few : IsTxKept tx → length tx.numbers ≤ TX_VARIABLES
   numbers_few kept = (let few = kept.2.0 in let same = length-map tx.numbers (λ (l : Number). l.var) in omega arith)
 
@@ -221,6 +229,7 @@ module _ {A : Type 0} (var : A → ℕ) (parts : List A) (are : AreVariables (ma
       let same = ap length so_far in
       absurd (omega arith))
 
+  -- where no part stands at i, the variables gathered so far are already those of the first i + 1 parts
   pub gathered_past : slice_get parts i ≡ None → vars ≡ take (i + 1) (map var parts)
   gathered_past at =
       let past : slice_get (map var parts) i ≡ None = slice_get-map var parts i ∙ ap (option_map var) at in

@@ -48,12 +48,14 @@ module _ (ls : List (ℕ × List Entry)) where
   abbrev pub NoneBelow : ℕ → Type 0
   NoneBelow n = (t : ℕ) → t < n → (i : ℕ) → FormFails t (lists_of ls t) i → ⊥
 
+  -- where no list of a thread below n fails the form, nor that of thread n, none of a thread below n + 1 does
   pub none_more : (n : ℕ) → NoneBelow n → ((i : ℕ) → FormFails n (lists_of ls n) i → ⊥) → NoneBelow (n + 1)
   none_more n none here t less i fails = elim (cases_lt t n) [
     | inl lt ↦ none t lt i fails
     | inr ge ↦ (let same : t ≡ n = omega arith in let P : ℕ → Type 0 = λ u. FormFails u (lists_of ls u) i in here i (subst P same fails))
   ]
 
+  -- a record whose lists keep to what there is fails the form nowhere, if no list of a thread below THREADS does
   pub fails_nowhere : AllByRecursion IsListKept ls → NoneBelow THREADS → (c : Place) → FormFailsAt (lists_of ls) c → ⊥
   fails_nowhere kept none c fails = elim (cases_lt c.thread THREADS) [
     | inl lt ↦ none c.thread lt c.index fails

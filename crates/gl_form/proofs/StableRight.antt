@@ -144,6 +144,7 @@ module _ (es : List Entry) (i x k : ℕ) (write : Bool) where
     by_entry None none more = more (further j (λ f there. cc) clear)
     by_entry (Some e) at more = by_position e at (position_of e) refl more
 
+  -- where it is not refuted that an access at place i has the right, it has it
   pub stable_right : NotNot (HasRight es i x k write) → HasRight es i x k write
   stable_right refuted =
       elim (down i (omega arith) (record { events = λ l e at le lt. absurd (omega arith); gives = λ l m e w at le lt g. omega arith })) [

@@ -111,10 +111,12 @@ module _ (es : List Entry) (i : ℕ) (e : Entry) (at : At es i e) where
       nothing_after = λ j f g there also before over. trim_no_over f (fresh j f there before) over;
     }
 
+    -- where all before place i are Trims, a Trim there keeps the rules, and all before place i + 1 are Trims
     pub fresh_trim : IsTrim e → Follows es i × IsAtStage es (i + 1) Fresh
     fresh_trim trim =
         (fresh_follows (inr trim) (λ other. absurd (other trim)) (λ over. trim_no_over e trim over), all_next IsTrim fresh trim)
 
+    -- where all before place i are Trims, a Begin there keeps the rules, and the thread is running after it
     pub fresh_begin : IsBegin e → Follows es i × IsAtStage es (i + 1) Running
     fresh_begin begins = (
       fresh_follows (inl (λ trim. begin_no_trim e begins trim)) (λ other. begins) (λ over. begin_no_over e begins over),
@@ -125,6 +127,7 @@ module _ (es : List Entry) (i : ℕ) (e : Entry) (at : At es i e) where
       ),
     )
 
+    -- where all before place i are Trims, an entry there that is neither a Trim nor a Begin breaks the rules
     pub fresh_other : (IsTrim e → ⊥) → (IsBegin e → ⊥) → Follows es i → ⊥
     fresh_other no_trim no_begin follows = no_begin (follows.begins e at no_trim (λ j f there before. fresh j f there before))
 
@@ -148,12 +151,14 @@ module _ (es : List Entry) (i : ℕ) (e : Entry) (at : At es i e) where
       nothing_after = λ j f g there also before over. running.1 j f there before over;
     }
 
+    -- where the thread is running, an End keeps the rules, and the thread has ended after it
     pub running_end : IsEnd e → Follows es i × IsAtStage es (i + 1) Ended
     running_end ends = (
       running_follows (λ over. end_no_over e ends over),
       ((i, (e, at, refl, ends)), none_next IsOver running.1 (λ over. end_no_over e ends over)),
     )
 
+    -- where the thread is running, an entry that is neither an End nor an Over keeps the rules, and the thread runs on
     pub running_on : (IsEnd e → ⊥) → (IsOver e → ⊥) → Follows es i × IsAtStage es (i + 1) Running
     running_on no_end no_over = (
       running_follows no_over,
@@ -169,6 +174,7 @@ module _ (es : List Entry) (i : ℕ) (e : Entry) (at : At es i e) where
     running_over over follows = running.2.1.3 ((follows.over_after_end running.2.0 running.2.1.0 e running.2.1.2 running.2.1.1 at).1 over)
 
   module _ (ended : IsAtStage es i Ended) where
+    -- where the thread has ended, an Over keeps the rules, and the list is over after it
     pub ended_over : IsOver e → Follows es i × IsAtStage es (i + 1) AllOver
     ended_over over = (
       record {
@@ -185,8 +191,10 @@ module _ (es : List Entry) (i : ℕ) (e : Entry) (at : At es i e) where
       (i, (e, at, omega arith, over)),
     )
 
+    -- where the thread has ended, an entry that is no Over breaks the rules
     pub ended_other : (IsOver e → ⊥) → Follows es i → ⊥
     ended_other no_over follows = no_over ((follows.over_after_end ended.0.0 ended.0.1.0 e ended.0.1.2 ended.0.1.1 at).0 ended.0.1.3)
 
+  -- where an Over came before place i, any entry there breaks the rules
   pub over_any : IsAtStage es i AllOver → Follows es i → ⊥
   over_any over follows = follows.nothing_after over.0 over.1.0 e over.1.1 at over.1.2 over.1.3

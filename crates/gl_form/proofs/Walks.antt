@@ -31,6 +31,7 @@ formed_stands t (Trim low) form x k m look own = absurd look
 formed_stands t (Over ending) form x k m look own = absurd look
 
 module _ (t : ℕ) (es : List Entry) (i : ℕ) where
+  -- a place that keeps all rules of form keeps those of Begin, End and Over
   pub follows_of : KeepsForm t es i → Follows es i
   follows_of keeps = record { begins = keeps.begins; over_after_end = keeps.over_after_end; nothing_after = keeps.nothing_after }
 
@@ -94,6 +95,7 @@ entry_kept (f ∷ es) zero e kept at = (let same : f ≡ e = cc in subst IsEntry
 entry_kept (f ∷ es) (suc i) e kept at = entry_kept es i e kept.1 at
 
 module _ (t : ℕ) (es : List Entry) (n : ℕ) (keep : (j : ℕ) → j < n → KeepsForm t es j) where
+  -- if place n keeps the rules too, so do the first n + 1 places
   pub keep_more : KeepsForm t es n → (j : ℕ) → j < n + 1 → KeepsForm t es j
   keep_more here j less = elim (before_next n j less) [
     | inl lt ↦ keep j lt
@@ -101,6 +103,7 @@ module _ (t : ℕ) (es : List Entry) (n : ℕ) (keep : (j : ℕ) → j < n → K
         subst P (sym same) here)
   ]
 
+  -- none of the first n places fails the form
   pub earlier_keep : (j : ℕ) → j < n → FormFails t es j → ⊥
   earlier_keep j less fails = fails (keep j less)
 
