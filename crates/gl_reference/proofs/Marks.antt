@@ -101,17 +101,21 @@ module _ (h : List Stamp) (a : Access) (marks : List Bool) (are : AreMarks h a m
 
 -- some event is marked, or none is
 module _ (h : List Stamp) (marks : List Bool) (P : Stamp → Type 0) where
+  -- the mark at p, together with a test of P on the event there, tells whether that event is marked and P holds of it
   pub marked_here : (p : ℕ) (m b : Bool) (r : Stamp) → slice_get marks p ≡ Some m → EventAt h p r → IsTrue b ↔ P r
       → IsTrue (m && b) ↔ IsMarked h marks P p
   marked_here p true b r marked there test = (λ t. (r, marked, there, test.0 t), λ w. test.1 (rw (same_event h p r w.0 there w.2) at w.3))
   marked_here p false b r marked there test = (λ t. absurd (cc), λ w. absurd (let e = w.1 in cc))
 
+  -- where the event at p is marked and P holds of it, the answer that there is such an event is right
   pub one_marked : (p : ℕ) → IsMarked h marks P p → IsTrue true ↔ HasMarked h marks P
   one_marked p w = (λ _. (p, w), λ _. refl)
 
+  -- where P holds of no marked event among the first n, and there are at most n marks, the answer that there is none is right
   pub none_marked : (n : ℕ) → length marks ≤ n → ((k : ℕ) → k < n → IsMarked h marks P k → ⊥) → IsTrue false ↔ HasMarked h marks P
   none_marked n le none = (λ t. absurd (cc), λ w. absurd (let l = slice_get_within marks w.0 true w.1.1 in none w.0 (omega arith) w.1))
 
+  -- where P holds of no marked event before p, and the event at p is not such a one, there is none before p + 1
   pub none_more : (p : ℕ) → ((k : ℕ) → k < p → IsMarked h marks P k → ⊥) → (IsMarked h marks P p → ⊥) → (k : ℕ) → k < p + 1
       → IsMarked h marks P k → ⊥
   none_more p none not_here k l w = elim (below_or_last k p (omega arith)) [
@@ -137,6 +141,7 @@ module _ (h : List Stamp) (a : Access) (marks : List Bool) (are : AreMarks h a m
         (w.0, (w.1.0, is_marked w.0 w.1.0 w.1.1 w.1.3, w.1.1, w.1.2)),
   )
 
+  -- whether the access is of thread u, or some marked event is, tells whether the access happens before a next plain one of u
   pub plain_next : (u : ℕ) (b t : Bool) → IsTrue b ↔ (a.thread ≡ u) → IsTrue t ↔ HasMarked h marks (λ r. r.thread ≡ u)
       → IsTrue (b || t) ↔ HappensBeforeNext h a u None
   plain_next u b t own thread = either b t _ _ own (λ x. (thread_iff u).0 (thread.0 x), λ w. thread.1 ((thread_iff u).1 w))
@@ -161,6 +166,8 @@ module _ (h : List Stamp) (a : Access) (marks : List Bool) (are : AreMarks h a m
   out_of_next u xs (inr (inr (inr (q, (s, (ys, (x, there, event, one, other, reach))))))) =
       inr (q, (s, is_marked q s there reach, there, (ys, x, event, one, other)))
 
+  -- whether the access or some marked event is of thread u, the access is a commit on one of xs,
+  -- or a commit with one of xs is marked, tells whether the access happens before a next commit of u on xs
   pub commit_next : (u : ℕ) (xs : List ℕ) (b t o l : Bool) → IsTrue b ↔ (a.thread ≡ u) → IsTrue t ↔ HasMarked h marks (λ r. r.thread ≡ u)
       → IsTrue o ↔ IsCommitOn a xs → IsTrue l ↔ HasMarked h marks (IsCommitWith xs)
       → IsTrue (((b || t) || o) || l) ↔ HappensBeforeNext h a u (Some xs)
