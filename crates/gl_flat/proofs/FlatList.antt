@@ -42,6 +42,7 @@ module _ {A : Type 0} where
   contains_at (y ∷ ys) zero x e = (zero, omega arith, let z : y ≡ x = cc in z)
   contains_at (y ∷ ys) (suc k) x e = let r = contains_at ys k x e in (suc r.0, (let l = r.1 in omega arith), r.2)
 
+  -- what is in a list stands in it at some place
   pub at_contains : (xs : List A) (x : A) → Contains xs x → (k : ℕ) × (slice_get xs k ≡ Some x)
   at_contains xs x c = (c.0, slice_get-get_or xs c.0 x c.1 ∙ ap Some c.2)
 

@@ -63,6 +63,7 @@ module _ (setting : Setting) (R : Lists) (h : List Stamp) (is_list : IsEventList
           (plain_runs R form setting h machine c (block k) var nth cached write raised value there (blocks k c at));
     }
 
+    -- where its words hold, the record is legal: the machine, with the words, runs along its flat history
     pub legal_so : Legal setting R
     legal_so = record {
       history = cs;
@@ -132,6 +133,7 @@ module _ (setting : Setting) (R : Lists) (h : List Stamp) (is_list : IsEventList
       (step_word R h is_list rising cs legal.flat k d run.0 old.words x here run.1 (words x)))
       j c at
 
+  -- the words of a legal record hold
   pub holds_of : WordsHold R
   holds_of = record { flat = flat; looks = legal.found }
     where

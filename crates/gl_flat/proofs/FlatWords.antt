@@ -52,6 +52,7 @@ past_of_laid words (Trim low) x laid = refl
 past_of_laid words (Over ending) x laid = refl
 
 module _ (R : Lists) (h : List Stamp) (is_list : IsEventList h R) (rise : PositionsRise R) (cs : List Place) (flat : IsFlat R cs) where
+  -- at each place of the history stands an entry that is laid out
   pub laid_in : (k : ℕ) (c : Place) → slice_get cs k ≡ Some c → IsLaidOutAt R c
   laid_in k c at = (flat.each c).0 (contains_at cs k c at)
 
@@ -97,9 +98,11 @@ module _ (R : Lists) (h : List Stamp) (is_list : IsEventList h R) (rise : Positi
   step_word k c e words x at there last = word_more R h is_list rise (Among k) (Among (suc k)) c e words x there (among_before k c at)
       (among_more k c at) last
 
+  -- before the first place of the history each word is 0
   pub first_word : (x : ℕ) → IsLastWord R (Among 0) x (pos 0)
   first_word x = inr (refl, λ g u m w. let z = m.1 in omega arith)
 
+  -- the last word of x among the first k places of the history is the word of x where the place at k is laid out
   pub word_at : (k : ℕ) (c : Place) (x : ℕ) (v : ℤ) → slice_get cs k ≡ Some c → IsLastWord R (Among k) x v → IsWordAt R c x v
   word_at k c x v at last = word_among R (Among k) (λ d. InFlatOrder R d c) x v (among_before k c at)
       (λ d u before w. before_among k c at d (writes_laid_at R d x u w) before) last

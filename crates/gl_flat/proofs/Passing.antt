@@ -217,6 +217,7 @@ module _ (es : List Entry) (i k : ℕ) (before words : List ℤ) (come : ComesTo
   block_at R walk t p s list made e there not = block R walk t p s i made k come.on
       (λ j f lo hi at. clear e there not j f lo hi (subst (λ l. At l j f) list at))
 
+  -- where the entry at k, the block's event or no event, agrees with the words, the walk comes to place k + 1 with the words past it
   pub comes_more : (after : List ℤ) (e : Entry) → At es k e → (i < k → is_event e ≡ false) → AgreesWith (word_in words) e →
       ((x : ℕ) → x < VARIABLES → word_in after x ≡ words_past (word_in words) e x) →
       ComesTo es i (k + 1) before after
@@ -228,18 +229,21 @@ module _ (es : List Entry) (i k : ℕ) (before words : List ℤ) (come : ComesTo
         (come.walked R walk t p s list made w) after agrees past;
   }
 
+  -- where a read of the entry at k, the block's event or no event, differs from its word, the walk has come to the first wrong read
   pub differs : (after : List ℤ) (e : Entry) → At es k e → (i < k → is_event e ≡ false) → DiffersFrom (word_in words) e →
       PassesBlock es i before after (Some k)
   differs after e there not d = λ R walk t p s list made w.
       differ R walk t p s i made k e (subst (λ l. At l k e) (sym list) there) (block_at R walk t p s list made e there not) words
       (come.walked R walk t p s list made w) d
 
+  -- where an event stands at k, behind the block's own, the walk has passed the block
   pub meets_event : (e : Entry) → At es k e → i < k → is_event e ≡ true → PassesBlock es i before words None
   meets_event e there lt is = λ R walk t p s list made w.
       let q = has_position e is in
       finish R walk t p s i made k words (before_event R walk t p s i made k q.0 e (subst (λ l. At l k e) (sym list) there) q.1 lt)
       (come.walked R walk t p s list made w)
 
+  -- where the list has no entry at place k or behind it, the walk has passed the block
   pub comes_out : length es ≤ k → PassesBlock es i before words None
   comes_out far = λ R walk t p s list made w.
       finish R walk t p s i made k words

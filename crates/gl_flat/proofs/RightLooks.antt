@@ -31,6 +31,7 @@ module _ {A : Type 0} (P : A → Type 0) (xs : List A) (i : ℕ) (all : (k : ℕ
   pub no_more : length xs ≤ i → (k : ℕ) (x : A) → slice_get xs k ≡ Some x → P x
   no_more far k x at = all k x (let n = slice_get_within xs k x at in omega arith) at
 
+  -- what holds of the first i holds of all, where none stands at i
   pub none_more : slice_get xs i ≡ None → (k : ℕ) (x : A) → slice_get xs k ≡ Some x → P x
   none_more none k x at = no_more short k x at
     where

@@ -100,6 +100,7 @@ module _ (ws : List Written) (sorted : IsSorted written_cmp ws) where
       (((get_or ws i d).var ≡ (get_or ws j d).var) × ((get_or ws i d).nth ≤ (get_or ws j d).nth))
   far i j d le near = behind (get_or ws i d) (get_or ws j d) (sorted_far (λ v w. is_lt (written_cmp v w)) weak ws sorted i j d le near)
 
+  -- the test parts the sorted list: each write before one that passes it passes it too
   pub parted : (x n : ℕ) → IsPartitionedBy (is_before x n) ws
   parted x n i j d le near e = is_so x n (get_or ws i d) (by (far i j d le near) (before_is x n (get_or ws j d) e))
     where

@@ -57,6 +57,7 @@ module _ (R : Lists) (h : List Stamp) (is_list : IsEventList h R) (rise : Positi
     | no ne ↦ (q, e, inr (w.0, let z = w.1 in omega arith))
   ]
 
+  -- what is walked up to place i of block p is walked up to each later place of p
   pub walked_on : (p i j : ℕ) → i ≤ j → (d : Place) → IsWalked R p i d → IsWalked R p j d
   walked_on p i j le d (q, e, inl lt) = (q, e, inl lt)
   walked_on p i j le d (q, e, inr w) = (q, e, inr (w.0, let z = w.1 in omega arith))
