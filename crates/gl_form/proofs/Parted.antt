@@ -40,7 +40,7 @@ found_at (p ∷ looks) x l is = by_first (cases_eq p.var x) (λ more. found_at l
       let more = rest found in
       ((suc more.0.0, more.0.1), more.1)
 
--- where nothing is found none is on the variable
+-- where no look at a variable is found, no look of the list is at it
 none_found :
     (looks : List Look) (x : ℕ) → find (λ p. p.var == x) looks ≡ None → (k : ℕ) (l : Look) → slice_get looks k ≡ Some l → l.var ≡ x → ⊥
 none_found [] x none k l at is = cc
@@ -58,7 +58,7 @@ none_found (p ∷ looks) x none k l at is = by_first (cases_eq p.var x) (λ more
 abbrev look_of : ℕ → ℤ → ℕ → Look
 look_of x v k = record { var = x; value = v; nth = k }
 
--- two looks at a variable are one
+-- where the variables of looks rise, two looks at one variable are the same look
 one_look :
     (looks : List Look) → Rises (map (λ l. l.var) looks) → (j k : ℕ) (l m : Look) → slice_get looks j ≡ Some l →
     slice_get looks k ≡ Some m → l.var ≡ m.var → l ≡ m
@@ -171,7 +171,7 @@ module _ (tx : Tx) where
 
 -- ## Gathered
 
--- a variable above all comes to the end
+-- a variable that is above all others is put in at the end
 with_one_last : (x : ℕ) (xs : List ℕ) → AllByRecursion (λ y. y < x) xs → with_one x xs ≡ xs ++ x ∷ []
 with_one_last x [] all = refl
 with_one_last x (y ∷ ys) all =
@@ -180,7 +180,7 @@ with_one_last x (y ∷ ys) all =
     let above : nat_lt x y ≡ false = grind (arith, nat_tests) in
     rw (other, above) (ap (λ zs. y ∷ zs) (with_one_last x ys all.1))
 
--- a number that rises past those before it
+-- in a list that rises, the one at place i is above all before it
 taken_below : (xs : List ℕ) (i x : ℕ) → Rises xs → slice_get xs i ≡ Some x → AllByRecursion (λ y. y < x) (take i xs)
 taken_below [] i x rises at = absurd cc
 taken_below (y ∷ ys) zero x rises at = tt

@@ -12,7 +12,7 @@ use Rattle.gl_model.specs.declared.limits.TheConstants.{VARIABLES}
 use Rattle.gl_form.specs.Passed.{AreDrawn, IsAbove, IsNotAbove, last_on}
 use Rattle.gl_form.proofs.Lasts.{before_next}
 
--- what a list contains stands at some place, and the other way round
+-- what a list contains stands at some place
 pub at_of : {A : Type 0} → (xs : List A) (x : A) → Contains xs x → (k : ℕ) × (slice_get xs k ≡ Some x)
 at_of xs x c = (c.0, slice_get-get_or xs c.0 x c.1 ∙ ap Some c.2)
 
@@ -20,7 +20,7 @@ at_of xs x c = (c.0, slice_get-get_or xs c.0 x c.1 ∙ ap Some c.2)
 pub contains_at : {A : Type 0} → (xs : List A) (k : ℕ) (x : A) → slice_get xs k ≡ Some x → Contains xs x
 contains_at xs k x at = (k, slice_get_within xs k x at, get_or_from_slice_get xs k x x at)
 
--- what holds of all variables holds of that of the part at a place
+-- what holds of the variables of all parts holds of that of the part at a place
 pub all_at :
     (P : ℕ → Type 0) {A : Type 0} (var : A → ℕ) (parts : List A) (k : ℕ) (a : A) → AllByRecursion P (map var parts) →
     slice_get parts k ≡ Some a → P (var a)
@@ -34,7 +34,7 @@ pub part_in_range :
     var a < VARIABLES
 part_in_range var parts k a are at = all_at (λ x. x < VARIABLES) var parts k a are.2 at
 
--- variables rise
+-- where the variables of parts rise, an earlier part has a lower variable than a later one
 pub rising_at :
     {A : Type 0} (var : A → ℕ) (parts : List A) (j k : ℕ) (a b : A) → Rises (map var parts) → slice_get parts j ≡ Some a →
     slice_get parts k ≡ Some b → j < k → var a < var b

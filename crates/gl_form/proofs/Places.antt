@@ -39,7 +39,7 @@ no_list ls t kept past = by_list (list_of ls t) refl where
   by_list None is = refl
   by_list (Some es) is = (let less = (list_kept ls t es kept is).0 in absurd (omega arith))
 
--- an empty list fails nowhere, but thread 0's does
+-- the empty list of a thread other than 0 fails nowhere
 pub empty_keeps : (t : ℕ) (es : List Entry) → es ≡ [] → t ≢ 0 → (i : ℕ) → FormFails t es i → ⊥
 empty_keeps t es none other i fails =
     fails (keeps_past t es i (rw none (omega arith)) (λ first. absurd (other first)) (λ some. absurd (some none)))

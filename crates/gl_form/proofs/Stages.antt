@@ -9,7 +9,7 @@ use Rattle.gl_form.specs.Passed.{Follows, IsAtStage}
 use Rattle.gl_form.specs.declared.stage.Stage.TheVariants.{Fresh, Running, Ended, Over as AllOver}
 use Rattle.gl_form.proofs.Lasts.{before_next, same_entry}
 
--- a Trim is neither End nor Over, Begin is no Trim and no End, and so on
+-- a Trim is no End
 trim_no_end : (e : Entry) → IsTrim e → IsEnd e → ⊥
 trim_no_end (Trim low) trim ends = ends
 trim_no_end (Sync at act value) trim ends = trim
@@ -18,7 +18,7 @@ trim_no_end (Plain var nth cached write value raised) trim ends = trim
 trim_no_end (Abort tx why) trim ends = trim
 trim_no_end (Over ending) trim ends = trim
 
--- a trim is no Over
+-- a Trim is no Over
 trim_no_over : (e : Entry) → IsTrim e → IsOver e → ⊥
 trim_no_over (Trim low) trim over = over
 trim_no_over (Sync at act value) trim over = trim
@@ -45,7 +45,7 @@ end_no_over (Plain var nth cached write value raised) ends over = over
 end_no_over (Abort tx why) ends over = over
 end_no_over (Trim low) ends over = over
 
--- a Begin is no trim
+-- a Begin is no Trim
 begin_no_trim : (e : Entry) → IsBegin e → IsTrim e → ⊥
 begin_no_trim (Trim low) begins trim = begins
 begin_no_trim (Sync at act value) begins trim = trim

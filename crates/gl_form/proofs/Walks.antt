@@ -16,7 +16,7 @@ use Rattle.gl_form.specs.Passed.{Follows, IsAllowed, StandAfterLooks}
 use Rattle.gl_form.proofs.Lasts.{before_next}
 use Rattle.gl_form.specs.Rules.{DrawsOn, FormFails, HasLow, HasPosition, KeepsForm, RisesAt}
 
--- what stands at a place is within the list
+-- an empty list has an entry at no place
 no_entry : (i : ℕ) (e : Entry) → At [] i e → ⊥
 no_entry i e at = cc
 
@@ -84,7 +84,7 @@ module _ (t : ℕ) (es : List Entry) (i : ℕ) where
 
 -- ## A whole list
 
--- an entry of the program, where it stands
+-- what stands at place i of a stored list stands, as it is seen, at place i of the list as it is seen
 pub entry_at : (list : List StoredEntry) (i : ℕ) (x : StoredEntry) → i < length list → x ≡ get_or list i x → At (map seen list) i (seen x)
 entry_at list i x less is = slice_get-map seen list i ∙ ap (option_map seen) (slice_get_read list (length list) i x refl less is)
 

@@ -39,7 +39,7 @@ sum_mapped v f (x ∷ xs) = (let more = sum_mapped v f xs in let left = sum_by-c
 
 -- ## By thread
 
--- the entries, without their threads
+-- the entries of a record by thread, without their threads, are all its entries
 entries_are : (made : List (ℕ × List Entry)) → map (λ p. p.1) (by_thread made) ≡ all_entries made
 entries_are [] = refl
 entries_are (l ∷ ls) =
@@ -47,7 +47,7 @@ entries_are (l ∷ ls) =
     ∙ ap (λ front. front ++ map (λ p. p.1) (by_thread ls)) (map_map (λ (p : ℕ × Entry). p.1) (λ e. (l.0, e)) l.1 ∙ map-id l.1)
     ∙ ap (λ back. l.1 ++ back) (entries_are ls)
 
--- what each entry of each thread gives
+-- what the entries by thread give, put together, is what those of each list give, list by list
 gives_are : {A : Type 0} (h : ℕ → Entry → List A) (made : List (ℕ × List Entry)) → flat_map (λ p. h p.0 p.1) (by_thread made)
     ≡ flat_map (λ l. flat_map (h l.0) l.1) made
 gives_are h [] = refl
