@@ -30,6 +30,7 @@ module _ (setting : Setting) (R : Lists) (h : List Stamp) (is_list : IsEventList
   block : ℕ → ℕ
   block k = block_there k (slice_get cs k) refl
 
+  -- where c stands at k in the history, the block that is found there is that of c
   block_is : (k : ℕ) (c : Place) (o : Option Place) (at : slice_get cs k ≡ o) → o ≡ Some c → IsBlockOf R c (block_there k o at)
   unfolding block_there
   block_is k c None at is = absurd (cc)
@@ -38,6 +39,7 @@ module _ (setting : Setting) (R : Lists) (h : List Stamp) (is_list : IsEventList
       let laid = laid_in R h is_list rise cs flat k d at in
       subst (λ z. IsBlockOf R z (block_there k (Some d) at)) same (laid_block R form d laid.0 laid.1 laid.2).1
 
+  -- where c stands at k in the history, its block is the one at k
   blocks : (k : ℕ) (c : Place) → slice_get cs k ≡ Some c → IsBlockOf R c (block k)
   unfolding block
   blocks k c at = block_is k c (slice_get cs k) refl at
@@ -48,6 +50,7 @@ module _ (setting : Setting) (R : Lists) (h : List Stamp) (is_list : IsEventList
     unraised k c e at there = let laid = laid_in R h is_list rise cs flat k c at in
         subst IsLaidOut (same_entry R c laid.0 e laid.1 there) laid.2
 
+    -- each read and look has the word there, and a plain access is made by a running thread
     agree : ReadsAgree setting R h is_list rise machine cs flat block blocks
     unfolding words
     agree = record {

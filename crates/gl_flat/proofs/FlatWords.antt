@@ -111,6 +111,7 @@ module _ (R : Lists) (h : List Stamp) (is_list : IsEventList h R) (rise : Positi
   abbrev pub words : ℕ → ℕ → ℤ
   words k = words_after R cs k (λ _. pos 0)
 
+  -- the words after the first k places of the history are the last ones that were written among these places, or 0
   pub words_are : (k : ℕ) → k ≤ length cs → (x : ℕ) → IsLastWord R (Among k) x (words k x)
   unfolding words_after entry_of
   words_are zero le x = first_word x

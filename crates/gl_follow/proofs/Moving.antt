@@ -154,10 +154,12 @@ module _ (P : Bytecode) (steps t : ℕ) where
           subst (λ m. Reaches P m es r) mids w.rest
       by_first (inr w) = (let none = w.none in cc)
 
+    -- a way by no entries leads from a machine to where it is
     no_way : (q : Progress) (es : List Entry) → es ≡ [] → Reaches P q es q
     unfolding told
     no_way q es none = record { exchanges = []; entries = sym none; reached = refl }
 
+    -- a machine that follows a list still follows it after the reply that leaves no entry, where it is orderly then
     pub move_quiet :
         (reply : Reply) (q : Progress) → quiet_for p rest (ask_of p.config.stage) ≡ Some reply → told_one P (Quiet reply) p ≡ Some q →
         IsOrderly P q.config → Follows P steps t front rest q

@@ -161,6 +161,7 @@ module _ (tx : Tx) (kept : IsTxKept tx) where
     | inr none ↦ (a.var, (a.nth, inr (contains_at tx.numbers m a at), (λ is. wrong (subst (λ o. IsAbove o a.nth) (sym none.1) is))))
   ]
 
+  -- where the numbers of an attempt's looks have become the last ones, all its numbers rise exactly where its own rise behind those
   pub attempt_goes_on :
       (old mid : List (Option ℕ)) → AreDrawn (λ (a : Look). a.var) (λ (a : Look). a.nth) tx.looks TX_VARIABLES old mid →
       (new : List (Option ℕ)) (answer : Bool) →

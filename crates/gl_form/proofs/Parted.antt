@@ -138,6 +138,7 @@ module _ (tx : Tx) where
   abbrev pub AfterBelow : ℕ → Type 0
   AfterBelow i = (k : ℕ) (n : Number) → k < i → slice_get tx.numbers k ≡ Some n → OwnStandAfter tx.looks n.var n.nth
 
+  -- where the number at place i stands after its looks, those at places below i + 1 do if those at places below i do
   pub after_more :
       (i : ℕ) (a : Number) → AfterBelow i → slice_get tx.numbers i ≡ Some a → OwnStandAfter tx.looks a.var a.nth → AfterBelow (i + 1)
   after_more i a below at stands k n less there = elim (before_next i k less) [

@@ -65,6 +65,7 @@ module _ (ls : List (ℕ × List Entry)) where
   abbrev at_place : ℕ → ℕ → Place
   at_place t i = record { thread = t; index = i }
 
+  -- where no list of a thread below n fails the form, and the list of thread n fails it first at i, that is the first place that fails
   pub first_place :
       (n i : ℕ) → NoneBelow n → FormFails n (lists_of ls n) i → ((j : ℕ) → j < i → FormFails n (lists_of ls n) j → ⊥) →
       IsFirstBy Before (FormFailsAt (lists_of ls)) (at_place n i)

@@ -92,6 +92,7 @@ module _ (es : List Entry) (i : ℕ) (e : Entry) (at : At es i e) where
     | inr same ↦ not_here (back P j f is there same)
   ]
 
+  -- what holds of all entries before the place, and of that at the place, holds of all before the next place
   all_next :
       (P : Entry → Type 0) → ((j : ℕ) (f : Entry) → At es j f → j < i → P f) → P e → (j : ℕ) (f : Entry) → At es j f → j < i + 1 → P f
   all_next P all of_e j f there before = elim (before_next i j before) [

@@ -72,6 +72,7 @@ module _ {A : Type 0} (number var : A → ℕ) where
     by_test false is more = rw is more
 
   module _ (c : Place) (parts : List A) (i : ℕ) (old now : List (List Use)) (are : IsAdded c (picks (take i parts)) old now) where
+    -- where the number of the part at i comes too, what came to the uses at c are the numbers of the first i + 1 parts
     pub picked_more :
         (a : A) (new : List (List Use)) → slice_get parts i ≡ Some a → IsAdded c (λ x. if var a == x then number a ∷ [] else []) now new →
         IsAdded c (picks (take (i + 1) parts)) old new
