@@ -125,7 +125,7 @@ module _ (slots : List Slot) (st : ℕ) (bits : List ℕ) (are : AreSlots slots 
     ]);
   }
 
-  -- one that was not changed
+  -- where the new place of x shows no changed word, and the bit of x alone is cleared, the places stay right
   pub slots_clean :
       (bits' : List ℕ) → ((a : ℤ) → shown st q ≡ Some (record { value = a; dirty = true }) → ⊥)
       → ((y : ℕ) → HasBit bits' y ↔ ((y ≢ x) × HasBit bits y)) → AreSlots (set slots x q) st bits'

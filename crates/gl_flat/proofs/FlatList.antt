@@ -82,7 +82,7 @@ module _ (R : Lists) (h : List Stamp) (is_list : IsEventList h R) (form : Form R
       nothing c (q, e, inl lt) = omega arith
       nothing c (q, e, inr w) = let z = w.1 in omega arith
 
-  -- the same places are laid out
+  -- where two points of the walk have the same laid-out places behind them, a list up to the one is a list up to the other
   as_far : (p i q j : ℕ) → ((c : Place) → IsLaidOutAt R c → IsWalked R p i c ↔ IsWalked R q j c) → FlatUpTo R p i → FlatUpTo R q j
   as_far p i q j same f = record {
     places = f.places;
@@ -168,7 +168,7 @@ module _ (R : Lists) (h : List Stamp) (is_list : IsEventList h R) (form : Form R
       let c = is_list.made n s.0 s.1 in
       rw (sym (add-one n)) (of_block n c.0 s.0 c.1 (up_to n (omega arith)))
 
-  -- the flat history
+  -- the record has a flat history
   pub history : (cs : List Place) × IsFlat R cs
   history = (f.places, record { each = λ c. (to c, from c); in_order = f.in_order })
     where

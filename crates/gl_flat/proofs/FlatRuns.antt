@@ -94,7 +94,7 @@ step_words setting old new t (Abort tx why) step laid x = absurd step
 step_words setting old new t (Trim low) step laid x = absurd step
 step_words setting old new t (Over ending) step laid x = absurd step
 
--- and reads the words
+-- what one step of the machine reads are the words before it
 step_reads : (setting : Setting) (old new : Memory) (t : ℕ) (e : Entry) → IsStep setting old t e new → (x : ℕ) (v : ℤ) → ReadsValue e x v →
     v ≡ old.words x
 step_reads setting old new t (Commit at tx) step x v r = let k = at_contains tx.looks r.0 r.1 in sym r.3 ∙ step.1 k.0 r.0 k.1 ∙

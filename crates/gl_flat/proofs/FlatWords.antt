@@ -92,7 +92,7 @@ module _ (R : Lists) (h : List Stamp) (is_list : IsEventList h R) (rise : Positi
         ]
       ]
 
-  -- one step of the words
+  -- where the words are the last ones among the first k places, the words past the entry at k are those among the first k + 1
   pub step_word : (k : ℕ) (c : Place) (e : Entry) (words : ℕ → ℤ) (x : ℕ) → slice_get cs k ≡ Some c → EntryAt R c e →
       IsLastWord R (Among k) x (words x) → IsLastWord R (Among (suc k)) x (words_past words e x)
   step_word k c e words x at there last = word_more R h is_list rise (Among k) (Among (suc k)) c e words x there (among_before k c at)

@@ -56,7 +56,7 @@ module _ {A B : Type 0} (f : A → List B) where
   flat_in (x ∷ xs) zero a b at i = let same : x ≡ a = cc in append_front (f x) (flat_map f xs) b (subst (λ z. In (f z) b) (sym same) i)
   flat_in (x ∷ xs) (suc k) a b at i = append_back (f x) (flat_map f xs) b (flat_in xs k a b at i)
 
--- the number of a variable
+-- what is found for a variable is one of the numbers, and is on that variable
 pub found_is : (ns : List Number) (x : ℕ) (n : Number) → find (λ m. m.var == x) ns ≡ Some n → In ns n × (n.var ≡ x)
 found_is [] x n e = absurd (cc)
 found_is (m ∷ ms) x n e = here (found_is ms x n) (m.var == x) refl e

@@ -50,7 +50,7 @@ module _ (e : Entry) (in_range : (x k : ℕ) → DrawsOn x e k → x < VARIABLES
     at_next es i at x last above (inr (none, is)) = (let P : Option ℕ → Type 0 = IsLast (DrawsOn x) es (i + 1) in
         subst P (sym is) (none_more (DrawsOn x) es i e at (last_on old x) last none))
 
-  -- one is not above
+  -- where a number that the entry drew on x is not above the last one of x, its numbers do not rise
   pub one_falls : (x k : ℕ) → DrawsOn x e k → (IsAbove (last_on old x) k → ⊥) → AllGoOn e false old new
   one_falls x k draws wrong =
       λ es i after are at all. fallen (DrawsOn x) es i e at (last_on old x) (are x (in_range x k draws)) k draws wrong (all x)

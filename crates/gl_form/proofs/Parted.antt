@@ -163,7 +163,7 @@ module _ (tx : Tx) where
   pub numbers_few : IsTxKept tx → length tx.numbers ≤ TX_VARIABLES
   numbers_few kept = (let few = kept.2.0 in let same = length-map tx.numbers (λ (l : Number). l.var) in omega arith)
 
-  -- both rules together
+  -- where own numbers are on the variables xs, they name xs exactly where each stands after the looks at its variable
   pub named :
       (xs : List ℕ) → map (λ n. n.var) tx.numbers ≡ xs → (b : Bool) → MatchBool b AllAfter (AllAfter → ⊥) →
       MatchBool b (NumbersName tx xs) (NumbersName tx xs → ⊥)

@@ -65,12 +65,12 @@ has_part {A} var (p ∷ parts) x = by_first (cases_eq (var p) x) (has_part var p
   by_first (inr other) (inr none) = inr (none_here other none)
 
 module _ {A : Type 0} (var nth : A → ℕ) (parts : List A) (old : List (Option ℕ)) where
-  -- no part yet
+  -- before any part was drawn, the last numbers are the old ones
   pub none_drawn : AreDrawn var nth parts 0 old old
   none_drawn = record { above = λ m a at less. absurd (omega arith); drawn = λ m a at less. absurd (omega arith); others = λ x none. refl }
 
   module _ (n : ℕ) (cur : List (Option ℕ)) (are : AreDrawn var nth parts n old cur) where
-    -- all parts were drawn
+    -- where the first n parts were drawn and none stands at n, the first n + 1 were drawn
     pub past_parts : slice_get parts n ≡ None → AreDrawn var nth parts (n + 1) old cur
     past_parts past = record {
       above = λ m a at less. are.above m a at (sooner m a at less);
@@ -88,11 +88,11 @@ module _ {A : Type 0} (var nth : A → ℕ) (parts : List A) (old : List (Option
       untouched : last_on cur (var a) ≡ last_on old (var a)
       untouched = are.others (var a) (λ m b there less is. let lower = rising_at var parts m n b a rises there at less in omega arith)
 
-      -- a number that is not above it
+      -- where the number of the part at n is not above the last one of its variable now, it is not above the old one
       pub part_not_above : (IsAbove (last_on cur (var a)) (nth a) → ⊥) → IsNotAbove var nth parts old
       part_not_above wrong = (n, (a, at, (let P : Option ℕ → Type 0 = λ o. IsAbove o (nth a) → ⊥ in subst P untouched wrong)))
 
-      -- one that is above it
+      -- where the number of the part at n is above the last one of its variable, and is then put there, the first n + 1 parts were drawn
       pub part_drawn :
           (new : List (Option ℕ)) → var a < length cur → IsAbove (last_on cur (var a)) (nth a) → new ≡ set cur (var a) (Some (nth a)) →
           AreDrawn var nth parts (n + 1) old new

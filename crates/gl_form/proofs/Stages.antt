@@ -170,7 +170,7 @@ module _ (es : List Entry) (i : ℕ) (e : Entry) (at : At es i e) where
       ),
     )
 
-    -- Over comes only after End
+    -- where the thread is running, an Over breaks the rules
     pub running_over : IsOver e → Follows es i → ⊥
     running_over over follows = running.2.1.3 ((follows.over_after_end running.2.0 running.2.1.0 e running.2.1.2 running.2.1.1 at).1 over)
 

@@ -72,7 +72,8 @@ module _ (t : ℕ) (es : List Entry) (i : ℕ) where
     nothing : (f : Entry) → At es i f → ⊥
     nothing f there = (let within = slice_get_within es i f there in omega arith)
 
-  -- the last rule decides, where all others are kept
+  -- where all other rules are kept at place i, whether a cached entry has
+  -- its right there decides whether the form is kept and the walk goes on
   pub walks_on :
       (e : Entry) → At es i e → EntryForm t e → Follows es i → RisesAt HasPosition es i → RisesAt HasLow es i →
       ((x : ℕ) → RisesAt (DrawsOn x) es i) → (Rights Next : Type 0) →

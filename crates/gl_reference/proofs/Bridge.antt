@@ -28,7 +28,7 @@ none_of _ p = absurd p
 variables_are : (x : ℕ) (d : Draw) (p : Performed) (k : IsDrawnFor x d p) → p.access.variables ≡ variables_in (Entered k.entry)
 variables_are x d p k = ap (λ (a : Access). a.variables) k.access ∙ ap variables_in k.made
 
--- and its thread
+-- a performed access is of the thread of the draw that it is for
 thread_is : (x : ℕ) (d : Draw) (p : Performed) → IsDrawnFor x d p → p.access.thread ≡ d.thread
 thread_is x d p k = ap (λ (a : Access). a.thread) k.access
 

@@ -42,7 +42,7 @@ module _ (draws draws' : ℕ → List Draw) (ps ps' more : List Performed) (is :
   pub performed_more : ArePerformed draws' ps'
   performed_more = subst (ArePerformed draws') (sym is) (record { kept = both_kept; drawn = both_drawn })
 
--- no access was performed
+-- where no draw that came is for a performed entry, the accesses that were kept are still the performed ones of the draws
 pub performed_same : (draws draws' : ℕ → List Draw) (ps ps' : List Performed) → ps' ≡ ps → ArePerformed draws ps
     → ((y : ℕ) (d : Draw) → Among (draws y) d → Among (draws' y) d) →
     ((y : ℕ) (d : Draw) (e : Entry) → Among (draws' y) d → d.what ≡ Entered e → IsPerformed e → Among (draws y) d) → ArePerformed draws' ps'

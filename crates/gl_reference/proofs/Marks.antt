@@ -26,7 +26,7 @@ slice_get-old [] y p l = absurd (omega arith)
 slice_get-old (x ∷ xs) y zero l = refl
 slice_get-old (x ∷ xs) y (suc p) l = slice_get-old xs y p (omega arith)
 
--- at the length it has the new one
+-- at its old length, a list with one more has the new one
 slice_get-new : {A : Type 0} (xs : List A) (y : A) → slice_get (xs ++ y ∷ []) (length xs) ≡ Some y
 slice_get-new [] y = refl
 slice_get-new (x ∷ xs) y = slice_get-new xs y
@@ -75,7 +75,7 @@ module _ (h : List Stamp) (a : Access) (marks : List Bool) (are : AreMarks h a m
   out_of_reached q s is here (edge_on {p} r t reach before there l edge) =
       inr (p, (r, (are.right p (omega arith)).1 reach, before, inr (rw (same_event h q s t here there) at edge)))
 
-  -- one mark more
+  -- where a mark more tells whether the access or a marked event orders the next event directly, the marks are right with it
   pub marks_more : (b : Bool) → length marks < length h
       → ((s : Stamp) → EventAt h (length marks) s → IsTrue b ↔ (Starts a (length marks) s ⊎ HasMarked h marks (λ r. Leads r s)))
       → AreMarks h a (marks ++ b ∷ [])
@@ -177,13 +177,13 @@ module _ (h : List Stamp) (a : Access) (marks : List Bool) (are : AreMarks h a m
       later in
       (λ x. into_next u xs (cases.0 x), λ w. cases.1 (out_of_next u xs w))
 
--- the event at q is the one that was asked about
+-- two answers about the event at q, whether the access orders it directly and whether a marked event does, tell together whether one does
 pub asked : (h : List Stamp) (a : Access) (marks : List Bool) (q : ℕ) (at s : Stamp) (x y : Bool) → EventAt h q at → EventAt h q s
     → IsTrue x ↔ Starts a q at → IsTrue y ↔ HasMarked h marks (λ r. Leads r at)
     → IsTrue (x || y) ↔ (Starts a q s ⊎ HasMarked h marks (λ r. Leads r s))
 asked h a marks q at s x y there here first later = rw (same_event h q at s there here) (either x y _ _ first later)
 
--- none of the first, or one of them
+-- where P holds of none of the first i elements, nor of the one at i, it holds of none of the first i + 1
 pub none_of_more : {A : Type 0} (xs : List A) (P : A → Type 0) (i : ℕ) (x : A) → slice_get xs i ≡ Some x → (P x → ⊥)
     → ((k : ℕ) (p : A) → k < i → slice_get xs k ≡ Some p → P p → ⊥) → (k : ℕ) (p : A) → k < i + 1 → slice_get xs k ≡ Some p → P p → ⊥
 none_of_more xs P i x here not_this none k p l there w = elim (below_or_last k i (omega arith)) [
@@ -191,7 +191,7 @@ none_of_more xs P i x here not_this none k p l there w = elim (below_or_last k i
   | inr last ↦ (let again : slice_get xs i ≡ Some p = rw last at there in let e : p ≡ x = cc in not_this (rw e at w))
 ]
 
--- where no place is left and P held at none, it holds at none
+-- where P holds of none of the first n elements, and there are no more than n, the answer that it holds of one is no
 pub none_of_all : {A : Type 0} (xs : List A) (P : A → Type 0) (n : ℕ) → length xs ≤ n
     → ((k : ℕ) (p : A) → k < n → slice_get xs k ≡ Some p → P p → ⊥) → IsTrue false ↔ ((i : ℕ) × ((p : A) × (slice_get xs i ≡ Some p) × P p))
 none_of_all xs P n le none = (

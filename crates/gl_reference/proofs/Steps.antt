@@ -55,7 +55,7 @@ Stepped t item judged h ps over h' ps' over' =
     (lines : List Line) → AreSound (lines ++ line t item judged ∷ []) → AreVerdicts lines → AreFollowed lines h ps over →
     AreVerdicts (lines ++ line t item judged ∷ []) × AreFollowed (lines ++ line t item judged ∷ []) h' ps' over'
 
--- one line more
+-- where the events, the performed accesses and who has ended are those after one line more, the judge has followed that line too
 followed_push : (lines : List Line) (l : Line) (h : List Stamp) (ps : List Performed) (over : List Bool) → h
     ≡ (after_line l (traced lines)).history → ArePerformed (after_line l (traced lines)).draws ps
     → ((u : ℕ) → slice_index_or over u false ≡ (is_ended (steps_of lines) u || item_joins u l.item))
@@ -85,7 +85,7 @@ stepped_act t act h h' ps ps' over over' joined same joins events ends lines sou
           ∙ ap (λ b. b || act_joins u act) (f.ended u)),
     )
 
--- a plain access
+-- a plain access is no event: the events stay
 plain_history : (t x : ℕ) (write : Bool) (judged : Judged) (s : Traced) → s.history ≡ (after_item t (Access x write) judged s).history
 plain_history t x write NoAccess s = refl
 plain_history t x write WasPerformed s = refl

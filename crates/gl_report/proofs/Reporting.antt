@@ -68,7 +68,7 @@ one_race t (Trim low) = refl
 one_race t (Over ending) = refl
 
 module _ {A : Type 0} (v : A → ℕ × Entry) (xs : List A) (made : List (ℕ × List Entry)) (are : map v xs ≡ by_thread made) where
-  -- the entries, and how many are events
+  -- the entries are all those of the record
   pub all_are : map (λ x. (v x).1) xs ≡ all_entries made
   all_are = sym (map_map (λ p. p.1) v xs) ∙ ap (map (λ p. p.1)) are ∙ entries_are made
 
