@@ -104,7 +104,7 @@ module _ (slots : List Slot) (st : ℕ) (bits : List ℕ) (are : AreSlots slots 
   moved : words_in st (set slots x q) ≡ set (words_in st slots) x (shown st q)
   moved = map-set (shown st) slots x q
 
-  -- a changed word in the place of that of x
+  -- where the new place of x shows a changed word, and the bit of x is set besides the others, the places stay right
   pub slots_changed :
       (bits' : List ℕ) (a : ℤ) → shown st q ≡ Some (record { value = a; dirty = true })
       → ((y : ℕ) → HasBit bits' y ↔ ((y ≡ x) ⊎ HasBit bits y)) → AreSlots (set slots x q) st bits'

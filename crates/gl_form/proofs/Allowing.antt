@@ -65,7 +65,7 @@ module _ (es : List Entry) (i block : ℕ) (rights : List (Option Right)) (are :
     ]
 
   module _ (x : ℕ) (less : x < VARIABLES) (k : ℕ) (write : Bool) where
-    -- a right of the block that is enough
+    -- the latest right on x, given in the present block and enough for the access, is the right that it has
     enough_has :
         (right : Right) → IsLatest es i x right → (block ≤ right.index) × (right.nth ≡ k) × (write ≡ true → right.write ≡ true) →
         HasRight es i x k write

@@ -91,7 +91,7 @@ module _ (looks : List Look) (x : ℕ) where
   none_contains none value k c = (let place = at_of looks (look_of x value k) c in
       none_found looks x none place.0 (look_of x value k) place.1 refl)
 
-  -- whether a number stands after the look
+  -- where a look is found, and looks rise, a number on x stands after the looks at x exactly where it is above that look's
   pub after_found :
       Rises (map (λ l. l.var) looks) → (l : Look) → find (λ p. p.var == x) looks ≡ Some l → (m : ℕ) →
       MatchBool (nat_lt l.nth m) (OwnStandAfter looks x m) (OwnStandAfter looks x m → ⊥)
@@ -109,7 +109,7 @@ module _ (looks : List Look) (x : ℕ) where
   abbrev Reads : ℤ → Type 0
   Reads read = (nth : ℕ) × Contains looks (look_of x read nth)
 
-  -- whether a value was read
+  -- where a look is found, and looks rise, a value was read of x exactly where it is that look's
   pub read_found :
       Rises (map (λ l. l.var) looks) → (l : Look) → find (λ p. p.var == x) looks ≡ Some l → (read : ℤ) (b : Bool) →
       MatchBool b (l.value ≡ read) (l.value ≢ read) →
@@ -213,7 +213,7 @@ take_few (x ∷ xs) (suc i) = (let more = take_few xs i in omega arith)
 
 module _ {A : Type 0} (var : A → ℕ) (parts : List A) (are : AreVariables (map var parts)) (i : ℕ) (less : i < TX_VARIABLES)
     (vars : List ℕ) (so_far : vars ≡ take i (map var parts)) where
-  -- one more is put in, since there is room
+  -- where a part stands at i, putting in its variable, for which there is room, gives the variables of the first i + 1 parts
   pub gathered :
       {V E : Type 0} (a : A) → slice_get parts i ≡ Some a → (result : Result V E) (new : List ℕ) →
       OnOk result (new ≡ with_one (var a) vars) →

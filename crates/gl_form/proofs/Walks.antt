@@ -35,7 +35,7 @@ module _ (t : ℕ) (es : List Entry) (i : ℕ) where
   pub follows_of : KeepsForm t es i → Follows es i
   follows_of keeps = record { begins = keeps.begins; over_after_end = keeps.over_after_end; nothing_after = keeps.nothing_after }
 
-  -- where an entry stands, the rules are these
+  -- where an entry at place i keeps these rules, the form is kept there
   pub keeps_here :
       (e : Entry) → At es i e → EntryForm t e → Follows es i → RisesAt HasPosition es i → RisesAt HasLow es i →
       ((x : ℕ) → RisesAt (DrawsOn x) es i) →
@@ -53,7 +53,7 @@ module _ (t : ℕ) (es : List Entry) (i : ℕ) where
     cached = allowed;
   }
 
-  -- at and after the end of the list no entry stands
+  -- at and behind the end of a list the form is kept, where thread 0's list has an entry, and a list with entries has an Over
   pub keeps_past :
       length es ≤ i → (t ≡ 0 → es ≢ []) → (es ≢ [] → i ≡ length es → (j : ℕ) × ((e : Entry) × At es j e × IsOver e)) → KeepsForm t es i
   keeps_past past main ends = record {

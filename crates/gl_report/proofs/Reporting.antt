@@ -95,7 +95,7 @@ module _ {A : Type 0} (v : A → ℕ × Entry) (xs : List A) (made : List (ℕ �
       (ap length (sym (gives race_of)) ∙ length-flat_map (λ x. race_of (v x).0 (v x).1) xs
       ∙ sum_same (λ x. length (race_of (v x).0 (v x).1)) (λ x. cond (is_raised (v x).1) 1 0) xs (λ x. one_race (v x).0 (v x).1))
 
-  -- the text that grew by these lines
+  -- a text that grew by the prints, the races, the ends and the number of races is the record's report
   pub report_is :
       (none outs races ends whole prints : List ℕ) (n count : ℕ) → none ≡ [] → outs ≡ none ++ prints → prints
       ≡ flat_map out_line (printed_below (all_entries made) n) →
