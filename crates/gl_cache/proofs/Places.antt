@@ -71,7 +71,7 @@ none_at n x = elim (cases_lt x n) [
 pub no_word_at : (x : ℕ) (a : ℤ) → IsChanged no_words x a → ⊥
 no_word_at x a is = (let t : ◌≡◌ {A = Option Word} None (Some (record { value = a; dirty = true })) = sym (none_at VARIABLES x) ∙ is in cc)
 
--- places without a word, and no bit
+-- places whose stamps are all below st are right for st, where no bit is set
 pub fresh_slots :
     (st : ℕ) (slots : List Slot) (bits : List ℕ) → length slots ≡ VARIABLES → 0 < st → All (λ q. q.stamp < st) slots
     → ((x : ℕ) → HasBit bits x → ⊥) → AreSlots slots st bits
@@ -104,7 +104,7 @@ module _ (slots : List Slot) (st : ℕ) (bits : List ℕ) (are : AreSlots slots 
   moved : words_in st (set slots x q) ≡ set (words_in st slots) x (shown st q)
   moved = map-set (shown st) slots x q
 
-  -- a changed word in the place of that of x
+  -- where the new place of x shows a changed word, and the bit of x is set besides the others, the places stay right
   pub slots_changed :
       (bits' : List ℕ) (a : ℤ) → shown st q ≡ Some (record { value = a; dirty = true })
       → ((y : ℕ) → HasBit bits' y ↔ ((y ≡ x) ⊎ HasBit bits y)) → AreSlots (set slots x q) st bits'
@@ -125,7 +125,7 @@ module _ (slots : List Slot) (st : ℕ) (bits : List ℕ) (are : AreSlots slots 
     ]);
   }
 
-  -- one that was not changed
+  -- where the new place of x shows no changed word, and the bit of x alone is cleared, the places stay right
   pub slots_clean :
       (bits' : List ℕ) → ((a : ℤ) → shown st q ≡ Some (record { value = a; dirty = true }) → ⊥)
       → ((y : ℕ) → HasBit bits' y ↔ ((y ≢ x) × HasBit bits y)) → AreSlots (set slots x q) st bits'
@@ -146,7 +146,7 @@ module _ (slots : List Slot) (st : ℕ) (bits : List ℕ) (are : AreSlots slots 
     ]);
   }
 
--- a word that counts as unchanged
+-- a place that is made clean shows its word as a clean one, or none as before
 pub unchanged : (st : ℕ) (q : Slot) → shown st (record { stamp = q.stamp; value = q.value; dirty = false }) ≡ clean_word (shown st q)
 unchanged st q = by_test (q.stamp == st) where
   by_test : (b : Bool) → (if b then Some (let w : Word = record { value = q.value; dirty = false } in w) else None)
@@ -185,7 +185,7 @@ wiped_slots slots bits is none = fresh_slots 1 slots bits (long_none slots is) (
 pub wiped_words : (slots : List Slot) → slots ≡ replicate VARIABLES no_slot → words_in 1 slots ≡ no_words
 wiped_words slots is = no_words_shown 1 slots (long_none slots is) (past_none slots is)
 
--- a later stamp drops all words
+-- places that are right for a stamp have stamps below the next one
 later : (slots : List Slot) (st : ℕ) (bits : List ℕ) → AreSlots slots st bits → All (λ q. q.stamp < st + 1) slots
 later slots st bits are = All-weaker (λ (q : Slot). q.stamp ≤ st) (λ q. q.stamp < st + 1) (λ q less. (omega arith)) slots are.past
 

@@ -68,7 +68,7 @@ module _ (words : List ℕ) (k : ℕ) (n : k / 64 < length words) where
             (λ h. inr (sym kept ∙ h), λ h. elim h [ inl same ↦ absurd (other same) | inr old ↦ kept ∙ old ]))
       ]
 
-  -- without the bit k
+  -- clearing bit k leaves just the other bits that were set
   pub HasBit-without_bit : (j : ℕ) → HasBit
       (set words (k / 64) (bit_and (get_or words (k / 64) 0) (bit_not w64 (1 * 2 ^ (k % 64) % 2 ^ 64)))) j ↔ ((j ≢ k) × HasBit words j)
   unfolding word HasBit

@@ -61,6 +61,7 @@ trim_not_laid (Abort tx why) t l = t
 trim_not_laid (Over ending) t l = t
 
 module _ (R : Lists) (form : Form R) where
+  -- along each list of a well-formed record positions rise
   pub positions_rise : PositionsRise R
   positions_rise c d p q s r e f before =
       let there : At (R c.thread) d.index f.entry = subst (λ t. At (R t) d.index f.entry) (sym before.0) f.there in

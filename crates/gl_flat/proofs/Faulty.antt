@@ -23,6 +23,7 @@ both_found R flat (Some c) first = inr (λ d f. f.2.1.2 (flat d f.0 f.1 f.2.0 f.
 
 module _ (made : List (ℕ × List Entry)) (record' : IsRecord made) (form : Form (lists_of made)) (setting : Setting) (h : List Stamp)
     (is_list : IsEventList h (lists_of made)) (machine : IsMachineRun setting (lists_of made) h) where
+  -- where what is found is the first wrong word, or nothing is found and the words hold, nothing is found exactly where the record is legal
   pub decides : (found : Option StoredPlace) → MatchOption found (WordsHold (lists_of made))
       (λ c. WordFailsFirst (lists_of made) (seen c)) → (found ≡ None) ↔ Legal setting (lists_of made)
   decides None hold = (λ e. (legal_law made record' form setting h is_list machine).1 hold, λ legal. refl)
@@ -32,6 +33,8 @@ module _ (made : List (ℕ × List Entry)) (record' : IsRecord made) (form : For
         (first_word_law.none (lists_of made) (seen c) first ((legal_law made record' form setting h is_list machine).0 legal)),
   )
 
+  -- where the flat history holds, a search that finds the first wrong look,
+  -- or nothing if all looks are right, finds nothing exactly where the record is legal
   pub decides_all : {E : Type 0} → FlatHolds (lists_of made) → (r : Result (Option StoredPlace) E) →
       IfOk r (λ found. MatchOption found (LooksHold (lists_of made)) (λ c. IsFirstBy Before (LookFailsAt (lists_of made)) (seen c))) →
       IfOk r (λ found. (found ≡ None) ↔ Legal setting (lists_of made))

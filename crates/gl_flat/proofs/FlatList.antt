@@ -42,6 +42,7 @@ module _ {A : Type 0} where
   contains_at (y ∷ ys) zero x e = (zero, omega arith, let z : y ≡ x = cc in z)
   contains_at (y ∷ ys) (suc k) x e = let r = contains_at ys k x e in (suc r.0, (let l = r.1 in omega arith), r.2)
 
+  -- what is in a list stands in it at some place
   pub at_contains : (xs : List A) (x : A) → Contains xs x → (k : ℕ) × (slice_get xs k ≡ Some x)
   at_contains xs x c = (c.0, slice_get-get_or xs c.0 x c.1 ∙ ap Some c.2)
 
@@ -81,7 +82,7 @@ module _ (R : Lists) (h : List Stamp) (is_list : IsEventList h R) (form : Form R
       nothing c (q, e, inl lt) = omega arith
       nothing c (q, e, inr w) = let z = w.1 in omega arith
 
-  -- the same places are laid out
+  -- where two points of the walk have the same laid-out places behind them, a list up to the one is a list up to the other
   as_far : (p i q j : ℕ) → ((c : Place) → IsLaidOutAt R c → IsWalked R p i c ↔ IsWalked R q j c) → FlatUpTo R p i → FlatUpTo R q j
   as_far p i q j same f = record {
     places = f.places;
@@ -167,7 +168,7 @@ module _ (R : Lists) (h : List Stamp) (is_list : IsEventList h R) (form : Form R
       let c = is_list.made n s.0 s.1 in
       rw (sym (add-one n)) (of_block n c.0 s.0 c.1 (up_to n (omega arith)))
 
-  -- the flat history
+  -- the record has a flat history
   pub history : (cs : List Place) × IsFlat R cs
   history = (f.places, record { each = λ c. (to c, from c); in_order = f.in_order })
     where

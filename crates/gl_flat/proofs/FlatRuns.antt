@@ -30,6 +30,7 @@ module _ (setting : Setting) (R : Lists) (h : List Stamp) (is_list : IsEventList
   block : ℕ → ℕ
   block k = block_there k (slice_get cs k) refl
 
+  -- where c stands at k in the history, the block that is found there is that of c
   block_is : (k : ℕ) (c : Place) (o : Option Place) (at : slice_get cs k ≡ o) → o ≡ Some c → IsBlockOf R c (block_there k o at)
   unfolding block_there
   block_is k c None at is = absurd (cc)
@@ -38,6 +39,7 @@ module _ (setting : Setting) (R : Lists) (h : List Stamp) (is_list : IsEventList
       let laid = laid_in R h is_list rise cs flat k d at in
       subst (λ z. IsBlockOf R z (block_there k (Some d) at)) same (laid_block R form d laid.0 laid.1 laid.2).1
 
+  -- where c stands at k in the history, its block is the one at k
   blocks : (k : ℕ) (c : Place) → slice_get cs k ≡ Some c → IsBlockOf R c (block k)
   unfolding block
   blocks k c at = block_is k c (slice_get cs k) refl at
@@ -48,6 +50,7 @@ module _ (setting : Setting) (R : Lists) (h : List Stamp) (is_list : IsEventList
     unraised k c e at there = let laid = laid_in R h is_list rise cs flat k c at in
         subst IsLaidOut (same_entry R c laid.0 e laid.1 there) laid.2
 
+    -- each read and look has the word there, and a plain access is made by a running thread
     agree : ReadsAgree setting R h is_list rise machine cs flat block blocks
     unfolding words
     agree = record {
@@ -63,6 +66,7 @@ module _ (setting : Setting) (R : Lists) (h : List Stamp) (is_list : IsEventList
           (plain_runs R form setting h machine c (block k) var nth cached write raised value there (blocks k c at));
     }
 
+    -- where its words hold, the record is legal: the machine, with the words, runs along its flat history
     pub legal_so : Legal setting R
     legal_so = record {
       history = cs;
@@ -90,7 +94,7 @@ step_words setting old new t (Abort tx why) step laid x = absurd step
 step_words setting old new t (Trim low) step laid x = absurd step
 step_words setting old new t (Over ending) step laid x = absurd step
 
--- and reads the words
+-- what one step of the machine reads are the words before it
 step_reads : (setting : Setting) (old new : Memory) (t : ℕ) (e : Entry) → IsStep setting old t e new → (x : ℕ) (v : ℤ) → ReadsValue e x v →
     v ≡ old.words x
 step_reads setting old new t (Commit at tx) step x v r = let k = at_contains tx.looks r.0 r.1 in sym r.3 ∙ step.1 k.0 r.0 k.1 ∙
@@ -132,6 +136,7 @@ module _ (setting : Setting) (R : Lists) (h : List Stamp) (is_list : IsEventList
       (step_word R h is_list rising cs legal.flat k d run.0 old.words x here run.1 (words x)))
       j c at
 
+  -- the words of a legal record hold
   pub holds_of : WordsHold R
   holds_of = record { flat = flat; looks = legal.found }
     where

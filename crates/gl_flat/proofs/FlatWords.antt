@@ -52,6 +52,7 @@ past_of_laid words (Trim low) x laid = refl
 past_of_laid words (Over ending) x laid = refl
 
 module _ (R : Lists) (h : List Stamp) (is_list : IsEventList h R) (rise : PositionsRise R) (cs : List Place) (flat : IsFlat R cs) where
+  -- at each place of the history stands an entry that is laid out
   pub laid_in : (k : ℕ) (c : Place) → slice_get cs k ≡ Some c → IsLaidOutAt R c
   laid_in k c at = (flat.each c).0 (contains_at cs k c at)
 
@@ -91,15 +92,17 @@ module _ (R : Lists) (h : List Stamp) (is_list : IsEventList h R) (rise : Positi
         ]
       ]
 
-  -- one step of the words
+  -- where the words are the last ones among the first k places, the words past the entry at k are those among the first k + 1
   pub step_word : (k : ℕ) (c : Place) (e : Entry) (words : ℕ → ℤ) (x : ℕ) → slice_get cs k ≡ Some c → EntryAt R c e →
       IsLastWord R (Among k) x (words x) → IsLastWord R (Among (suc k)) x (words_past words e x)
   step_word k c e words x at there last = word_more R h is_list rise (Among k) (Among (suc k)) c e words x there (among_before k c at)
       (among_more k c at) last
 
+  -- before the first place of the history each word is 0
   pub first_word : (x : ℕ) → IsLastWord R (Among 0) x (pos 0)
   first_word x = inr (refl, λ g u m w. let z = m.1 in omega arith)
 
+  -- the last word of x among the first k places of the history is the word of x where the place at k is laid out
   pub word_at : (k : ℕ) (c : Place) (x : ℕ) (v : ℤ) → slice_get cs k ≡ Some c → IsLastWord R (Among k) x v → IsWordAt R c x v
   word_at k c x v at last = word_among R (Among k) (λ d. InFlatOrder R d c) x v (among_before k c at)
       (λ d u before w. before_among k c at d (writes_laid_at R d x u w) before) last
@@ -108,6 +111,7 @@ module _ (R : Lists) (h : List Stamp) (is_list : IsEventList h R) (rise : Positi
   abbrev pub words : ℕ → ℕ → ℤ
   words k = words_after R cs k (λ _. pos 0)
 
+  -- the words after the first k places of the history are the last ones that were written among these places, or 0
   pub words_are : (k : ℕ) → k ≤ length cs → (x : ℕ) → IsLastWord R (Among k) x (words k x)
   unfolding words_after entry_of
   words_are zero le x = first_word x

@@ -18,7 +18,7 @@ use Rattle.gl_flat.specs.Below.{AreWrites, with_number, written_by, written_in}
 use Rattle.gl_flat.proofs.KeptEntries.{kept_at, thread_at}
 use Rattle.gl_flat.proofs.Members.{In, append_back, append_front, contains_in, flat_in, found_is, found_one, in_append, in_contains, in_flat}
 
--- the writes of a transaction, one more
+-- the first i + 1 writes of a transaction, with their numbers, are the first i with theirs and then the one at i
 pub written_more : (ns : List Number) (ws : List Pair) (i : ℕ) (w : Pair) → slice_get ws i ≡ Some w →
     written_in ns (take (suc i) ws) ≡ written_in ns (take i ws) ++ with_number w (find (λ n. n.var == w.var) ns)
 written_more ns [] i w at = absurd (cc)
@@ -41,7 +41,7 @@ add_more ns ws i w o first old new at is so_far added =
     ∙ ap (λ p. first ++ (written_in ns (take i ws) ++ with_number w p)) is ∙ ap (λ xs. first ++ xs) (sym (written_more ns ws i w at))
     ∙ ap (λ n. first ++ written_in ns (take n ws)) (sym (add-one i))
 
--- entries as definitions see them
+-- what is made of each element as it is seen, put together, is what is made of the elements of the seen list
 pub flat_seen : {A B C : Type 0} (f : A → B) (g : B → List C) (xs : List A) → flat_map (λ x. g (f x)) xs ≡ flat_map g (map f xs)
 flat_seen f g [] = refl
 flat_seen f g (x ∷ xs) = ap (λ ys. g (f x) ++ ys) (flat_seen f g xs)
@@ -118,11 +118,11 @@ WrittenBelow R t x = (c : Place) × (c.thread < t) × ((e : Entry) × EntryAt R 
 abbrev pub AreWritesBelow : Lists → ℕ → List Written → Type 0
 AreWritesBelow R t ws = (x : Written) → In ws x ↔ WrittenBelow R t x
 
--- below thread 0 there are none
+-- the performed writes of the threads below 0 are none
 pub none_written : (R : Lists) → AreWritesBelow R 0 []
 none_written R x = (λ i. absurd i, λ w. let z = w.1 in omega arith)
 
--- one thread more
+-- the performed writes of the threads below t, and those of the list of thread t, are those of the threads below t + 1
 pub written_next : (R : Lists) (t : ℕ) (ws : List Written) → AreWritesBelow R t ws →
     AreWritesBelow R (t + 1) (ws ++ flat_map written_by (R t))
 written_next R t ws are x = (to, from)

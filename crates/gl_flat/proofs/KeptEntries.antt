@@ -12,7 +12,7 @@ use Rattle.gl_model.specs.Records.{Place, EntryAt}
 use Rattle.gl_laws.proofs.Histories.{RisingWrites}
 use Rattle.gl_flat.specs.Walk.{IsWalkable}
 
--- an entry of a list of which all keep to something
+-- what holds of all entries of a list holds of the one at a place
 pub all_at : (P : Entry → Type 0) (es : List Entry) → AllByRecursion P es → (i : ℕ) (e : Entry) → At es i e → P e
 all_at P [] all i e at = absurd (cc)
 all_at P (f ∷ es) all zero e at = let same : f ≡ e = cc in subst P same all.0
@@ -33,7 +33,7 @@ kept_in (l ∷ ls) kept t i e at = here (kept_in ls kept.1 t i e) (l.0 == t) ref
         let s : lists_of (l ∷ ls) t ≡ lists_of ls t = rw is refl in
         rest (subst (λ es. At es i e) s at)
 
--- each entry of a record keeps to them
+-- each entry of a record keeps to the ids that there are
 pub kept_at : (made : List (ℕ × List Entry)) → IsRecord made → (c : Place) (e : Entry) → EntryAt (lists_of made) c e → IsEntryKept e
 kept_at made record' c e there = (kept_in made record'.1 c.thread c.index e there).1
 
@@ -41,7 +41,7 @@ kept_at made record' c e there = (kept_in made record'.1 c.thread c.index e ther
 pub thread_at : (made : List (ℕ × List Entry)) → IsRecord made → (c : Place) (e : Entry) → EntryAt (lists_of made) c e → c.thread < THREADS
 thread_at made record' c e there = (kept_in made record'.1 c.thread c.index e there).0
 
--- of kept lists each has entries that keep to them
+-- each entry of each thread's list keeps to the ids that there are, where the lists do
 list_kept : (ls : List (ℕ × List Entry)) → AllByRecursion IsListKept ls → (t : ℕ) → AllByRecursion IsEntryKept (lists_of ls t)
 list_kept [] kept t = tt
 list_kept (l ∷ ls) kept t = here (list_kept ls kept.1 t) (l.0 == t) refl
@@ -50,11 +50,11 @@ list_kept (l ∷ ls) kept t = here (list_kept ls kept.1 t) (l.0 == t) refl
     here rest true is = let s : lists_of (l ∷ ls) t ≡ l.1 = rw is refl in subst (AllByRecursion IsEntryKept) (sym s) kept.0.2
     here rest false is = let s : lists_of (l ∷ ls) t ≡ lists_of ls t = rw is refl in subst (AllByRecursion IsEntryKept) (sym s) rest
 
--- so has each list of a record
+-- each entry of each thread's list in a record keeps to the ids that there are
 pub lists_kept : (made : List (ℕ × List Entry)) → IsRecord made → (t : ℕ) → AllByRecursion IsEntryKept (lists_of made t)
 lists_kept made record' t = list_kept made record'.1 t
 
--- the record can be walked
+-- a well-formed record whose events are listed can be walked
 pub walkable : (made : List (ℕ × List Entry)) → IsRecord made → Form (lists_of made) → Listed (lists_of made) → IsWalkable (lists_of made)
 walkable made record' form listed = record { form = form; listed = listed; kept = kept_at made record' }
 

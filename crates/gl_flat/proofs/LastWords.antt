@@ -69,7 +69,7 @@ writes_not R c g e x u there none same w =
     let at : EntryAt R c w.0 = subst (λ z. EntryAt R z w.0) same w.1 in
     none (subst (λ f. WritesValue f x u) (same_entry R c w.0 e at there) w.2)
 
--- the word among other places, where the writes of both are the same
+-- the last word of x among some places is that among more, where none of the others writes x
 pub word_among : (R : Lists) (Among Others : Place → Type 0) (x : ℕ) (v : ℤ) → ((d : Place) → Among d → Others d) →
     ((d : Place) (u : ℤ) → Others d → WritesAt R d x u → Among d) → IsLastWord R Among x v → IsLastWord R Others x v
 word_among R Among Others x v to from (inl l) = inl (l.0, to l.0 l.1, l.2, λ g u m w. l.3 g u (from g u m w) w)
@@ -111,7 +111,7 @@ module _ (R : Lists) (h : List Stamp) (is_list : IsEventList h R) (rise : Positi
       let r = rising d a.0 a.1 in
       sym (written_word (λ _. pos 0) a.0 x v r a.2) ∙ written_word (λ _. pos 0) a.0 x w r b'
 
-  -- there is one last word
+  -- two last words of x among the same places are one
   pub one_word : (rising : (c : Place) (e : Entry) → EntryAt R c e → RisingWrites e) (Among : Place → Type 0) →
       ((d : Place) → Among d → HasBlock R d) →
       (x : ℕ) (v w : ℤ) → IsLastWord R Among x v → IsLastWord R Among x w → v ≡ w

@@ -25,7 +25,7 @@ use Rattle.gl_flat.proofs.LastWords.{one_word, word_among, word_more}
 use Rattle.gl_flat.proofs.Tables.{kept_part}
 use Rattle.gl_flat.proofs.Walked.{before_walked, walked_before, walked_end, walked_more, walked_out, walked_start}
 
--- what stands in a list that is mapped
+-- where x stands at k in a list, its image stands there in the mapped list
 pub at_map : {A B : Type 0} (f : A → B) (xs : List A) (k : ℕ) (x : A) → k < length xs → x ≡ get_or xs k x →
     slice_get (map f xs) k ≡ Some (f x)
 at_map f [] k x near is = absurd (omega arith)
@@ -38,7 +38,7 @@ at_map_or f [] k d near = absurd (omega arith)
 at_map_or f (y ∷ ys) zero d near = refl
 at_map_or f (y ∷ ys) (suc k) d near = at_map_or f ys k d (omega arith)
 
--- an event has a position
+-- an entry that is no event has no position
 no_position : (e : Entry) (q : ℕ) → is_event e ≡ false → position_of e ≡ Some q → ⊥
 no_position (Sync at act value) q not is = cc
 no_position (Commit at tx) q not is = cc
@@ -114,7 +114,7 @@ module _ (R : Lists) (walk : IsWalkable R) (t p : ℕ) (s : Stamp) (i : ℕ) (ma
       same : (d : Place) → IsWalked R p 0 d ↔ IsWalked R p i d
       same d = walked_start R h is_list rise p i (λ c b. let o = (own c b).1 in let n = b.within in omega arith) d
 
-  -- an entry behind which no event came
+  -- where no event stands behind place i up to k, place k is in the block of the event at i
   block : (k : ℕ) → i ≤ k → ((j : ℕ) (e : Entry) → i < j → j ≤ k → At (R t) j e → is_event e ≡ false) → IsBlockOf R (here k) p
   block k le none = record { index = i; event = s; made = made; within = le; last = last }
     where
@@ -168,7 +168,7 @@ module _ (R : Lists) (walk : IsWalkable R) (t p : ℕ) (s : Stamp) (i : ℕ) (ma
         first : (d : Place) → FlatFailsAt R d → InFlatOrder R d (here k) → ⊥
         first d f before = f.2.1.2 (w.right d (before_walked R h is_list rise (here k) p b d before) f.0 f.1 f.2.0 f.2.1.0 f.2.1.1)
 
-  -- from the end of the block to the next
+  -- where all entries of the block stand before k, a walk that has come to k has come to the next block
   finish : (k : ℕ) (words : List ℤ) → ((d : Place) (e : Entry) → EntryAt R d e → IsBlockOf R d p → d.index < k) → HasWalked R p k words →
       HasWalked R (p + 1) 0 words
   finish k words short w = record {
@@ -217,6 +217,7 @@ module _ (es : List Entry) (i k : ℕ) (before words : List ℤ) (come : ComesTo
   block_at R walk t p s list made e there not = block R walk t p s i made k come.on
       (λ j f lo hi at. clear e there not j f lo hi (subst (λ l. At l j f) list at))
 
+  -- where the entry at k, the block's event or no event, agrees with the words, the walk comes to place k + 1 with the words past it
   pub comes_more : (after : List ℤ) (e : Entry) → At es k e → (i < k → is_event e ≡ false) → AgreesWith (word_in words) e →
       ((x : ℕ) → x < VARIABLES → word_in after x ≡ words_past (word_in words) e x) →
       ComesTo es i (k + 1) before after
@@ -228,18 +229,21 @@ module _ (es : List Entry) (i k : ℕ) (before words : List ℤ) (come : ComesTo
         (come.walked R walk t p s list made w) after agrees past;
   }
 
+  -- where a read of the entry at k, the block's event or no event, differs from its word, the walk has come to the first wrong read
   pub differs : (after : List ℤ) (e : Entry) → At es k e → (i < k → is_event e ≡ false) → DiffersFrom (word_in words) e →
       PassesBlock es i before after (Some k)
   differs after e there not d = λ R walk t p s list made w.
       differ R walk t p s i made k e (subst (λ l. At l k e) (sym list) there) (block_at R walk t p s list made e there not) words
       (come.walked R walk t p s list made w) d
 
+  -- where an event stands at k, behind the block's own, the walk has passed the block
   pub meets_event : (e : Entry) → At es k e → i < k → is_event e ≡ true → PassesBlock es i before words None
   meets_event e there lt is = λ R walk t p s list made w.
       let q = has_position e is in
       finish R walk t p s i made k words (before_event R walk t p s i made k q.0 e (subst (λ l. At l k e) (sym list) there) q.1 lt)
       (come.walked R walk t p s list made w)
 
+  -- where the list has no entry at place k or behind it, the walk has passed the block
   pub comes_out : length es ≤ k → PassesBlock es i before words None
   comes_out far = λ R walk t p s list made w.
       finish R walk t p s i made k words

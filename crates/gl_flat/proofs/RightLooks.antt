@@ -27,10 +27,11 @@ module _ {A : Type 0} (P : A → Type 0) (xs : List A) (i : ℕ) (all : (k : ℕ
     | no ne ↦ all k x (omega arith) at
   ]
 
-  -- and of all, where there are no more
+  -- what holds of the first i holds of all, where there are no more than i
   pub no_more : length xs ≤ i → (k : ℕ) (x : A) → slice_get xs k ≡ Some x → P x
   no_more far k x at = all k x (let n = slice_get_within xs k x at in omega arith) at
 
+  -- what holds of the first i holds of all, where none stands at i
   pub none_more : slice_get xs i ≡ None → (k : ℕ) (x : A) → slice_get xs k ≡ Some x → P x
   none_more none k x at = no_more short k x at
     where
@@ -77,14 +78,14 @@ module _ (R : Lists) (t : ℕ) (es : List Entry) (list : es ≡ R t)
       first d f (inl lt) = f.2 (all d f.0 lt f.1)
       first d f (inr q) = f.2 (w.1 d.index f.0 q.1 (subst (λ l. slice_get l d.index ≡ Some f.0) (ap R q.0 ∙ sym list) f.1))
 
-  -- a list more whose looks are right
+  -- where the looks of thread t's list are right too, those of all threads below t + 1 are
   pub next_look : IsFirstLook R es None → (c : Place) (e : Entry) → c.thread < t + 1 → EntryAt R c e → ReadsRight R e
   next_look w c e lt there = elim (ℕ_discrete c.thread t) [
     | yes same ↦ w c.index e (subst (λ l. slice_get l c.index ≡ Some e) (ap R same ∙ sym list) there)
     | no ne ↦ all c e (omega arith) there
   ]
 
--- all threads
+-- where all looks of the threads below t are right, and there are no threads from t on, all looks are right
 pub all_looks : (made : List (ℕ × List Entry)) → IsRecord made → (t : ℕ) → THREADS ≤ t →
     ((c : Place) (e : Entry) → c.thread < t → EntryAt (lists_of made) c e → ReadsRight (lists_of made) e) → LooksHold (lists_of made)
 all_looks made record' t far all c e there = all c e (let n = thread_at made record' c e there in omega arith) there

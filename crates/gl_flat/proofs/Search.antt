@@ -100,6 +100,7 @@ module _ (ws : List Written) (sorted : IsSorted written_cmp ws) where
       (((get_or ws i d).var ≡ (get_or ws j d).var) × ((get_or ws i d).nth ≤ (get_or ws j d).nth))
   far i j d le near = behind (get_or ws i d) (get_or ws j d) (sorted_far (λ v w. is_lt (written_cmp v w)) weak ws sorted i j d le near)
 
+  -- the test parts the sorted list: each write before one that passes it passes it too
   pub parted : (x n : ℕ) → IsPartitionedBy (is_before x n) ws
   parted x n i j d le near e = is_so x n (get_or ws i d) (by (far i j d le near) (before_is x n (get_or ws j d) e))
     where
@@ -125,7 +126,7 @@ module _ (ws : List Written) (sorted : IsSorted written_cmp ws) where
         cc)
   ]
 
-  -- is this write there?
+  -- the answer of the search tells whether the write is in the list
   pub searched : (t : Written) (r : Result ℕ ℕ) → IsSearchInRange r (length ws) → IsBinarySearchResult (λ y. written_cmp y t) ws r →
       MatchBool (is_ok r) (Contains ws t) (Contains ws t → ⊥)
   searched t (Ok i) near at = (i, near, same_written (get_or ws i t) t (at t))
@@ -153,7 +154,7 @@ module _ (ws : List Written) (sorted : IsSorted written_cmp ws) where
     no_word none true zero' = inr (zero', λ j u lt w. none j u lt ((are (write j u)).1 w))
     no_word none false ne = λ w. elim w [ inl q ↦ none q.0 v q.1 ((are (write q.0 v)).1 q.2) | inr q ↦ ne q.0 ]
 
-    -- where nothing stands before the point, or its last is of another variable
+    -- where nothing stands before the point, an answer whether v is 0 is one whether v is the word of x below n
     pub first_point : end ≡ 0 → (b : Bool) → MatchBool b (v ≡ pos 0) (v ≢ pos 0) →
         MatchBool b (IsWordBelow R x n v) (IsWordBelow R x n v → ⊥)
     first_point at b test = no_word (λ j u lt c. let z = before_point x n c.0 j end u point lt c.1 c.2 in omega arith) b test
@@ -216,7 +217,7 @@ module _ (ws : List Written) (sorted : IsSorted written_cmp ws) where
             | inr q ↦ q.1 last.nth last.value near ((are (write last.nth last.value)).0 there)
           ]
 
--- the test against 0
+-- the test of a value against 0 tells whether it is 0
 pub zero_test : (v : ℤ) → FitsSigned w64 v → MatchBool (nat_eq (of_z w64 v) 0) (v ≡ pos 0) (v ≢ pos 0)
 zero_test v fits = go (nat_eq (of_z w64 v) 0) refl
   where

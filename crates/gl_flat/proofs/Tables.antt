@@ -26,7 +26,7 @@ pub map_length : {A B : Type 0} (f : A → B) (ps : List A) → length (map f ps
 map_length f [] = refl
 map_length f (p ∷ ps) = ap suc (map_length f ps)
 
--- there are few parts
+-- parts whose variables rise are at most TX_VARIABLES
 pub few_parts : {A : Type 0} (key : A → ℕ) (ps : List A) → AreVariables (map key ps) → length ps ≤ TX_VARIABLES
 few_parts key ps are = let n = are.0 in let same = map_length key ps in omega arith
 
@@ -37,7 +37,7 @@ stored_more words [] i w at x = absurd (cc)
 stored_more words (v ∷ ws) zero w at x = let same : v ≡ w = cc in rw same refl
 stored_more words (v ∷ ws) (suc i) w at x = stored_more (with_at words v.var v.value) ws i w at x
 
--- a write to the table
+-- setting the word at k of a table to v gives v at k, and leaves the other words
 pub set_word : (table : List ℤ) (k : ℕ) (v : ℤ) (x : ℕ) → k < length table → word_in (slice_set table k v) x ≡ with_at (word_in table) k v x
 set_word table k v x near = elim (ℕ_discrete x k) [
   | yes same ↦ subst (λ y. word_in (slice_set table k v) y ≡ with_at (word_in table) k v y) (sym same)
@@ -70,7 +70,7 @@ store_step table before ws i w size kept at so_far x near = elim (ℕ_discrete x
     step : stored (word_in before) (take (i + 1) ws) x ≡ with_at (stored (word_in before) (take i ws)) w.var w.value x
     step = rw (add-one i) (stored_more (word_in before) ws i w at x)
 
--- a commit reads by its looks
+-- an answer whether the looks of a commit agree with the words is one whether the commit does
 pub commit_agrees : (words : ℕ → ℤ) (at : ℕ) (tx : Tx) (b : Bool) → MatchBool b (LooksAgree words tx.looks) (LooksDiffer words tx.looks) →
     MatchBool b (AgreesWith words (Commit at tx)) (DiffersFrom words (Commit at tx))
 commit_agrees words at tx true agree = λ x v r. let k = at_contains tx.looks r.0 r.1 in sym r.3 ∙ agree k.0 r.0 k.1 ∙ ap words r.2

@@ -23,7 +23,7 @@ unknown (Some a) l is = cc
 unknown None (Some b) is = cc
 unknown None None is = refl
 
--- a test that it is below the limit
+-- a number that passes the test for room is below TX_VARIABLES
 below : (n : ℕ) → nat_lt n TX_VARIABLES ≡ true → n < TX_VARIABLES
 below n is = search (rules, is)
 

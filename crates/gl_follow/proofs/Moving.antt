@@ -125,7 +125,7 @@ module _ (P : Bytecode) (steps t : ℕ) where
       by_cut (inl none) = inl (sym way.entries ∙ none)
       by_cut (inr c) = by_way c.way.exchanges c.last c.way.entries c.way.reached c.outside
 
-    -- so does a way to the end, where there is one
+    -- a way that leads to a machine that is over leads nowhere else, by no entries, or begins with what is forced
     pub begun_over :
         (more back : List Entry) (q : Progress) (ending : Ending) → rest ≡ more ++ back → Reaches P p (without_trims more) q →
         q.config.stage ≡ IsOver ending → ((p ≡ q) × (without_trims more ≡ [])) ⊎ Begun P p rest (without_trims more) q
@@ -154,10 +154,12 @@ module _ (P : Bytecode) (steps t : ℕ) where
           subst (λ m. Reaches P m es r) mids w.rest
       by_first (inr w) = (let none = w.none in cc)
 
+    -- a way by no entries leads from a machine to where it is
     no_way : (q : Progress) (es : List Entry) → es ≡ [] → Reaches P q es q
     unfolding told
     no_way q es none = record { exchanges = []; entries = sym none; reached = refl }
 
+    -- a machine that follows a list still follows it after the reply that leaves no entry, where it is orderly then
     pub move_quiet :
         (reply : Reply) (q : Progress) → quiet_for p rest (ask_of p.config.stage) ≡ Some reply → told_one P (Quiet reply) p ≡ Some q →
         IsOrderly P q.config → Follows P steps t front rest q
@@ -190,7 +192,7 @@ module _ (P : Bytecode) (steps t : ℕ) where
           absurd (cc)
       to_end more r ending over (inr b) = rest_quiet reply q r (without_trims more) chosen first b
 
-  -- the rest of a way that begins by the entry
+  -- where no reply is forced and a way begins by the entry e, its rest is a way by the entries behind e
   rest_entry :
       (e : Entry) (rest more : List Entry) (p q r : Progress) → (IsTrim e → ⊥) → quiet_for p (e ∷ rest) (ask_of p.config.stage) ≡ None →
       told_one P (Made e) p ≡ Some q → Begun P p (e ∷ rest) (without_trims (e ∷ more)) r → Reaches P q (without_trims more) r

@@ -115,7 +115,7 @@ module _ (P : Bytecode) (steps t : ℕ) where
 
   module _ (front rest : List Entry) (p : Progress) (f : Follows P steps t front rest p) (few : touched p ≤ TX_VARIABLES)
       (stops : Stops P p rest) where
-    -- nothing begins here
+    -- no way by such entries begins here: with the next entry that is left, or none where none is left
     none_begins : (es : List Entry) (q : Progress) → ((e : Entry) (fs : List Entry) → rest ≡ e ∷ fs → (gs : List Entry) × (es ≡ e ∷ gs))
         → (rest ≡ [] → es ≡ []) → Begun P p rest es q → ⊥
     none_begins es q head none b = by_first rest refl b.first where
@@ -130,7 +130,7 @@ module _ (P : Bytecode) (steps t : ℕ) where
           let refused = (stops.entry e fs is).1 in
           cc
 
-    -- so no longer beginning is made
+    -- where an entry is left, the machine makes no beginning of the list that is longer than the front
     blocked : (e : Entry) (fs more back : List Entry) (r : Progress) → rest ≡ e ∷ fs → rest ≡ (e ∷ more) ++ back
         → Along P steps t (front ++ (e ∷ more)) r → ⊥
     blocked e fs more back r is same along = by_begun (begun P steps t front rest p f few (e ∷ more) back w.0 same w.1) where
@@ -190,7 +190,7 @@ module _ (P : Bytecode) (steps t : ℕ) where
         over : runs.last.config.stage ≡ IsOver last
         over = runs.over ∙ ap IsOver endings
 
-        -- the machine is over here
+        -- the next entry is not the last one, which says how the thread ended
         here : (e : Entry) (fs : List Entry) → rest ≡ e ∷ fs → fs ≡ [] → base ≡ front → e ≡ Ended last → ⊥
         here e fs is none bases entry = by_way (begun_over P steps t front rest p f few [] rest runs.last last refl way over) where
           along' : Along P steps t (front ++ []) runs.last

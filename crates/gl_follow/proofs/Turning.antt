@@ -124,7 +124,7 @@ module _ (P : Bytecode) (steps t : ℕ) (es : List Entry) where
   passed p q n (Abort tx why) later a same trim still can = absurd trim
   passed p q n (Ended ending) later a same trim still can = absurd trim
 
-  -- one turn
+  -- a turn that passes k entries leads a machine that has passed n to one that has passed n + k
   pub turned : (p q : Progress) (n k : ℕ) → IsAt P steps t es p n → touched p ≤ TX_VARIABLES → Turns P p (drop n es) q k → CanGo P q
       → IsAt P steps t es q (n + k)
   turned p q n k a few (inl (none, g)) can =
@@ -146,7 +146,7 @@ module _ (P : Bytecode) (steps t : ℕ) (es : List Entry) where
             let none = subst (λ l. quiet_for p l (ask_of p.config.stage) ≡ None) g.same g.none in
             move_entry P steps t (take n es) g.later g.entry p q here few not none first can.orderly
 
-  -- and what it leaves to do
+  -- a turn leaves less to do: fewer entries and answers together
   pub turn_falls : (p q : Progress) (n k : ℕ) → IsAt P steps t es p n → Turns P p (drop n es) q k
       → (length es - (n + k)) + answers_left q.config < (length es - n) + answers_left p.config
   turn_falls p q n k a (inl (none, g)) = (let less = one_falls P (Quiet g.reply) p q a.can.orderly g.first in omega (arith, none))

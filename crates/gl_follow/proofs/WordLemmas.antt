@@ -104,7 +104,7 @@ known_among looks writes x is = elim (either _ _ is) [
   | inr l ↦ all_right (map pair_var writes) (map pair_var looks) x (word_among looks x l)
 ]
 
--- a set that is full has another size than one with room
+-- where fewer variables are touched than may be, the list of them is not as long as it may be
 pub look_enters : (looks writes : List Pair) (all : List ℕ) → all ≡ vars_of looks writes → size_of (touched_by looks writes) < TX_VARIABLES
     → length all ≡ TX_VARIABLES → ⊥
 look_enters looks writes all is room full = (let e = size_all looks writes all is in omega arith)

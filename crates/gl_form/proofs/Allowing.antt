@@ -14,7 +14,7 @@ use Rattle.gl_form.specs.declared.rights.Right.{Right}
 use Rattle.gl_form.specs.Passed.{AreRights, IsAllowed, IsBlock, IsEnough, IsLatest, IsRightOf, RightsGoOn, right_on}
 use Rattle.gl_form.proofs.Lasts.{before_next, same_entry}
 
--- who gives a right is no event
+-- an entry that gives a right is no event
 pub gives_plain : (e : Entry) (x m : ℕ) (w : Bool) → GivesRight e x m w → position_of e ≡ None
 gives_plain (Plain var nth cached write value raised) x m w g = refl
 gives_plain (Sync at act value) x m w g = absurd g
@@ -65,7 +65,7 @@ module _ (es : List Entry) (i block : ℕ) (rights : List (Option Right)) (are :
     ]
 
   module _ (x : ℕ) (less : x < VARIABLES) (k : ℕ) (write : Bool) where
-    -- a right of the block that is enough
+    -- the latest right on x, given in the present block and enough for the access, is the right that it has
     enough_has :
         (right : Right) → IsLatest es i x right → (block ≤ right.index) × (right.nth ≡ k) × (write ≡ true → right.write ≡ true) →
         HasRight es i x k write
@@ -144,7 +144,7 @@ module _ (es : List Entry) (i block : ℕ) (rights : List (Option Right)) (are :
     ];
   }
 
--- a cached entry
+-- a cached entry has the right exactly where that on its variable is enough for it, and it changes no right
 pub cached_goes_on :
     (e : Entry) (var nth : ℕ) (write : Bool) (value : ℤ) → e ≡ Plain var nth true write value false →
     (i block : ℕ) (rights : List (Option Right)) → var < VARIABLES →
@@ -191,7 +191,7 @@ cached_goes_on e var nth write value is i block rights less answer said = (let P
 abbrev right_of : ℕ → ℕ → Bool → Right
 right_of i nth write = record { index = i; nth = nth; write = write }
 
--- a numbered performed entry
+-- a numbered performed entry needs no right, and gives the one that is the latest on its variable from then on
 pub numbered_goes_on :
     (e : Entry) (var nth : ℕ) (write : Bool) (value : ℤ) → e ≡ Plain var nth false write value false →
     (i block : ℕ) (rights : List (Option Right)) → var < VARIABLES →

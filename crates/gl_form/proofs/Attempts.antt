@@ -41,7 +41,7 @@ module _ (tx : Tx) (kept : IsTxKept tx) where
 
   module _ (old mid : List (Option ℕ)) (looks : AreDrawn (λ (a : Look). a.var) (λ (a : Look). a.nth) tx.looks TX_VARIABLES old mid)
       (x : ℕ) where
-    -- of a look on x
+    -- the number of a look at x is above the last one before, and is the last one after the looks
     look_is : (k : ℕ) → ((value : ℤ) × Contains tx.looks (look_of x value k)) → IsAbove (last_on old x) k × (last_on mid x ≡ Some k)
     look_is k (value, c) =
         let place = at_of tx.looks (look_of x value k) c in
@@ -142,11 +142,11 @@ module _ (tx : Tx) (kept : IsTxKept tx) where
   abbrev Fails : List (Option ℕ) → Type 0
   Fails old = (x : ℕ) × ((k : ℕ) × TxDraws x tx k × (IsAbove (last_on old x) k → ⊥))
 
-  -- a look whose number is not above
+  -- where a look's number is not above the last one of its variable, the attempt's numbers do not rise
   pub look_fails : (old : List (Option ℕ)) → IsNotAbove (λ (a : Look). a.var) (λ (a : Look). a.nth) tx.looks old → Fails old
   look_fails old (m, (a, at, wrong)) = (a.var, (a.nth, inl (a.value, contains_at tx.looks m a at), wrong))
 
-  -- an own number that is not above, where these stand after those of the looks
+  -- where own numbers stand after the looks', and one is not above the last one then, the attempt's numbers do not rise
   pub number_fails :
       (old mid : List (Option ℕ)) → AreDrawn (λ (a : Look). a.var) (λ (a : Look). a.nth) tx.looks TX_VARIABLES old mid →
       ((x k m : ℕ) (value : ℤ) → Contains tx.looks (look_of x value k) → Contains tx.numbers (number_of x m) → k < m) →
@@ -161,6 +161,7 @@ module _ (tx : Tx) (kept : IsTxKept tx) where
     | inr none ↦ (a.var, (a.nth, inr (contains_at tx.numbers m a at), (λ is. wrong (subst (λ o. IsAbove o a.nth) (sym none.1) is))))
   ]
 
+  -- where the numbers of an attempt's looks have become the last ones, all its numbers rise exactly where its own rise behind those
   pub attempt_goes_on :
       (old mid : List (Option ℕ)) → AreDrawn (λ (a : Look). a.var) (λ (a : Look). a.nth) tx.looks TX_VARIABLES old mid →
       (new : List (Option ℕ)) (answer : Bool) →

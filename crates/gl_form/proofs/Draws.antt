@@ -18,7 +18,7 @@ use Rattle.gl_form.specs.Rules.{DrawsOn}
 use Rattle.gl_form.proofs.Lasts.{fallen, none_more, one_more, risen, same_entry}
 use Rattle.gl_form.proofs.Parts.{all_at, at_of}
 
--- an entry that draws nothing
+-- an entry that draws no number keeps the rule that numbers rise, and leaves the last ones as they are
 pub none_goes_on : (e : Entry) → ((x k : ℕ) → DrawsOn x e k → ⊥) → (old : List (Option ℕ)) → AllGoOn e true old old
 none_goes_on e none old = λ es i after are at. (
   (λ x j k m f g there here before of_f of_g. absurd (none x m (let same : g ≡ e = same_entry es i i e g at here refl in
@@ -50,7 +50,7 @@ module _ (e : Entry) (in_range : (x k : ℕ) → DrawsOn x e k → x < VARIABLES
     at_next es i at x last above (inr (none, is)) = (let P : Option ℕ → Type 0 = IsLast (DrawsOn x) es (i + 1) in
         subst P (sym is) (none_more (DrawsOn x) es i e at (last_on old x) last none))
 
-  -- one is not above
+  -- where a number that the entry drew on x is not above the last one of x, its numbers do not rise
   pub one_falls : (x k : ℕ) → DrawsOn x e k → (IsAbove (last_on old x) k → ⊥) → AllGoOn e false old new
   one_falls x k draws wrong =
       λ es i after are at all. fallen (DrawsOn x) es i e at (last_on old x) (are x (in_range x k draws)) k draws wrong (all x)
@@ -75,7 +75,7 @@ drawn_in_range (Trim low) kept x k (inr d) = absurd d
 drawn_in_range (Over ending) kept x k (inl d) = absurd d
 drawn_in_range (Over ending) kept x k (inr d) = absurd d
 
--- a plain entry with a number of its own
+-- the number of a plain entry rises exactly where it is above the last one of its variable, and is then the last one
 pub plain_goes_on :
     (e : Entry) (var nth : ℕ) (write : Bool) (value : ℤ) (raised : Bool) → e ≡ Plain var nth false write value raised → var < VARIABLES →
     (old new : List (Option ℕ)) → length old ≡ VARIABLES →
@@ -125,7 +125,7 @@ plain_goes_on e var nth write value raised is less old new whole answer said = (
           all_go_on (Plain var nth false write value raised) range old new (λ x. (above is_above x, next set_is x))
       by_answer false wrong = one_falls (Plain var nth false write value raised) range old new var nth (inr (refl, refl, refl)) wrong
 
--- a cached one draws nothing
+-- a cached plain entry draws no number, and leaves the last ones as they are
 pub cached_draws_on :
     (e : Entry) (var nth : ℕ) (cached write : Bool) (value : ℤ) (raised : Bool) → e ≡ Plain var nth cached write value raised →
     cached ≡ true → (old : List (Option ℕ)) →
@@ -138,7 +138,7 @@ cached_draws_on e var nth true write value raised is so old = none_goes_on e non
     by_kind (inr d) = (let wrong : true ≡ false = d.0 in cc)
 cached_draws_on e var nth false write value raised is so old = absurd cc
 
--- no event but a commit draws a number, no Trim and no Over
+-- a synchronization draws no number
 pub sync_draws_none : (e : Entry) (at : ℕ) (act : Act) (value : ℤ) → e ≡ Sync at act value → (x k : ℕ) → DrawsOn x e k → ⊥
 sync_draws_none e at act value is x k draws = by_kind (let P : Entry → Type 0 = λ f. DrawsOn x f k in subst P is draws) where
   by_kind : DrawsOn x (Sync at act value) k → ⊥
@@ -159,7 +159,7 @@ over_draws_none e ending is x k draws = by_kind (let P : Entry → Type 0 = λ f
   by_kind (inl d) = d
   by_kind (inr d) = d
 
--- an attempt
+-- the numbers of a commit or a dropped attempt rise, and are the last ones then, exactly where those of its transaction do
 pub attempt_goes_on :
     (e : Entry) (tx : Tx) → ((at : ℕ) × (e ≡ Commit at tx)) ⊎ ((why : Why) × (e ≡ Abort tx why)) → IsEntryKept e →
     (old new : List (Option ℕ)) (answer : Bool) →

@@ -26,12 +26,12 @@ module _ (Has : Entry → ℕ → Type 0) (es : List Entry) (i : ℕ) (e : Entry
       let most = is.most j k f there before of_f in
       omega arith
 
-  -- where one is not, they do not
+  -- where a number of the entry is not above the last one, numbers do not rise at place i
   pub fallen : (last : Option ℕ) → IsLast Has es i last → (k : ℕ) → Has e k → (IsAbove last k → ⊥) → RisesAt Has es i → ⊥
   fallen None none k has not_above rises = not_above tt
   fallen (Some n) is k has not_above rises = not_above (rises is.index n k is.entry e is.there at is.before is.has has)
 
-  -- an entry without a number changes nothing
+  -- an entry without a number leaves the last one as it is
   pub none_more : (last : Option ℕ) → IsLast Has es i last → ((m : ℕ) → Has e m → ⊥) → IsLast Has es (i + 1) last
   none_more None none nothing = λ j m f there before of_f. elim (before_next i j before) [
     | inl less ↦ none j m f there less of_f

@@ -40,7 +40,7 @@ found_at (p ∷ looks) x l is = by_first (cases_eq p.var x) (λ more. found_at l
       let more = rest found in
       ((suc more.0.0, more.0.1), more.1)
 
--- where nothing is found none is on the variable
+-- where no look at a variable is found, no look of the list is at it
 none_found :
     (looks : List Look) (x : ℕ) → find (λ p. p.var == x) looks ≡ None → (k : ℕ) (l : Look) → slice_get looks k ≡ Some l → l.var ≡ x → ⊥
 none_found [] x none k l at is = cc
@@ -58,7 +58,7 @@ none_found (p ∷ looks) x none k l at is = by_first (cases_eq p.var x) (λ more
 abbrev look_of : ℕ → ℤ → ℕ → Look
 look_of x v k = record { var = x; value = v; nth = k }
 
--- two looks at a variable are one
+-- where the variables of looks rise, two looks at one variable are the same look
 one_look :
     (looks : List Look) → Rises (map (λ l. l.var) looks) → (j k : ℕ) (l m : Look) → slice_get looks j ≡ Some l →
     slice_get looks k ≡ Some m → l.var ≡ m.var → l ≡ m
@@ -79,17 +79,19 @@ module _ (looks : List Look) (x : ℕ) where
       let same : l ≡ look_of x value k = one_look looks rises found.0.0 place.0 l (look_of x value k) found.0.1 place.1 found.1 in
       (ap (λ (q : Look). q.value) same, ap (λ (q : Look). q.nth) same)
 
+  -- the look that is found is in the list: a look at x, with its value and number
   pub found_contains : (l : Look) → find (λ p. p.var == x) looks ≡ Some l → Contains looks (look_of x l.value l.nth)
   found_contains l is =
       let found = found_at looks x l is in
       let same : l ≡ look_of x l.value l.nth = ap (λ y. look_of y l.value l.nth) found.1 in
       contains_at looks found.0.0 (look_of x l.value l.nth) (found.0.1 ∙ ap Some same)
 
+  -- where nothing is found, no look in the list is at x
   pub none_contains : find (λ p. p.var == x) looks ≡ None → (value : ℤ) (k : ℕ) → Contains looks (look_of x value k) → ⊥
   none_contains none value k c = (let place = at_of looks (look_of x value k) c in
       none_found looks x none place.0 (look_of x value k) place.1 refl)
 
-  -- whether a number stands after the look
+  -- where a look is found, and looks rise, a number on x stands after the looks at x exactly where it is above that look's
   pub after_found :
       Rises (map (λ l. l.var) looks) → (l : Look) → find (λ p. p.var == x) looks ≡ Some l → (m : ℕ) →
       MatchBool (nat_lt l.nth m) (OwnStandAfter looks x m) (OwnStandAfter looks x m → ⊥)
@@ -100,13 +102,14 @@ module _ (looks : List Look) (x : ℕ) where
         rw test (λ stands. let less = stands l.nth l.value (found_contains l is) in omega arith))
   ]
 
+  -- where nothing is found, each number on x stands after all looks at x, since there is none
   pub after_none : find (λ p. p.var == x) looks ≡ None → (m : ℕ) → OwnStandAfter looks x m
   after_none none m k value c = absurd (none_contains none value k c)
 
   abbrev Reads : ℤ → Type 0
   Reads read = (nth : ℕ) × Contains looks (look_of x read nth)
 
-  -- whether a value was read
+  -- where a look is found, and looks rise, a value was read of x exactly where it is that look's
   pub read_found :
       Rises (map (λ l. l.var) looks) → (l : Look) → find (λ p. p.var == x) looks ≡ Some l → (read : ℤ) (b : Bool) →
       MatchBool b (l.value ≡ read) (l.value ≢ read) →
@@ -118,6 +121,7 @@ module _ (looks : List Look) (x : ℕ) where
   )
   read_found rises l is read false other = λ reads. other (found_is rises l is read reads.0 reads.1).0
 
+  -- where nothing is found, no look read a value of x
   pub read_none : find (λ p. p.var == x) looks ≡ None → (read : ℤ) → Reads read → ⊥
   read_none none read reads = none_contains none read reads.0 reads.1
 
@@ -127,12 +131,14 @@ module _ (tx : Tx) where
   abbrev AllAfter : Type 0
   AllAfter = (x m : ℕ) → Contains tx.numbers (record { var = x; nth = m }) → OwnStandAfter tx.looks x m
 
+  -- where the number at i does not stand after each look at its variable, not all numbers of the attempt do so
   pub none_after : (i : ℕ) (n : Number) → slice_get tx.numbers i ≡ Some n → (OwnStandAfter tx.looks n.var n.nth → ⊥) → AllAfter → ⊥
   none_after i n at wrong all = wrong (all n.var n.nth (contains_at tx.numbers i n at))
 
   abbrev pub AfterBelow : ℕ → Type 0
   AfterBelow i = (k : ℕ) (n : Number) → k < i → slice_get tx.numbers k ≡ Some n → OwnStandAfter tx.looks n.var n.nth
 
+  -- where the number at place i stands after its looks, those at places below i + 1 do if those at places below i do
   pub after_more :
       (i : ℕ) (a : Number) → AfterBelow i → slice_get tx.numbers i ≡ Some a → OwnStandAfter tx.looks a.var a.nth → AfterBelow (i + 1)
   after_more i a below at stands k n less there = elim (before_next i k less) [
@@ -141,20 +147,23 @@ module _ (tx : Tx) where
         let P : Number → Type 0 = λ q. OwnStandAfter tx.looks q.var q.nth in subst P (sym one') stands)
   ]
 
+  -- where no number stands at place i, those at places below i + 1 stand after their looks if those at places below i do
   pub after_past : (i : ℕ) → AfterBelow i → slice_get tx.numbers i ≡ None → AfterBelow (i + 1)
   after_past i below past k n less there = elim (before_next i k less) [
     | inl lt ↦ below k n lt there
     | inr same ↦ (let here : slice_get tx.numbers i ≡ Some n = rw (sym same) there in absurd cc)
   ]
 
+  -- where there are at most TX_VARIABLES numbers, all stand after their looks if those at places below TX_VARIABLES do
   pub all_after : length tx.numbers ≤ TX_VARIABLES → AfterBelow TX_VARIABLES → AllAfter
   all_after few below x m c = (let place = at_of tx.numbers (record { var = x; nth = m }) c in
       let within = slice_get_within tx.numbers place.0 _ place.1 in below place.0 (record { var = x; nth = m }) (omega arith) place.1)
 
+  -- an attempt that keeps to what there is has at most TX_VARIABLES numbers
   pub numbers_few : IsTxKept tx → length tx.numbers ≤ TX_VARIABLES
   numbers_few kept = (let few = kept.2.0 in let same = length-map tx.numbers (λ (l : Number). l.var) in omega arith)
 
-  -- both rules together
+  -- where own numbers are on the variables xs, they name xs exactly where each stands after the looks at its variable
   pub named :
       (xs : List ℕ) → map (λ n. n.var) tx.numbers ≡ xs → (b : Bool) → MatchBool b AllAfter (AllAfter → ⊥) →
       MatchBool b (NumbersName tx xs) (NumbersName tx xs → ⊥)
@@ -163,7 +172,7 @@ module _ (tx : Tx) where
 
 -- ## Gathered
 
--- a variable above all comes to the end
+-- a variable that is above all others is put in at the end
 with_one_last : (x : ℕ) (xs : List ℕ) → AllByRecursion (λ y. y < x) xs → with_one x xs ≡ xs ++ x ∷ []
 with_one_last x [] all = refl
 with_one_last x (y ∷ ys) all =
@@ -172,7 +181,7 @@ with_one_last x (y ∷ ys) all =
     let above : nat_lt x y ≡ false = grind (arith, nat_tests) in
     rw (other, above) (ap (λ zs. y ∷ zs) (with_one_last x ys all.1))
 
--- a number that rises past those before it
+-- in a list that rises, the one at place i is above all before it
 taken_below : (xs : List ℕ) (i x : ℕ) → Rises xs → slice_get xs i ≡ Some x → AllByRecursion (λ y. y < x) (take i xs)
 taken_below [] i x rises at = absurd cc
 taken_below (y ∷ ys) zero x rises at = tt
@@ -204,7 +213,7 @@ take_few (x ∷ xs) (suc i) = (let more = take_few xs i in omega arith)
 
 module _ {A : Type 0} (var : A → ℕ) (parts : List A) (are : AreVariables (map var parts)) (i : ℕ) (less : i < TX_VARIABLES)
     (vars : List ℕ) (so_far : vars ≡ take i (map var parts)) where
-  -- one more is put in, since there is room
+  -- where a part stands at i, putting in its variable, for which there is room, gives the variables of the first i + 1 parts
   pub gathered :
       {V E : Type 0} (a : A) → slice_get parts i ≡ Some a → (result : Result V E) (new : List ℕ) →
       OnOk result (new ≡ with_one (var a) vars) →
@@ -221,6 +230,7 @@ module _ {A : Type 0} (var : A → ℕ) (parts : List A) (are : AreVariables (ma
       let same = ap length so_far in
       absurd (omega arith))
 
+  -- where no part stands at i, the variables gathered so far are already those of the first i + 1 parts
   pub gathered_past : slice_get parts i ≡ None → vars ≡ take (i + 1) (map var parts)
   gathered_past at =
       let past : slice_get (map var parts) i ≡ None = slice_get-map var parts i ∙ ap (option_map var) at in

@@ -12,7 +12,7 @@ use Rattle.gl_model.specs.declared.limits.TheConstants.{VARIABLES}
 use Rattle.gl_form.specs.Passed.{AreDrawn, IsAbove, IsNotAbove, last_on}
 use Rattle.gl_form.proofs.Lasts.{before_next}
 
--- what a list contains stands at some place, and the other way round
+-- what a list contains stands at some place
 pub at_of : {A : Type 0} → (xs : List A) (x : A) → Contains xs x → (k : ℕ) × (slice_get xs k ≡ Some x)
 at_of xs x c = (c.0, slice_get-get_or xs c.0 x c.1 ∙ ap Some c.2)
 
@@ -20,7 +20,7 @@ at_of xs x c = (c.0, slice_get-get_or xs c.0 x c.1 ∙ ap Some c.2)
 pub contains_at : {A : Type 0} → (xs : List A) (k : ℕ) (x : A) → slice_get xs k ≡ Some x → Contains xs x
 contains_at xs k x at = (k, slice_get_within xs k x at, get_or_from_slice_get xs k x x at)
 
--- what holds of all variables holds of that of the part at a place
+-- what holds of the variables of all parts holds of that of the part at a place
 pub all_at :
     (P : ℕ → Type 0) {A : Type 0} (var : A → ℕ) (parts : List A) (k : ℕ) (a : A) → AllByRecursion P (map var parts) →
     slice_get parts k ≡ Some a → P (var a)
@@ -34,7 +34,7 @@ pub part_in_range :
     var a < VARIABLES
 part_in_range var parts k a are at = all_at (λ x. x < VARIABLES) var parts k a are.2 at
 
--- variables rise
+-- where the variables of parts rise, an earlier part has a lower variable than a later one
 pub rising_at :
     {A : Type 0} (var : A → ℕ) (parts : List A) (j k : ℕ) (a b : A) → Rises (map var parts) → slice_get parts j ≡ Some a →
     slice_get parts k ≡ Some b → j < k → var a < var b
@@ -65,12 +65,12 @@ has_part {A} var (p ∷ parts) x = by_first (cases_eq (var p) x) (has_part var p
   by_first (inr other) (inr none) = inr (none_here other none)
 
 module _ {A : Type 0} (var nth : A → ℕ) (parts : List A) (old : List (Option ℕ)) where
-  -- no part yet
+  -- before any part was drawn, the last numbers are the old ones
   pub none_drawn : AreDrawn var nth parts 0 old old
   none_drawn = record { above = λ m a at less. absurd (omega arith); drawn = λ m a at less. absurd (omega arith); others = λ x none. refl }
 
   module _ (n : ℕ) (cur : List (Option ℕ)) (are : AreDrawn var nth parts n old cur) where
-    -- all parts were drawn
+    -- where the first n parts were drawn and none stands at n, the first n + 1 were drawn
     pub past_parts : slice_get parts n ≡ None → AreDrawn var nth parts (n + 1) old cur
     past_parts past = record {
       above = λ m a at less. are.above m a at (sooner m a at less);
@@ -88,11 +88,11 @@ module _ {A : Type 0} (var nth : A → ℕ) (parts : List A) (old : List (Option
       untouched : last_on cur (var a) ≡ last_on old (var a)
       untouched = are.others (var a) (λ m b there less is. let lower = rising_at var parts m n b a rises there at less in omega arith)
 
-      -- a number that is not above it
+      -- where the number of the part at n is not above the last one of its variable now, it is not above the old one
       pub part_not_above : (IsAbove (last_on cur (var a)) (nth a) → ⊥) → IsNotAbove var nth parts old
       part_not_above wrong = (n, (a, at, (let P : Option ℕ → Type 0 = λ o. IsAbove o (nth a) → ⊥ in subst P untouched wrong)))
 
-      -- one that is above it
+      -- where the number of the part at n is above the last one of its variable, and is then put there, the first n + 1 parts were drawn
       pub part_drawn :
           (new : List (Option ℕ)) → var a < length cur → IsAbove (last_on cur (var a)) (nth a) → new ≡ set cur (var a) (Some (nth a)) →
           AreDrawn var nth parts (n + 1) old new

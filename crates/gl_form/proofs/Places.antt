@@ -39,7 +39,7 @@ no_list ls t kept past = by_list (list_of ls t) refl where
   by_list None is = refl
   by_list (Some es) is = (let less = (list_kept ls t es kept is).0 in absurd (omega arith))
 
--- an empty list fails nowhere, but thread 0's does
+-- the empty list of a thread other than 0 fails nowhere
 pub empty_keeps : (t : ℕ) (es : List Entry) → es ≡ [] → t ≢ 0 → (i : ℕ) → FormFails t es i → ⊥
 empty_keeps t es none other i fails =
     fails (keeps_past t es i (rw none (omega arith)) (λ first. absurd (other first)) (λ some. absurd (some none)))
@@ -48,12 +48,14 @@ module _ (ls : List (ℕ × List Entry)) where
   abbrev pub NoneBelow : ℕ → Type 0
   NoneBelow n = (t : ℕ) → t < n → (i : ℕ) → FormFails t (lists_of ls t) i → ⊥
 
+  -- where no list of a thread below n fails the form, nor that of thread n, none of a thread below n + 1 does
   pub none_more : (n : ℕ) → NoneBelow n → ((i : ℕ) → FormFails n (lists_of ls n) i → ⊥) → NoneBelow (n + 1)
   none_more n none here t less i fails = elim (cases_lt t n) [
     | inl lt ↦ none t lt i fails
     | inr ge ↦ (let same : t ≡ n = omega arith in let P : ℕ → Type 0 = λ u. FormFails u (lists_of ls u) i in here i (subst P same fails))
   ]
 
+  -- a record whose lists keep to what there is fails the form nowhere, if no list of a thread below THREADS does
   pub fails_nowhere : AllByRecursion IsListKept ls → NoneBelow THREADS → (c : Place) → FormFailsAt (lists_of ls) c → ⊥
   fails_nowhere kept none c fails = elim (cases_lt c.thread THREADS) [
     | inl lt ↦ none c.thread lt c.index fails
@@ -63,6 +65,7 @@ module _ (ls : List (ℕ × List Entry)) where
   abbrev at_place : ℕ → ℕ → Place
   at_place t i = record { thread = t; index = i }
 
+  -- where no list of a thread below n fails the form, and the list of thread n fails it first at i, that is the first place that fails
   pub first_place :
       (n i : ℕ) → NoneBelow n → FormFails n (lists_of ls n) i → ((j : ℕ) → j < i → FormFails n (lists_of ls n) j → ⊥) →
       IsFirstBy Before (FormFailsAt (lists_of ls)) (at_place n i)

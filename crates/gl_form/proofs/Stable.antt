@@ -176,7 +176,7 @@ stable_end (Abort tx why) refuted = refuted (λ x. x)
 stable_end (Trim low) refuted = refuted (λ x. x)
 stable_end (Over ending) refuted = refuted (λ x. x)
 
--- an Over in the list, or none
+-- an Over is in the list, or none is
 pub either_over : (es : List Entry) → ((i : ℕ) × ((e : Entry) × At es i e × IsOver e)) ⊎ ((i : ℕ) (e : Entry) → At es i e → IsOver e → ⊥)
 either_over [] = inr (λ i e at over. cc)
 either_over (x ∷ es) = by_first x refl (either_over es) where

@@ -65,6 +65,8 @@ module _ (es : List Entry) (i x k : ℕ) (write : Bool) where
     by_order (inr (inl lt)) = (let none = h.no_event j e at lt less in cc)
     by_order (inr (inr gt)) = clear.gives h.index k h.entry h.by_write h.there gt h.before h.gives
 
+  -- where the right on x that the entry at j gives is not the one asked for,
+  -- and nothing between j and i is an event or gives one, an access at place i does not have the right
   at_other :
       (j : ℕ) (e : Entry) (g : Gives e x) → j < i → At es j e → Clear (suc j) → ((g.number ≡ k) × (write ≡ true → g.write ≡ true) → ⊥) →
       HasRight es i x k write → ⊥
@@ -144,6 +146,7 @@ module _ (es : List Entry) (i x k : ℕ) (write : Bool) where
     by_entry None none more = more (further j (λ f there. cc) clear)
     by_entry (Some e) at more = by_position e at (position_of e) refl more
 
+  -- where it is not refuted that an access at place i has the right, it has it
   pub stable_right : NotNot (HasRight es i x k write) → HasRight es i x k write
   stable_right refuted =
       elim (down i (omega arith) (record { events = λ l e at le lt. absurd (omega arith); gives = λ l m e w at le lt g. omega arith })) [

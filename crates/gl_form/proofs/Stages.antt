@@ -9,7 +9,7 @@ use Rattle.gl_form.specs.Passed.{Follows, IsAtStage}
 use Rattle.gl_form.specs.declared.stage.Stage.TheVariants.{Fresh, Running, Ended, Over as AllOver}
 use Rattle.gl_form.proofs.Lasts.{before_next, same_entry}
 
--- a Trim is neither End nor Over, Begin is no Trim and no End, and so on
+-- a Trim is no End
 trim_no_end : (e : Entry) → IsTrim e → IsEnd e → ⊥
 trim_no_end (Trim low) trim ends = ends
 trim_no_end (Sync at act value) trim ends = trim
@@ -18,7 +18,7 @@ trim_no_end (Plain var nth cached write value raised) trim ends = trim
 trim_no_end (Abort tx why) trim ends = trim
 trim_no_end (Over ending) trim ends = trim
 
--- a trim is no Over
+-- a Trim is no Over
 trim_no_over : (e : Entry) → IsTrim e → IsOver e → ⊥
 trim_no_over (Trim low) trim over = over
 trim_no_over (Sync at act value) trim over = trim
@@ -45,7 +45,7 @@ end_no_over (Plain var nth cached write value raised) ends over = over
 end_no_over (Abort tx why) ends over = over
 end_no_over (Trim low) ends over = over
 
--- a Begin is no trim
+-- a Begin is no Trim
 begin_no_trim : (e : Entry) → IsBegin e → IsTrim e → ⊥
 begin_no_trim (Trim low) begins trim = begins
 begin_no_trim (Sync at act value) begins trim = trim
@@ -92,6 +92,7 @@ module _ (es : List Entry) (i : ℕ) (e : Entry) (at : At es i e) where
     | inr same ↦ not_here (back P j f is there same)
   ]
 
+  -- what holds of all entries before the place, and of that at the place, holds of all before the next place
   all_next :
       (P : Entry → Type 0) → ((j : ℕ) (f : Entry) → At es j f → j < i → P f) → P e → (j : ℕ) (f : Entry) → At es j f → j < i + 1 → P f
   all_next P all of_e j f there before = elim (before_next i j before) [
@@ -111,10 +112,12 @@ module _ (es : List Entry) (i : ℕ) (e : Entry) (at : At es i e) where
       nothing_after = λ j f g there also before over. trim_no_over f (fresh j f there before) over;
     }
 
+    -- where all before place i are Trims, a Trim there keeps the rules, and all before place i + 1 are Trims
     pub fresh_trim : IsTrim e → Follows es i × IsAtStage es (i + 1) Fresh
     fresh_trim trim =
         (fresh_follows (inr trim) (λ other. absurd (other trim)) (λ over. trim_no_over e trim over), all_next IsTrim fresh trim)
 
+    -- where all before place i are Trims, a Begin there keeps the rules, and the thread is running after it
     pub fresh_begin : IsBegin e → Follows es i × IsAtStage es (i + 1) Running
     fresh_begin begins = (
       fresh_follows (inl (λ trim. begin_no_trim e begins trim)) (λ other. begins) (λ over. begin_no_over e begins over),
@@ -125,6 +128,7 @@ module _ (es : List Entry) (i : ℕ) (e : Entry) (at : At es i e) where
       ),
     )
 
+    -- where all before place i are Trims, an entry there that is neither a Trim nor a Begin breaks the rules
     pub fresh_other : (IsTrim e → ⊥) → (IsBegin e → ⊥) → Follows es i → ⊥
     fresh_other no_trim no_begin follows = no_begin (follows.begins e at no_trim (λ j f there before. fresh j f there before))
 
@@ -148,12 +152,14 @@ module _ (es : List Entry) (i : ℕ) (e : Entry) (at : At es i e) where
       nothing_after = λ j f g there also before over. running.1 j f there before over;
     }
 
+    -- where the thread is running, an End keeps the rules, and the thread has ended after it
     pub running_end : IsEnd e → Follows es i × IsAtStage es (i + 1) Ended
     running_end ends = (
       running_follows (λ over. end_no_over e ends over),
       ((i, (e, at, refl, ends)), none_next IsOver running.1 (λ over. end_no_over e ends over)),
     )
 
+    -- where the thread is running, an entry that is neither an End nor an Over keeps the rules, and the thread runs on
     pub running_on : (IsEnd e → ⊥) → (IsOver e → ⊥) → Follows es i × IsAtStage es (i + 1) Running
     running_on no_end no_over = (
       running_follows no_over,
@@ -164,11 +170,12 @@ module _ (es : List Entry) (i : ℕ) (e : Entry) (at : At es i e) where
       ),
     )
 
-    -- Over comes only after End
+    -- where the thread is running, an Over breaks the rules
     pub running_over : IsOver e → Follows es i → ⊥
     running_over over follows = running.2.1.3 ((follows.over_after_end running.2.0 running.2.1.0 e running.2.1.2 running.2.1.1 at).1 over)
 
   module _ (ended : IsAtStage es i Ended) where
+    -- where the thread has ended, an Over keeps the rules, and the list is over after it
     pub ended_over : IsOver e → Follows es i × IsAtStage es (i + 1) AllOver
     ended_over over = (
       record {
@@ -185,8 +192,10 @@ module _ (es : List Entry) (i : ℕ) (e : Entry) (at : At es i e) where
       (i, (e, at, omega arith, over)),
     )
 
+    -- where the thread has ended, an entry that is no Over breaks the rules
     pub ended_other : (IsOver e → ⊥) → Follows es i → ⊥
     ended_other no_over follows = no_over ((follows.over_after_end ended.0.0 ended.0.1.0 e ended.0.1.2 ended.0.1.1 at).0 ended.0.1.3)
 
+  -- where an Over came before place i, any entry there breaks the rules
   pub over_any : IsAtStage es i AllOver → Follows es i → ⊥
   over_any over follows = follows.nothing_after over.0 over.1.0 e over.1.1 at over.1.2 over.1.3

@@ -16,7 +16,7 @@ use Rattle.gl_form.specs.Passed.{Follows, IsAllowed, StandAfterLooks}
 use Rattle.gl_form.proofs.Lasts.{before_next}
 use Rattle.gl_form.specs.Rules.{DrawsOn, FormFails, HasLow, HasPosition, KeepsForm, RisesAt}
 
--- what stands at a place is within the list
+-- an empty list has an entry at no place
 no_entry : (i : ℕ) (e : Entry) → At [] i e → ⊥
 no_entry i e at = cc
 
@@ -31,10 +31,11 @@ formed_stands t (Trim low) form x k m look own = absurd look
 formed_stands t (Over ending) form x k m look own = absurd look
 
 module _ (t : ℕ) (es : List Entry) (i : ℕ) where
+  -- a place that keeps all rules of form keeps those of Begin, End and Over
   pub follows_of : KeepsForm t es i → Follows es i
   follows_of keeps = record { begins = keeps.begins; over_after_end = keeps.over_after_end; nothing_after = keeps.nothing_after }
 
-  -- where an entry stands, the rules are these
+  -- where an entry at place i keeps these rules, the form is kept there
   pub keeps_here :
       (e : Entry) → At es i e → EntryForm t e → Follows es i → RisesAt HasPosition es i → RisesAt HasLow es i →
       ((x : ℕ) → RisesAt (DrawsOn x) es i) →
@@ -52,7 +53,7 @@ module _ (t : ℕ) (es : List Entry) (i : ℕ) where
     cached = allowed;
   }
 
-  -- at and after the end of the list no entry stands
+  -- at and behind the end of a list the form is kept, where thread 0's list has an entry, and a list with entries has an Over
   pub keeps_past :
       length es ≤ i → (t ≡ 0 → es ≢ []) → (es ≢ [] → i ≡ length es → (j : ℕ) × ((e : Entry) × At es j e × IsOver e)) → KeepsForm t es i
   keeps_past past main ends = record {
@@ -71,7 +72,8 @@ module _ (t : ℕ) (es : List Entry) (i : ℕ) where
     nothing : (f : Entry) → At es i f → ⊥
     nothing f there = (let within = slice_get_within es i f there in omega arith)
 
-  -- the last rule decides, where all others are kept
+  -- where all other rules are kept at place i, whether a cached entry has
+  -- its right there decides whether the form is kept and the walk goes on
   pub walks_on :
       (e : Entry) → At es i e → EntryForm t e → Follows es i → RisesAt HasPosition es i → RisesAt HasLow es i →
       ((x : ℕ) → RisesAt (DrawsOn x) es i) → (Rights Next : Type 0) →
@@ -83,7 +85,7 @@ module _ (t : ℕ) (es : List Entry) (i : ℕ) where
 
 -- ## A whole list
 
--- an entry of the program, where it stands
+-- what stands at place i of a stored list stands, as it is seen, at place i of the list as it is seen
 pub entry_at : (list : List StoredEntry) (i : ℕ) (x : StoredEntry) → i < length list → x ≡ get_or list i x → At (map seen list) i (seen x)
 entry_at list i x less is = slice_get-map seen list i ∙ ap (option_map seen) (slice_get_read list (length list) i x refl less is)
 
@@ -94,6 +96,7 @@ entry_kept (f ∷ es) zero e kept at = (let same : f ≡ e = cc in subst IsEntry
 entry_kept (f ∷ es) (suc i) e kept at = entry_kept es i e kept.1 at
 
 module _ (t : ℕ) (es : List Entry) (n : ℕ) (keep : (j : ℕ) → j < n → KeepsForm t es j) where
+  -- if place n keeps the rules too, so do the first n + 1 places
   pub keep_more : KeepsForm t es n → (j : ℕ) → j < n + 1 → KeepsForm t es j
   keep_more here j less = elim (before_next n j less) [
     | inl lt ↦ keep j lt
@@ -101,6 +104,7 @@ module _ (t : ℕ) (es : List Entry) (n : ℕ) (keep : (j : ℕ) → j < n → K
         subst P (sym same) here)
   ]
 
+  -- none of the first n places fails the form
   pub earlier_keep : (j : ℕ) → j < n → FormFails t es j → ⊥
   earlier_keep j less fails = fails (keep j less)
 

@@ -118,7 +118,7 @@ R zero = es0
 R (suc zero) = es1
 R (suc (suc t)) = []
 
--- each entry of thread 0, and of thread 1
+-- what holds of each of the nine entries of thread 0, with its place, holds of all in its list
 pub entries0 : (P : ℕ → Entry → Type 0) → P 0 B0 → P 1 F0 → P 2 FirstWrite → P 3 C0 → P 4 A0 → P 5 K0 → P 6 R0 → P 7 E0 → P 8 O
     → (i : ℕ) (e : Entry) → At es0 i e → P i e
 entries0 P b f w c a k r e o = all_at P es0 (b, (f, (w, (c, (a, (k, (r, (e, (o, tt)))))))))
@@ -135,7 +135,7 @@ none zero lt = absurd (omega arith)
 none (suc zero) lt = absurd (omega arith)
 none (suc (suc t)) lt = refl
 
--- each entry of the record
+-- what holds of each of these sixteen entries, with its place, holds of all in the record
 pub each : (P : Place → Entry → Type 0) → P (at 0 0) B0 → P (at 0 1) F0 → P (at 0 2) FirstWrite → P (at 0 3) C0 → P (at 0 4) A0
     → P (at 0 5) K0
     → P (at 0 6) R0 → P (at 0 7) E0 → P (at 0 8) O
@@ -144,7 +144,7 @@ pub each : (P : Place → Entry → Type 0) → P (at 0 0) B0 → P (at 0 1) F0 
 each P b f w c a k r e o b' r' a' w' k' e' o' =
     each_entry R P (b, (f, (w, (c, (a, (k, (r, (e, (o, tt))))))))) (b', (r', (a', (w', (k', (e', (o', tt))))))) tt none
 
--- what is in a list of one is that
+-- what is in a list of one element is that element
 pub only : {A : Type 0} (x y : A) → Contains (x ∷ []) y → x ≡ y
 only x y (zero, lt, e) = e
 only x y (suc k, lt, e) = absurd (omega arith)
@@ -184,7 +184,7 @@ cached_draws : (c : Place) (x k : ℕ) → Draws C0 x k → Drawn c x k
 cached_draws c x k (inl d) = absurd d
 cached_draws c x k (inr d) = absurd (let z = d.0 in cc)
 
--- an attempt with one look and one number
+-- if the numbers of an attempt's one look and of its end, both on y, stand at c rightly, each number that it draws does
 looks_draw : (c : Place) (y a b : ℕ) (v : ℤ) → Drawn c y a → Drawn c y b → (x k : ℕ)
     → ((value : ℤ) × Contains (look y v a ∷ []) (look x value k)) ⊎ Contains (number y b ∷ []) (number x k) → Drawn c x k
 looks_draw c y a b v first second x k (inl d) = let e = only (look y v a) (look x d.0 k) d.1 in let ex : y ≡ x = ap (λ (l : Look). l.var) e

@@ -33,11 +33,11 @@ spots1 = entries1 (λ i e. (p : ℕ) → position_of e ≡ Some p → Spot1 i p)
     (λ p z. let a : 3 ≡ p = cc in inr (inl (refl, omega arith))) (λ p z. let a : 5 ≡ p = cc in inr (inr (refl, omega arith)))
     (λ p z. absurd (cc))
 
--- they rise along thread 0's list
+-- the positions rise along thread 0's list
 rise0 : (i j p q : ℕ) → i < j → Spot0 i p → Spot0 j q → p < q
 rise0 i j p q lt a b = omega arith
 
--- they rise along thread 1's list
+-- the positions rise along thread 1's list
 rise1 : (i j p q : ℕ) → i < j → Spot1 i p → Spot1 j q → p < q
 rise1 i j p q lt a b = omega arith
 
@@ -110,11 +110,11 @@ behind_look y a b v lt x k m value l n =
     let em : b ≡ m = ap (λ (z : Number). z.nth) (only (number y b) (number x m) n) in
     omega arith
 
--- no entry of a list is a Trim
+-- thread 0's list has no Trim
 no_trim0 : (i : ℕ) (e : Entry) → At es0 i e → IsTrim e → ⊥
 no_trim0 = entries0 (λ i e. IsTrim e → ⊥) (λ z. z) (λ z. z) (λ z. z) (λ z. z) (λ z. z) (λ z. z) (λ z. z) (λ z. z) (λ z. z)
 
--- thread 1's list has no trim
+-- thread 1's list has no Trim
 no_trim1 : (i : ℕ) (e : Entry) → At es1 i e → IsTrim e → ⊥
 no_trim1 = entries1 (λ i e. IsTrim e → ⊥) (λ z. z) (λ z. z) (λ z. z) (λ z. z) (λ z. z) (λ z. z) (λ z. z)
 
@@ -231,7 +231,7 @@ form = record { main = λ e. (let z : length es0 ≡ 0 = ap length e in absurd (
     ends (suc zero) ne = (6, (O, refl, tt))
     ends (suc (suc t)) ne = absurd (ne refl)
 
--- each number below the bound is drawn, and its spot is where
+-- each number of variable 5 below 4 was drawn
 draws_5 : (k : ℕ) → k < 4 → (c : Place) × ((e : Entry) × EntryAt R c e × Draws e 5 k)
 draws_5 zero lt = (at 0 2, (FirstWrite, refl, inr (refl, refl, refl)))
 draws_5 (suc zero) lt = (at 1 1, (RaisedRead, refl, inr (refl, refl, refl)))

@@ -126,7 +126,7 @@ abbrev Chain : Place → List Place → Type 0
 Chain c [] = Unit {0}
 Chain c (d ∷ ds) = Before c d × Chain d ds
 
--- so the first is before each
+-- along a chain the first place is laid out before each later one
 chain_all : (c : Place) (ds : List Place) → Chain c ds → (j : ℕ) (d : Place) → slice_get ds j ≡ Some d → Before c d
 chain_all c [] ch j d at = absurd (cc)
 chain_all c (e ∷ ds) ch zero d at = let same : e ≡ d = cc in rw (sym same) ch.0
@@ -252,7 +252,7 @@ written = each (λ c e. (x j : ℕ) (u : ℤ) → NumberOn e x j → WritesValue
 wrote_of : (x j : ℕ) (u : ℤ) → IsWritten R x j u → Wrote x j
 wrote_of x j u w = written w.0 w.1.0 w.1.1 x j u w.1.2 w.1.3
 
--- above number 1 the word of variable 6 is 3
+-- below each number above 1 the word of variable 6 is 3
 word_6 : (n : ℕ) → 1 < n → IsWordBelow R 6 n (pos 3)
 word_6 n lt = inl (
   1,
@@ -272,7 +272,7 @@ word_5 = inl (
       in omega arith,
 )
 
--- the one look of a list
+-- a list of one look reads right where that look reads the word below its number
 one_look : (l : Look) → IsWordBelow R l.var l.nth l.value → LooksReadRight R (l ∷ [])
 one_look l right zero m at = let same : l ≡ m = cc in rw (sym same) right
 one_look l right (suc k) m at = absurd (cc)

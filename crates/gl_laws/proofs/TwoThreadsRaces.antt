@@ -89,7 +89,7 @@ none_on_5 d f own here r =
       ]
     ]
 
--- nor is the write of variable 8, the first access there
+-- the write of variable 8 is not racy: no access is before it there
 none_before_8 : IsRacy R (at 1 3) 8 → ⊥
 none_before_8 r =
     let p = prior (at 1 3) OtherWrite 8 refl r in
@@ -103,7 +103,7 @@ none_before_8 r =
       ]
     ]
 
--- which is ordered before the read of it: by the two commits
+-- thread 1's write of variable 8 happens before thread 0's read of it
 ordered : HappensBefore R (at 1 3) (at 0 6)
 ordered =
     let out : OrdersDirectly R (at 1 3) (at 1 4) = program_order (refl, omega arith) in
@@ -172,7 +172,7 @@ late_on c d l (program_order o) = elim l [
 late_on c d l (synchronizes p q r s ec ed lt sw) = let three = late_position c ec.entry ec.there p ec.position l
     in position_late d ed.entry ed.there q ed.position (omega arith)
 
--- so does a chain of steps
+-- a chain of steps from a late place leads to a late one
 late_all : (c : Place) → Late c → {d : Place} → TransitiveClosure (OrdersDirectly R) c d → Late d
 late_all c l {d = d} (one_step s) = late_on c d l s
 late_all c l {d = d} (then_step {b = b} chain s) = late_on b d (late_all c l chain) s
@@ -255,7 +255,7 @@ racy_attempt = record {
   unordered = unordered 2 (omega arith);
 }
 
--- and on no variable below that
+-- thread 1's attempt is racy on no variable below 5
 none_below : (x : ℕ) → x < 5 → IsRacy R (at 1 2) x → ⊥
 none_below x lt r = let p = prior (at 1 2) A1 x refl r in let five : x ≡ 5 = (number_is 5 3 x p.later p.also).0 in absurd (omega arith)
 
@@ -317,7 +317,7 @@ sparing (suc zero) i x k cached write raised value a =
     (λ e. absurd (cc)) (λ e. absurd (cc)) (λ e. absurd (cc)) i (Plain x k cached write value raised) a refl
 sparing (suc (suc t)) i x k cached write raised value a = absurd (cc)
 
--- an entry of each kind
+-- the record has an entry of each kind
 kinds : HasEachKind R
 kinds = record {
   cached = (at 0 3, 5, 0, false, pos 7, refl);

@@ -56,7 +56,7 @@ where_is (suc (suc (suc (suc zero)))) = at 0 5
 where_is (suc (suc (suc (suc (suc zero))))) = at 1 5
 where_is (suc (suc (suc (suc (suc (suc p)))))) = at 0 7
 
--- that is the record's list of events
+-- these seven events are the record's list of events
 pub listed : IsEventList h R
 listed = record {
   listed = λ c p s e. events (λ c p x s. EventAt h p s) refl refl refl refl refl refl refl c e.entry e.there p s e.position e.event e.own;

@@ -17,7 +17,7 @@ use Rattle.gl_listing.specs.Looking.{IsAdded}
 abbrev pub use_of : Place → ℕ → Use
 use_of c k = (c, k)
 
--- one number more on one variable
+-- putting a use at c with number k behind those of v adds k to v, and nothing to another variable
 pub added_one :
     (uses : List (List Use)) (c : Place) (v k : ℕ) → v < length uses →
     IsAdded c (λ x. if v == x then k ∷ [] else []) uses (set uses v (get_or uses v [] ++ (c, k) ∷ []))
@@ -34,7 +34,7 @@ added_one uses c v k less x = by_test (v == x) refl where
       let other : x ≢ v = λ same. let e : (v == x) ≡ true = rw same (eq-eqb v v refl) in cc in
       rw is (get_or-set_other uses v x (get_or uses v [] ++ use_of c k ∷ []) [] other ∙ sym (append-nil (get_or uses x [])))
 
--- one use more in one of several lists
+-- where the item of v gets a use at c with number k, that adds k to v, and nothing to another variable
 pub set_one :
     {V : Type 0} (f : V → List Use) (items : List V) (c : Place) (v k : ℕ) (d new : V) → v < length items →
     f new ≡ f (get_or items v d) ++ (c, k) ∷ [] → IsAdded c (λ x. if v == x then k ∷ [] else []) (map f items) (map f (set items v new))
@@ -44,7 +44,7 @@ set_one f items c v k d new less is x =
     ∙ ap (λ us. us ++ use_of c k ∷ []) (sym (get_or-map f items v d [] less)) in
     ap (λ us. get_or us x []) (map-set f items v new ∙ ap (λ u. set (map f items) v u) one) ∙ added_one (map f items) c v k within x
 
--- two additions
+-- where the numbers f were added at c and then the numbers g, f and then g were
 pub added_then :
     (c : Place) (f g : ℕ → List ℕ) (a b d : List (List Use)) → IsAdded c f a b → IsAdded c g b d → IsAdded c (λ x. f x ++ g x) a d
 added_then c f g a b d one other x =
@@ -72,6 +72,7 @@ module _ {A : Type 0} (number var : A → ℕ) where
     by_test false is more = rw is more
 
   module _ (c : Place) (parts : List A) (i : ℕ) (old now : List (List Use)) (are : IsAdded c (picks (take i parts)) old now) where
+    -- where the number of the part at i comes too, what came to the uses at c are the numbers of the first i + 1 parts
     pub picked_more :
         (a : A) (new : List (List Use)) → slice_get parts i ≡ Some a → IsAdded c (λ x. if var a == x then number a ∷ [] else []) now new →
         IsAdded c (picks (take (i + 1) parts)) old new
@@ -84,10 +85,11 @@ module _ {A : Type 0} (number var : A → ℕ) where
         added_then c (picks (take i parts)) (λ y. if var a == y then number a ∷ [] else []) old now new are added x
         ∙ ap (λ ns. get_or old x [] ++ map (λ k. use_of c k) ns) (sym numbers)
 
+    -- where there are no more than i parts, what came to the uses at c are the numbers of all parts
     pub picked_all : length parts ≤ i → IsAdded c (picks parts) old now
     picked_all past x = are x ∙ ap (λ ps. get_or old x [] ++ map (λ k. use_of c k) (picks ps x)) (take_all i parts past)
 
--- each part names a variable that there is
+-- where the variables of all parts are below a bound, that of each part is
 pub var_within :
     {A : Type 0} (var : A → ℕ) (parts : List A) (i : ℕ) (a : A) (most : ℕ) → AllByRecursion (λ x. x < most) (map var parts) →
     slice_get parts i ≡ Some a → var a < most
@@ -95,7 +97,7 @@ var_within var [] i a most all at = cc
 var_within var (p ∷ parts) zero a most all at = (let same : var p ≡ var a = cc in let first = all.0 in rw (sym same) first)
 var_within var (p ∷ parts) (suc i) a most all at = var_within var parts i a most all.1 at
 
--- one empty list more among empty lists
+-- where no item has uses, none has with one more item that has none
 none_next :
     {V : Type 0} (f : V → List Use) (items : List V) (new : V) → f new ≡ [] → ((x : ℕ) → get_or (map f items) x [] ≡ []) → (x : ℕ) →
     get_or (map f (items ++ new ∷ [])) x [] ≡ []
@@ -110,7 +112,7 @@ pub none_more :
     ((x : ℕ) → get_or (map f items) x [] ≡ []) → (x : ℕ) → get_or (map f grown) x [] ≡ []
 none_more f items grown new is empty none x = ap (λ vs. get_or (map f vs) x []) is ∙ none_next f items new empty none x
 
--- one list of several, as it is seen
+-- the uses of the item at i are what stands at i in the lists of uses
 pub item_seen :
     {V : Type 0} (f : V → List Use) (items : List V) (uses : List (List Use)) (i : ℕ) (v : V) → map f items ≡ uses → v ≡ get_or items i v →
     i < length items → f v ≡ get_or uses i []

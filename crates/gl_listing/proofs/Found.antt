@@ -29,9 +29,11 @@ use_place c None = c
 use_place c (Some u) = u.0
 
 module _ (us : List Use) where
+  -- where none of the numbers of the uses is wrong, no place fails
   pub nowhere : ((k : ℕ) → IsWrongAt (numbers_in us) k → ⊥) → (c : Place) → UseFailsAt us c → ⊥
   nowhere right c x = right x.index x.wrong
 
+  -- where the uses are in order, the place of the first wrong number is the first that fails
   pub first_place : AreInOrder us → (k : ℕ) (u : Use) → slice_get us k ≡ Some u → IsFirstWrong (numbers_in us) k
       → IsFirstBy Before (UseFailsAt us) u.0
   first_place ordered k u at first = (fails, earlier) where
@@ -57,14 +59,14 @@ module _ (us : List Use) where
 abbrev pub IsFound : (Place → Type 0) → Option StoredPlace → Type 0
 IsFound Fails found = MatchOption found ((c : Place) → Fails c → ⊥) (λ c. IsFirstBy Before Fails (seen c))
 
--- what is found speaks of another way to fail that is the same
+-- where two ways to fail are the same, what is found of the one is found of the other
 pub same_found :
     (F N : Place → Type 0) → ((c : Place) → F c → N c) → ((c : Place) → N c → F c) → (found : Option StoredPlace) → IsFound F found
     → IsFound N found
 same_found F N to from None is = λ c fails. is c (from c fails)
 same_found F N to from (Some d) is = (to (seen d) is.0, λ c fails. is.1 c (from c fails))
 
--- what holds where nothing is found
+-- where P holds if no place fails, either P holds and nothing is found, or the first place that fails is
 pub found_or :
     (P : Type 0) (F : Place → Type 0) → (((c : Place) → F c → ⊥) → P) → (found : Option StoredPlace) → IsFound F found →
     MatchOption found P (λ c. IsFirstBy Before F (seen c))
@@ -105,6 +107,7 @@ module _ (F H N : Place → Type 0) (either : (c : Place) → N c → F c ⊎ H 
   moved : (next found : Option StoredPlace) → next ≡ found → IsFound N found → IsFound N next
   moved next found same is = subst (IsFound N) (sym same) is
 
+  -- the earlier of the first places of two ways to fail, or the one that there is, is the first place that fails in either way
   pub earlier_found : (first found next : Option StoredPlace) → IsFound F first → IsFound H found → IsEarlier first found next
       → IsFound N next
   earlier_found None None next no_first none is =
@@ -144,7 +147,7 @@ FailsBelow uses i c = (x : ℕ) × (x < i) × UseFailsAt (slice_index_or uses x 
 pub found_none : (uses : List (List Use)) → IsFound (FailsBelow uses 0) None
 found_none uses = λ c fails. (let less = fails.1 in omega arith)
 
--- the uses of one variable more are looked at
+-- what is found below variable i and what is found of its uses, the earlier of both, is what is found below i + 1
 pub found_more :
     (uses : List (List Use)) (i : ℕ) (first found next : Option StoredPlace) → IsFound (FailsBelow uses i) first →
     IsFound (UseFailsAt (slice_index_or uses i [])) found → IsEarlier first found next → IsFound (FailsBelow uses (i + 1)) next
@@ -165,7 +168,7 @@ found_more uses i = earlier_found (FailsBelow uses i) (UseFailsAt (slice_index_o
     other : (c : Place) → UseFailsAt (slice_index_or uses i []) c → FailsBelow uses (i + 1) c
     other c fails = (i, omega arith, fails)
 
--- all variables are looked at
+-- where there are no variables from i on, what is found below i is what is found of all
 pub found_all :
     (uses : List (List Use)) (i : ℕ) (first : Option StoredPlace) → length uses ≤ i → IsFound (FailsBelow uses i) first →
     IsFound (OneFailsAt uses) first
@@ -182,7 +185,7 @@ found_all uses i first past is = same_found (FailsBelow uses i) (OneFailsAt uses
     | inr ge ↦ absurd (none c (slice_index_or uses x []) (get_or_past uses x [] (omega arith)) fails)
   ]
 
--- what is found of lists that are those of the variables
+-- what is found of lists of uses is what is found of the variables, where each list has the uses of its variable
 pub found_of_variables :
     (uses : List (List Use)) (of : ℕ → List Use) → ((x : ℕ) → slice_index_or uses x [] ≡ of x) → (found : Option StoredPlace) →
     IsFound (OneFailsAt uses) found → IsFound (λ c. (x : ℕ) × UseFailsAt (of x) c) found
@@ -193,7 +196,7 @@ found_of_variables uses of are found is = same_found (OneFailsAt uses) (λ c. (x
   from : (c : Place) → (x : ℕ) × UseFailsAt (of x) c → OneFailsAt uses c
   from c (x, fails) = (let P : List Use → Type 0 = λ us. UseFailsAt us c in (x, subst P (sym (are x)) fails))
 
--- what is said of a result that is there
+-- where P entails Q, a success of which P holds is one of which Q holds
 pub if_found : {A E : Type 0} (P Q : A → Type 0) → ((x : A) → P x → Q x) → (r : Result A E) → IfOk r P → IfOk r Q
 if_found P Q step (Ok x) is = step x is
 if_found P Q step (Err e) is = tt

@@ -49,7 +49,7 @@ replicate_long : (n : ℕ) → length (replicate n false) ≡ n
 replicate_long zero = refl
 replicate_long (suc n) = (let more = replicate_long n in omega arith)
 
--- the next number is not wrong, or is the first that is
+-- where the next number was not met, it is not wrong
 not_wrong : (ns : List ℕ) (k n : ℕ) (met : List Bool) → HasMet ns k met → slice_get ns k ≡ Some n → slice_get met n ≡ Some false
     → IsWrongAt ns k → ⊥
 not_wrong ns k n met has at fresh wrong = by_fault wrong.wrong where

@@ -28,12 +28,13 @@ none_of _ p = absurd p
 variables_are : (x : ℕ) (d : Draw) (p : Performed) (k : IsDrawnFor x d p) → p.access.variables ≡ variables_in (Entered k.entry)
 variables_are x d p k = ap (λ (a : Access). a.variables) k.access ∙ ap variables_in k.made
 
--- and its thread
+-- a performed access is of the thread of the draw that it is for
 thread_is : (x : ℕ) (d : Draw) (p : Performed) → IsDrawnFor x d p → p.access.thread ≡ d.thread
 thread_is x d p k = ap (λ (a : Access). a.thread) k.access
 
 module _ (h : List Stamp) (draws : ℕ → List Draw) (ps : List Performed) (are : ArePerformed draws ps) (n : Next) (f : Entry)
     (plain : (n.variables ≡ None) ↔ IsPlain f) (write : (n.write ≡ true) ↔ Writes f n.var) where
+  -- if the next access is racy by the performed accesses, it is racy by the draws of its variable
   pub racy_draw : IsRacyBy h ps n → IsRacyNext h n.var (draws n.var) n.thread n.variables f
   racy_draw (i, (p, here, ((((same, apart), writes), kind), unordered))) =
       let k = are.drawn i p here in
@@ -53,6 +54,7 @@ module _ (h : List Stamp) (draws : ℕ → List Draw) (ps : List Performed) (are
         unordered = λ o. unordered (subst (λ a. HappensBeforeNext h a n.thread n.variables) (sym is.access) o);
       }
 
+  -- if the next access is racy by the draws of its variable, it is racy by the performed accesses
   pub racy_kept : IsRacyNext h n.var (draws n.var) n.thread n.variables f → IsRacyBy h ps n
   racy_kept r =
       let k = are.kept n.var r.earlier r.entry r.among r.made r.performed in

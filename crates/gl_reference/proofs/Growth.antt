@@ -38,10 +38,11 @@ module _ (draws draws' : ℕ → List Draw) (ps ps' more : List Performed) (is :
     | inr n ↦ made n.0 p n.1
   ]
 
+  -- the accesses that were kept, with those that came, are the performed accesses of all draws now
   pub performed_more : ArePerformed draws' ps'
   performed_more = subst (ArePerformed draws') (sym is) (record { kept = both_kept; drawn = both_drawn })
 
--- no access was performed
+-- where no draw that came is for a performed entry, the accesses that were kept are still the performed ones of the draws
 pub performed_same : (draws draws' : ℕ → List Draw) (ps ps' : List Performed) → ps' ≡ ps → ArePerformed draws ps
     → ((y : ℕ) (d : Draw) → Among (draws y) d → Among (draws' y) d) →
     ((y : ℕ) (d : Draw) (e : Entry) → Among (draws' y) d → d.what ≡ Entered e → IsPerformed e → Among (draws y) d) → ArePerformed draws' ps'
@@ -85,6 +86,7 @@ module _ (s : Traced) (t x : ℕ) (write : Bool) where
       let raised : true ≡ false = subst IsPerformed (sym entry) performed in
       cc
 
+  -- after a plain access that was raised, the same accesses as before are the performed ones of the draws
   pub raised_kept : (ps ps' : List Performed) → ps' ≡ ps → ArePerformed s.draws ps → ArePerformed (plain_draws true) ps'
   raised_kept ps ps' is are = performed_same s.draws (plain_draws true) ps ps' is are (stays true)
       (λ y d e among what performed. elim (news true y d among) [ inl old ↦ old | inr n ↦ absurd (not_performed d e n.1 what performed) ])
@@ -105,6 +107,8 @@ module _ (s : Traced) (t x : ℕ) (write : Bool) where
   one_is p q zero e = cc
   one_is p q (suc j) e = absurd (cc)
 
+  -- after a plain access that was not raised, the accesses from before,
+  -- and this one in its thread's block, are the performed ones of the draws
   pub plain_kept : (ps ps' : List Performed) (block : ℕ) → block ≡ block_of t s → ps' ≡ ps ++ plain_done block t x write ∷ []
       → ArePerformed s.draws ps → ArePerformed (plain_draws false) ps'
   plain_kept ps ps' block at is are = performed_more s.draws (plain_draws false) ps ps' (plain_done block t x write ∷ []) is are
@@ -129,12 +133,14 @@ module _ (s : Traced) (t x : ℕ) (write : Bool) where
 
 -- an attempt draws a number for each look, and one for its entry
 module _ (t q p : ℕ) (e : Entry) (ds : List Draw) where
+  -- each draw from before is there after the attempt
   pub attempt_stays : (own look : Bool) (d : Draw) → Among ds d → Among (with_own own t p e (with_look look t q ds)) d
   attempt_stays true true d among = inr (inr among)
   attempt_stays true false d among = inr among
   attempt_stays false true d among = inr among
   attempt_stays false false d among = among
 
+  -- each draw after the attempt was there before, or is for its look, or is for its entry where it draws a number of its own
   pub attempt_news : (own look : Bool) (d : Draw) → Among (with_own own t p e (with_look look t q ds)) d → Among ds d
       ⊎ ((d ≡ draw t q (Looked (pos 0))) ⊎ ((own ≡ true) × (d ≡ draw t p (Entered e))))
   attempt_news true true d (inl is) = inr (inr (refl, is))
@@ -158,6 +164,7 @@ module _ (s : Traced) (t : ℕ) (reads writes : List ℕ) where
   abbrev pub refused_draws : ℕ → ℕ → List Draw
   refused_draws var = with_attempt t (block_of t s) (block_of t s) (refused_entry reads writes var s) reads writes s.draws
 
+  -- after a commit that was refused for a race, the same accesses as before are the performed ones of the draws
   pub refused_kept : (var : ℕ) (ps ps' : List Performed) → ps' ≡ ps → ArePerformed s.draws ps → ArePerformed (refused_draws var) ps'
   refused_kept var ps ps' is are = performed_same s.draws (refused_draws var) ps ps' is are
       (λ y d among. attempt_stays t (block_of t s) (block_of t s) (refused_entry reads writes var s) (s.draws y) (touches reads writes y)
@@ -225,6 +232,7 @@ module _ (s : Traced) (t : ℕ) (reads writes : List ℕ) where
       subst (λ z. (d : Draw) × Among (commit_draws z.var) d × IsDrawnFor z.var d z) m.2
       (drawn_commit, own_among m.0 (touches reads writes m.0) (is_in m.0 reads) touched, part_draw block at m.0)
 
+  -- after a commit that was performed, the accesses from before, and its part on each of its variables, are the performed ones of the draws
   pub commit_kept : (ps ps' : List Performed) (block : ℕ) → block ≡ s.tracing.next → ps' ≡ ps
       ++ map (part_done block t (with_all writes reads) writes) (with_all writes reads) → ArePerformed s.draws ps
       → ArePerformed commit_draws ps'

@@ -26,7 +26,7 @@ slice_get-old [] y p l = absurd (omega arith)
 slice_get-old (x ∷ xs) y zero l = refl
 slice_get-old (x ∷ xs) y (suc p) l = slice_get-old xs y p (omega arith)
 
--- at the length it has the new one
+-- at its old length, a list with one more has the new one
 slice_get-new : {A : Type 0} (xs : List A) (y : A) → slice_get (xs ++ y ∷ []) (length xs) ≡ Some y
 slice_get-new [] y = refl
 slice_get-new (x ∷ xs) y = slice_get-new xs y
@@ -75,7 +75,7 @@ module _ (h : List Stamp) (a : Access) (marks : List Bool) (are : AreMarks h a m
   out_of_reached q s is here (edge_on {p} r t reach before there l edge) =
       inr (p, (r, (are.right p (omega arith)).1 reach, before, inr (rw (same_event h q s t here there) at edge)))
 
-  -- one mark more
+  -- where a mark more tells whether the access or a marked event orders the next event directly, the marks are right with it
   pub marks_more : (b : Bool) → length marks < length h
       → ((s : Stamp) → EventAt h (length marks) s → IsTrue b ↔ (Starts a (length marks) s ⊎ HasMarked h marks (λ r. Leads r s)))
       → AreMarks h a (marks ++ b ∷ [])
@@ -101,17 +101,21 @@ module _ (h : List Stamp) (a : Access) (marks : List Bool) (are : AreMarks h a m
 
 -- some event is marked, or none is
 module _ (h : List Stamp) (marks : List Bool) (P : Stamp → Type 0) where
+  -- the mark at p, together with a test of P on the event there, tells whether that event is marked and P holds of it
   pub marked_here : (p : ℕ) (m b : Bool) (r : Stamp) → slice_get marks p ≡ Some m → EventAt h p r → IsTrue b ↔ P r
       → IsTrue (m && b) ↔ IsMarked h marks P p
   marked_here p true b r marked there test = (λ t. (r, marked, there, test.0 t), λ w. test.1 (rw (same_event h p r w.0 there w.2) at w.3))
   marked_here p false b r marked there test = (λ t. absurd (cc), λ w. absurd (let e = w.1 in cc))
 
+  -- where the event at p is marked and P holds of it, the answer that there is such an event is right
   pub one_marked : (p : ℕ) → IsMarked h marks P p → IsTrue true ↔ HasMarked h marks P
   one_marked p w = (λ _. (p, w), λ _. refl)
 
+  -- where P holds of no marked event among the first n, and there are at most n marks, the answer that there is none is right
   pub none_marked : (n : ℕ) → length marks ≤ n → ((k : ℕ) → k < n → IsMarked h marks P k → ⊥) → IsTrue false ↔ HasMarked h marks P
   none_marked n le none = (λ t. absurd (cc), λ w. absurd (let l = slice_get_within marks w.0 true w.1.1 in none w.0 (omega arith) w.1))
 
+  -- where P holds of no marked event before p, and the event at p is not such a one, there is none before p + 1
   pub none_more : (p : ℕ) → ((k : ℕ) → k < p → IsMarked h marks P k → ⊥) → (IsMarked h marks P p → ⊥) → (k : ℕ) → k < p + 1
       → IsMarked h marks P k → ⊥
   none_more p none not_here k l w = elim (below_or_last k p (omega arith)) [
@@ -137,6 +141,7 @@ module _ (h : List Stamp) (a : Access) (marks : List Bool) (are : AreMarks h a m
         (w.0, (w.1.0, is_marked w.0 w.1.0 w.1.1 w.1.3, w.1.1, w.1.2)),
   )
 
+  -- whether the access is of thread u, or some marked event is, tells whether the access happens before a next plain one of u
   pub plain_next : (u : ℕ) (b t : Bool) → IsTrue b ↔ (a.thread ≡ u) → IsTrue t ↔ HasMarked h marks (λ r. r.thread ≡ u)
       → IsTrue (b || t) ↔ HappensBeforeNext h a u None
   plain_next u b t own thread = either b t _ _ own (λ x. (thread_iff u).0 (thread.0 x), λ w. thread.1 ((thread_iff u).1 w))
@@ -161,6 +166,8 @@ module _ (h : List Stamp) (a : Access) (marks : List Bool) (are : AreMarks h a m
   out_of_next u xs (inr (inr (inr (q, (s, (ys, (x, there, event, one, other, reach))))))) =
       inr (q, (s, is_marked q s there reach, there, (ys, x, event, one, other)))
 
+  -- whether the access or some marked event is of thread u, the access is a commit on one of xs,
+  -- or a commit with one of xs is marked, tells whether the access happens before a next commit of u on xs
   pub commit_next : (u : ℕ) (xs : List ℕ) (b t o l : Bool) → IsTrue b ↔ (a.thread ≡ u) → IsTrue t ↔ HasMarked h marks (λ r. r.thread ≡ u)
       → IsTrue o ↔ IsCommitOn a xs → IsTrue l ↔ HasMarked h marks (IsCommitWith xs)
       → IsTrue (((b || t) || o) || l) ↔ HappensBeforeNext h a u (Some xs)
@@ -170,13 +177,13 @@ module _ (h : List Stamp) (a : Access) (marks : List Bool) (are : AreMarks h a m
       later in
       (λ x. into_next u xs (cases.0 x), λ w. cases.1 (out_of_next u xs w))
 
--- the event at q is the one that was asked about
+-- two answers about the event at q, whether the access orders it directly and whether a marked event does, tell together whether one does
 pub asked : (h : List Stamp) (a : Access) (marks : List Bool) (q : ℕ) (at s : Stamp) (x y : Bool) → EventAt h q at → EventAt h q s
     → IsTrue x ↔ Starts a q at → IsTrue y ↔ HasMarked h marks (λ r. Leads r at)
     → IsTrue (x || y) ↔ (Starts a q s ⊎ HasMarked h marks (λ r. Leads r s))
 asked h a marks q at s x y there here first later = rw (same_event h q at s there here) (either x y _ _ first later)
 
--- none of the first, or one of them
+-- where P holds of none of the first i elements, nor of the one at i, it holds of none of the first i + 1
 pub none_of_more : {A : Type 0} (xs : List A) (P : A → Type 0) (i : ℕ) (x : A) → slice_get xs i ≡ Some x → (P x → ⊥)
     → ((k : ℕ) (p : A) → k < i → slice_get xs k ≡ Some p → P p → ⊥) → (k : ℕ) (p : A) → k < i + 1 → slice_get xs k ≡ Some p → P p → ⊥
 none_of_more xs P i x here not_this none k p l there w = elim (below_or_last k i (omega arith)) [
@@ -184,7 +191,7 @@ none_of_more xs P i x here not_this none k p l there w = elim (below_or_last k i
   | inr last ↦ (let again : slice_get xs i ≡ Some p = rw last at there in let e : p ≡ x = cc in not_this (rw e at w))
 ]
 
--- where no place is left and P held at none, it holds at none
+-- where P holds of none of the first n elements, and there are no more than n, the answer that it holds of one is no
 pub none_of_all : {A : Type 0} (xs : List A) (P : A → Type 0) (n : ℕ) → length xs ≤ n
     → ((k : ℕ) (p : A) → k < n → slice_get xs k ≡ Some p → P p → ⊥) → IsTrue false ↔ ((i : ℕ) × ((p : A) × (slice_get xs i ≡ Some p) × P p))
 none_of_all xs P n le none = (

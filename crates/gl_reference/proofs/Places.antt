@@ -31,7 +31,7 @@ mapped : {A B : Type 0} (f : A → B) (o : Option A) (b : B) → option_map f o 
 mapped f None b e = absurd (cc)
 mapped f (Some a) b e = (a, refl, let same : Some (f a) ≡ Some b = e in cc)
 
--- what stands in a list that was mapped
+-- what stands in a mapped list is the image of what stands there in the list
 pub map_cases : {A B : Type 0} (f : A → B) (xs : List A) (i : ℕ) (b : B) → slice_get (map f xs) i ≡ Some b → (a : A)
     × (slice_get xs i ≡ Some a) × (f a ≡ b)
 map_cases f xs i b e = mapped f (slice_get xs i) b (sym (slice_get-map f xs i) ∙ e)
@@ -40,7 +40,7 @@ map_cases f xs i b e = mapped f (slice_get xs i) b (sym (slice_get-map f xs i) �
 pub map_there : {A B : Type 0} (f : A → B) (xs : List A) (i : ℕ) (a : A) → slice_get xs i ≡ Some a → slice_get (map f xs) i ≡ Some (f a)
 map_there f xs i a e = slice_get-map f xs i ∙ ap (option_map f) e
 
--- elements and their places
+-- each element of a list stands there at some place
 pub place_of : (xs : List ℕ) (y : ℕ) → Contains xs y → (k : ℕ) × (slice_get xs k ≡ Some y)
 place_of xs y c = (c.0, slice_get-get_or xs c.0 y c.1 ∙ ap Some c.2)
 

@@ -55,7 +55,7 @@ Stepped t item judged h ps over h' ps' over' =
     (lines : List Line) → AreSound (lines ++ line t item judged ∷ []) → AreVerdicts lines → AreFollowed lines h ps over →
     AreVerdicts (lines ++ line t item judged ∷ []) × AreFollowed (lines ++ line t item judged ∷ []) h' ps' over'
 
--- one line more
+-- where the events, the performed accesses and who has ended are those after one line more, the judge has followed that line too
 followed_push : (lines : List Line) (l : Line) (h : List Stamp) (ps : List Performed) (over : List Bool) → h
     ≡ (after_line l (traced lines)).history → ArePerformed (after_line l (traced lines)).draws ps
     → ((u : ℕ) → slice_index_or over u false ≡ (is_ended (steps_of lines) u || item_joins u l.item))
@@ -85,7 +85,7 @@ stepped_act t act h h' ps ps' over over' joined same joins events ends lines sou
           ∙ ap (λ b. b || act_joins u act) (f.ended u)),
     )
 
--- a plain access
+-- a plain access is no event: the events stay
 plain_history : (t x : ℕ) (write : Bool) (judged : Judged) (s : Traced) → s.history ≡ (after_item t (Access x write) judged s).history
 plain_history t x write NoAccess s = refl
 plain_history t x write WasPerformed s = refl
@@ -242,9 +242,11 @@ module _ (h h0 : List Stamp) (ps ps0 ps1 : List Performed) (t x : ℕ) (write b 
   asked_plain = subst (λ z. IsTrue b ↔ IsRacyBy z ps (plain_next t x write)) events
       (subst (λ z. IsTrue b ↔ IsRacyBy h0 z (plain_next t x write)) (kept ∙ same) test)
 
+  -- where the answer is yes, the plain access is raised, as it has to be, and the accesses that are kept stay
   pub done_raised : b ≡ true → PlainDone h ps t x write (Raised x) ps1
   done_raised e = (refl, asked_plain.0 e, same)
 
+  -- where the answer is no, the plain access is performed, as it has to be, and kept in the block of its thread's last event
   pub done_performed : (h2 : List Stamp) (block : ℕ) (ps' : List Performed) → b ≡ false → h2 ≡ h → ((p : ℕ) → IsLastOf h2 t p → block ≡ p)
       → ps' ≡ ps1 ++ plain_done block t x write ∷ [] → PlainDone h ps t x write WasPerformed ps'
   done_performed h2 block ps' e here last is = (
@@ -264,9 +266,11 @@ module _ (h h0 h1 : List Stamp) (ps ps0 ps1 : List Performed) (t : ℕ) (variabl
   asked_commit = subst (λ z. IsFirstRacy z ps t variables writes o) (events ∙ same_events)
       (subst (λ z. IsFirstRacy h0 z t variables writes o) (kept ∙ same) first)
 
+  -- where the commit is first racy on var, it is refused for var, as it has to be, and the events and the kept accesses stay
   pub done_refused : (var : ℕ) → o ≡ Some var → CommitDone h ps t variables writes (Raised var) h1 ps1
   done_refused var e = (subst (IsFirstRacy h ps t variables writes) e asked_commit, same_events, same)
 
+  -- where it is racy on none of its variables, it is performed, as it has to be: it is an event, and its parts are kept in that block
   pub done_committed : (h' : List Stamp) (block : ℕ) (ps' : List Performed) → o ≡ None → h' ≡ h1
       ++ record { thread = t; event = Commits variables } ∷ [] → block ≡ length h1 → ps' ≡ ps1
       ++ map (part_done block t variables writes) variables → CommitDone h ps t variables writes WasPerformed h' ps'

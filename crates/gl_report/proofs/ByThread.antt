@@ -58,7 +58,7 @@ next_is_later t l ls (inr lt) more =
     let other : (l.0 == t) ≡ false = grind (arith, nat_tests) in
     rw (out_next, out, other) more
 
--- the next thread's list comes last
+-- where the threads rise, gathering one thread more puts its list behind those of the threads below
 pub gathers_next : (t : ℕ) (ls : List (ℕ × List Entry)) → Rises (map (λ l. l.0) ls) → GathersNext t ls
 gathers_next t [] rises = refl
 gathers_next t (l ∷ ls) rises =

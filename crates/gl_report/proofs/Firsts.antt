@@ -34,11 +34,11 @@ or_entry v None a = refl
 or_entry v (Some x) a = refl
 
 module _ {A : Type 0} (v : A → Entry) (es : List Entry) (slots : List (Option A)) (are : AreFirsts v es slots) where
-  -- an entry that is no event
+  -- with an entry more that is no event, the slots stay right
   pub no_event : (e : Entry) → position_of e ≡ None → AreFirsts v (es ++ e ∷ []) slots
   no_event e is = λ p lt. are p lt ∙ sym (passed p e es (rw is refl))
 
-  -- one behind all slots
+  -- with an entry more whose position is behind all slots, they stay right
   pub past_end : (e : Entry) (at : ℕ) → position_of e ≡ Some at → length slots ≤ at → AreFirsts v (es ++ e ∷ []) slots
   past_end e at is out = λ p lt. (let other : is_event_at p e ≡ false = rw is (grind (arith, nat_tests)) in are p lt
       ∙ sym (passed p e es other))
@@ -61,6 +61,7 @@ module _ {A : Type 0} (v : A → Entry) (es : List Entry) (slots : List (Option 
           let other : is_event_at p (v a) ≡ false = rw is (grind (arith, nat_tests)) in
           ap (option_map v) (get_or-set_other slots at p (Some new) None apart) ∙ are p lt ∙ sym (passed p (v a) es other)
 
+    -- with the entry noted, the slots have the first of the entries, with this one, at each position
     pub one_noted : AreFirsts v (es ++ v a ∷ []) (set slots at (Some new))
     one_noted = λ p lt. noted_at p (let same = length-set slots at (Some new) in omega arith)
 

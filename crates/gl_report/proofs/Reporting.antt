@@ -39,7 +39,7 @@ sum_mapped v f (x ∷ xs) = (let more = sum_mapped v f xs in let left = sum_by-c
 
 -- ## By thread
 
--- the entries, without their threads
+-- the entries of a record by thread, without their threads, are all its entries
 entries_are : (made : List (ℕ × List Entry)) → map (λ p. p.1) (by_thread made) ≡ all_entries made
 entries_are [] = refl
 entries_are (l ∷ ls) =
@@ -47,7 +47,7 @@ entries_are (l ∷ ls) =
     ∙ ap (λ front. front ++ map (λ p. p.1) (by_thread ls)) (map_map (λ (p : ℕ × Entry). p.1) (λ e. (l.0, e)) l.1 ∙ map-id l.1)
     ∙ ap (λ back. l.1 ++ back) (entries_are ls)
 
--- what each entry of each thread gives
+-- what the entries by thread give, put together, is what those of each list give, list by list
 gives_are : {A : Type 0} (h : ℕ → Entry → List A) (made : List (ℕ × List Entry)) → flat_map (λ p. h p.0 p.1) (by_thread made)
     ≡ flat_map (λ l. flat_map (h l.0) l.1) made
 gives_are h [] = refl
@@ -68,7 +68,7 @@ one_race t (Trim low) = refl
 one_race t (Over ending) = refl
 
 module _ {A : Type 0} (v : A → ℕ × Entry) (xs : List A) (made : List (ℕ × List Entry)) (are : map v xs ≡ by_thread made) where
-  -- the entries, and how many are events
+  -- the entries are all those of the record
   pub all_are : map (λ x. (v x).1) xs ≡ all_entries made
   all_are = sym (map_map (λ p. p.1) v xs) ∙ ap (map (λ p. p.1)) are ∙ entries_are made
 
@@ -95,7 +95,7 @@ module _ {A : Type 0} (v : A → ℕ × Entry) (xs : List A) (made : List (ℕ �
       (ap length (sym (gives race_of)) ∙ length-flat_map (λ x. race_of (v x).0 (v x).1) xs
       ∙ sum_same (λ x. length (race_of (v x).0 (v x).1)) (λ x. cond (is_raised (v x).1) 1 0) xs (λ x. one_race (v x).0 (v x).1))
 
-  -- the text that grew by these lines
+  -- a text that grew by the prints, the races, the ends and the number of races is the record's report
   pub report_is :
       (none outs races ends whole prints : List ℕ) (n count : ℕ) → none ≡ [] → outs ≡ none ++ prints → prints
       ≡ flat_map out_line (printed_below (all_entries made) n) →

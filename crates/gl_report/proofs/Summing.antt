@@ -19,14 +19,14 @@ last_is [] v = refl
 last_is (u ∷ []) v = refl
 last_is (u ∷ w ∷ vs) v = last_is (w ∷ vs) v
 
--- how many pass a test, after a map
+-- as many elements of a mapped list pass a test as elements of the list pass it when they are mapped
 counts_mapped : {A B : Type 0} (v : A → B) (p : B → Bool) (xs : List A) → count_by p (map v xs) ≡ count_by (λ x. p (v x)) xs
 counts_mapped v p [] = refl
 counts_mapped v p (x ∷ xs) =
     (let more = counts_mapped v p xs in let left = sum_by-cons (λ y. cond (p y) 1 0) (v x) (map v xs)
     in let right = sum_by-cons (λ y. cond (p (v y)) 1 0) x xs in omega arith)
 
--- the commits of entries that are those of a record
+-- where entries are those of a record by thread, there are as many commits among them as in the record
 pub commits_are :
     {A : Type 0} (v : A → ℕ × Entry) (xs : List A) (made : List (ℕ × List Entry)) → map v xs ≡ by_thread made →
     count_by (λ x. is_commit (v x).1) xs ≡ count_by is_commit (all_entries made)

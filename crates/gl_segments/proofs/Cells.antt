@@ -2,6 +2,6 @@
 use Rattle.std.proofs.Common.{◌↔◌, ℕ, ◌+◌, ◌*◌, ◌/◌, ◌<◌, subst}
 use Rattle.std.proofs.Math.Nat.{div-lt_iff_lt-mul, add-mul}
 
--- a position is in the first s segments from low on, by its segment and by itself
+-- the segment of a position is below low + s exactly where the position is below the number of cells of low + s segments
 pub room_cells : (low s cells tail : ℕ) → 0 < cells → (tail / cells < low + s) ↔ (tail < low * cells + s * cells)
 room_cells low s cells tail some = subst (λ n. (tail / cells < low + s) ↔ (tail < n)) (add-mul low s cells) (div-lt_iff_lt-mul some)
