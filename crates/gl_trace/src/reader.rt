@@ -110,8 +110,8 @@ impl<'a> TraceReader<'a> {
         Some((number, thread))
     }
 
-    // Reads lines until one says something or has a fault, or none is left. It is kept out of the loop over usual lines, so that those
-    // have the registers.
+    // Reads lines until one says something or has a fault, or none is left. It is kept out of the loop over usual lines, whose values then
+    // stay in registers.
     #[inline(never)]
     fn full_next(&mut self, item: &mut Item) -> Result<Option<(u32, u8)>, TextFault>
         ensures line { (text : List ℕ) (made : List TraceLine) → IsReadTo text made self.old → IfOk result (λ o. MatchOption o (IsTrace text made) (λ x. IsReadTo text (made ++ (x.0, x.1, item.new) ∷ []) self.new)) }
