@@ -183,6 +183,7 @@ module _ (setting : Setting) (R : Lists) (h : List Stamp) (now : State) (rows : 
           },
         )
 
+    -- the last place of u's list that the entry's clock has passed is that of the last event of u that leads to the entry, if there is one
     pub led : (o : Option StoredPlace) → IsPlacePassed (R u) u (at known u) o → IsLed R d u o
     led None none = λ i l before. let w = leads_passed i before in none w.0 w.2
     led (Some c) w =
