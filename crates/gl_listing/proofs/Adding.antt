@@ -84,6 +84,7 @@ module _ {A : Type 0} (number var : A → ℕ) where
         added_then c (picks (take i parts)) (λ y. if var a == y then number a ∷ [] else []) old now new are added x
         ∙ ap (λ ns. get_or old x [] ++ map (λ k. use_of c k) ns) (sym numbers)
 
+    -- where all parts were gone through, the numbers of all of them came to the uses of their variables
     pub picked_all : length parts ≤ i → IsAdded c (picks parts) old now
     picked_all past x = are x ∙ ap (λ ps. get_or old x [] ++ map (λ k. use_of c k) (picks ps x)) (take_all i parts past)
 

@@ -29,9 +29,11 @@ use_place c None = c
 use_place c (Some u) = u.0
 
 module _ (us : List Use) where
+  -- where no number of the uses is wrong, no place fails
   pub nowhere : ((k : ℕ) → IsWrongAt (numbers_in us) k → ⊥) → (c : Place) → UseFailsAt us c → ⊥
   nowhere right c x = right x.index x.wrong
 
+  -- where the uses are in order, the place of the first wrong number is the first one that fails
   pub first_place : AreInOrder us → (k : ℕ) (u : Use) → slice_get us k ≡ Some u → IsFirstWrong (numbers_in us) k
       → IsFirstBy Before (UseFailsAt us) u.0
   first_place ordered k u at first = (fails, earlier) where
@@ -105,6 +107,7 @@ module _ (F H N : Place → Type 0) (either : (c : Place) → N c → F c ⊎ H 
   moved : (next found : Option StoredPlace) → next ≡ found → IsFound N found → IsFound N next
   moved next found same is = subst (IsFound N) (sym same) is
 
+  -- where the first place of each way to fail was found, or that there is none, the earlier of the two is the first of both
   pub earlier_found : (first found next : Option StoredPlace) → IsFound F first → IsFound H found → IsEarlier first found next
       → IsFound N next
   earlier_found None None next no_first none is =

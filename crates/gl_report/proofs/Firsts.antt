@@ -61,6 +61,7 @@ module _ {A : Type 0} (v : A → Entry) (es : List Entry) (slots : List (Option 
           let other : is_event_at p (v a) ≡ false = rw is (grind (arith, nat_tests)) in
           ap (option_map v) (get_or-set_other slots at p (Some new) None apart) ∙ are p lt ∙ sym (passed p (v a) es other)
 
+    -- with the entry noted so, what stands first at each position is right for the entries with this one
     pub one_noted : AreFirsts v (es ++ v a ∷ []) (set slots at (Some new))
     one_noted = λ p lt. noted_at p (let same = length-set slots at (Some new) in omega arith)
 

@@ -283,6 +283,7 @@ module _ (p : PassView) (x : ℕ) (row : Row) (tail : ℕ) (known : List (ℕ ×
   none_left : (k : ℕ) (h : Held) → h.object ≡ k → without k (h ∷ []) ≡ []
   none_left k h e = ap (λ b. if not b then h ∷ [] else []) (eq-eqb h.object k e)
 
+  -- once the access was marked on the row, and the row put back, the pass is the one that stored the access
   pub is_stored : (a : PlainAccess) (u r : PassView) → p.own.held ≡ [] → u
       ≡ marked_plain (walked_row p x row tail known walker) x nth a.write a.value a.raised → r ≡ after u (left (view_of u) (suc x) false)
       → IsStored a r

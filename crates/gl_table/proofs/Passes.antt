@@ -122,6 +122,7 @@ module _ (me : table.Me Slot View) (t : ℕ) (mine : List Entry) (seen : ℕ) (o
       subst (λ x. IsPass x t mine seen order' quiet') (sym is)
       (is_pass u c t mine seen order' quiet' one p.ready.named (p.sees ∙ sym sees) quiets unstored gone p.below p.kept)
 
+  -- where the object that was to be taken is another thread's, the pass notes who has it, and has and holds what it had and held
   pub pass_refuses : (setting : Setting) (k n : ℕ) (w : table.Me Slot View) → Took setting k now me.1 n w → n ≢ 0
       → IsPass w t mine seen order quiet × (w.0 ≡ refused now k (n - 1)) × (n ≤ THREADS) × (n - 1 ≢ t)
   pass_refuses setting k n w told busy =
@@ -145,11 +146,13 @@ module _ (me : table.Me Slot View) (t : ℕ) (mine : List Entry) (seen : ℕ) (o
   pub took_room : (k : ℕ) → (HasObject now k → ⊥) → k < objects → length order < objects
   took_room k free near = out.out_room me.1 order now.held p.out k free near
 
+  -- where it was free, the pass holds it besides, as the object that it took last
   pub pass_takes : (k : ℕ) (y : Slot) (z : table.Me Slot View) → (HasObject now k → ⊥) → k < objects → z
       ≡ (took now k y, (k, slot.Empty) ∷ me.1) → IsPass z t mine seen (k ∷ order) quiet
   pass_takes k y z free near is = pass_steps (took now k y) ((k, slot.Empty) ∷ me.1) (k ∷ order) quiet z refl refl p.quiets p.unstored
       (out.out_takes me.1 order now.held p.out k y free near) is
 
+  -- once it loaded the tail, the pass has seen that tail
   pub pass_sees : (n : ℕ) (w : table.Me Slot View) → SawTail now me.1 n w → IsPass w t mine n order quiet
   pass_sees n w told =
       let le = told.1 in
@@ -245,6 +248,7 @@ module _ (me : table.Me Slot View) (t : ℕ) (mine : List Entry) (seen : ℕ) (o
       pass_steps u me.1 order quiet w one sees (p.quiets ∙ sym quiets) (stored ∙ p.unstored)
       (subst (AreOut me.1 order) (sym held) (out.out_changes me.1 order now.held p.out h g has same)) is
 
+  -- with one thing more among what it read, the pass has and holds what it had and held
   pub pass_saw : (r : Read) (w : table.Me Slot View) → Saw r now me.1 w → IsPass w t mine seen order quiet
   pass_saw r w told = pass_steps (saw now r) me.1 order quiet w refl refl p.quiets p.unstored p.out told
 
@@ -296,6 +300,7 @@ module _ (me : table.Me Slot View) (t : ℕ) (mine : List Entry) (seen : ℕ) (o
   pub is_out : (h : Held) → Contains now.held h → Contains order h.object
   is_out h has = out.is_out me.1 order now.held p.out h has
 
+  -- once the object was put back, the pass holds the others, and is quiet if it was or if it put that back quietly
   pub pass_puts : (k : ℕ) (q : Bool) (order' : List ℕ) (c : List (ℕ × Slot)) (z : table.Me Slot View) → IsPermutation order order' → order'
       ≡ k ∷ drop 1 order' → c ≡ empties (drop 1 order') → z ≡ (left now k q, c) → IsPass z t mine seen (drop 1 order') (quiet || q)
   pass_puts k q order' c z perm front gone is =
