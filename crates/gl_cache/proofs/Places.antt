@@ -71,7 +71,7 @@ none_at n x = elim (cases_lt x n) [
 pub no_word_at : (x : ℕ) (a : ℤ) → IsChanged no_words x a → ⊥
 no_word_at x a is = (let t : ◌≡◌ {A = Option Word} None (Some (record { value = a; dirty = true })) = sym (none_at VARIABLES x) ∙ is in cc)
 
--- places without a word, and no bit
+-- one place for each variable, all of an older stamp, and bits of which none is set, go together at the stamp
 pub fresh_slots :
     (st : ℕ) (slots : List Slot) (bits : List ℕ) → length slots ≡ VARIABLES → 0 < st → All (λ q. q.stamp < st) slots
     → ((x : ℕ) → HasBit bits x → ⊥) → AreSlots slots st bits
@@ -146,7 +146,7 @@ module _ (slots : List Slot) (st : ℕ) (bits : List ℕ) (are : AreSlots slots 
     ]);
   }
 
--- a word that counts as unchanged
+-- a place whose word is made to count as unchanged shows the word that it showed, as one that is unchanged
 pub unchanged : (st : ℕ) (q : Slot) → shown st (record { stamp = q.stamp; value = q.value; dirty = false }) ≡ clean_word (shown st q)
 unchanged st q = by_test (q.stamp == st) where
   by_test : (b : Bool) → (if b then Some (let w : Word = record { value = q.value; dirty = false } in w) else None)

@@ -25,7 +25,7 @@ meet_by t u g k e f r given taken test = (
 )
 
 module _ (rows : List Told) (t from : ℕ) where
-  -- a row of thread t between the two places is one that is found
+  -- where a row between the two places is of thread t, yes is the right answer to whether one is
   pub row_new : (i to : ℕ) (k : Told) → from ≤ i → i < to → slice_get rows i ≡ Some k → k.thread ≡ t → IsTrue true ↔ HasRow rows t from to
   row_new i to k after near there is = (λ _. (i, k, after, near, there, is), λ _. refl)
 
@@ -40,7 +40,7 @@ module _ (rows : List Told) (t from : ℕ) where
         other (ap (λ (z : Told). z.thread) same ∙ is))
   ]
 
-  -- where none of the rows before n is of t, none before an earlier place is
+  -- where none of the rows before n is of t, no is the right answer for any place up to n
   pub row_never : (n to : ℕ) → to ≤ n → (HasRow rows t from n → ⊥) → IsTrue false ↔ HasRow rows t from to
   row_never n to all none = (λ t. absurd (cc), λ w. absurd (none (w.0, w.1, w.2, (let near = w.3 in omega arith), w.4, w.5)))
 

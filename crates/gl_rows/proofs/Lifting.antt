@@ -54,7 +54,7 @@ floor_step q x n h e at =
     ∙ ap (λ (l : List Held). holding q (record h { floor = Some n } ∷ l) (q.reads ++ Hold h.object n ∷ []) (moved 1 q.moves))
     (none_left h.object h refl)
 
--- it is raised
+-- the hold of the one held row is raised, with the row as it is moved up
 raise_step : (q : PassView) (x to : ℕ) (row : Row) (h : Held) → q.own.held ≡ h ∷ [] → h.object ≡ suc x
     → after q (raised (view_of q) (held_at (x + 1) q.own.held) (slot.Row row) to)
     ≡ holding q (record h { taken = slot.Row row; tails = q.seen ∷ []; floor = Some to } ∷ []) q.reads (moved 1 q.moves)
@@ -137,7 +137,7 @@ module _ (p : PassView) (x : ℕ) (row : Row) (before : ℕ) where
   may_put_first setting u is = subst (λ (z : PassView). MayPutBack setting (shelf_of z) (view_of z) (suc x) (slot.Row row) false) (sym is)
       (may_put_same setting floor_pass x floored row refl refl refl refl)
 
-  -- where the row goes back then, the pass is the first one, but for what it read and how often it moved
+  -- where the row goes back then, the pass is the first one, but for what it read and how many steps it made
   pub first_is : (u r : PassView) → p.own.held ≡ [] → u ≡ floor_pass → r ≡ after u (left (view_of u) (suc x) false) → r
       ≡ record p { reads = reads_floored; moves = moved 2 floor_moves }
   first_is u r empty is step =
@@ -168,7 +168,7 @@ module _ (p : PassView) (x : ℕ) (row : Row) (before : ℕ) where
       let has = subst (λ (z : PassView). Contains z.own.held floored) (sym was) (0, omega arith, refl) in
       subst (IsWithin row) (sym (ap (λ (z : PassView). z.seen) is)) (within floored row has refl)
 
-  -- a walk over the row's Infos changes the pass in nothing but what it knows and loaded and how often it moved
+  -- a walk over the row's Infos changes the pass in nothing but what it knows and loaded and how many steps it made
   pub lifted_is : (v w : PassView) (to tail : ℕ) → v ≡ lifted tail p.known p.loaded (moved 1 floor_moves) → HasWalkedTo row to v w → w
       ≡ lifted tail w.known w.loaded w.moves
   lifted_is v w to tail is walk =
@@ -263,7 +263,7 @@ module _ (p : PassView) (x : ℕ) (row : Row) (before : ℕ) where
       refl refl refl)
 
   -- once it was put back, the pass is the first one, but for the tail that
-  -- it has seen, what it knows, loaded and read, and how often it moved
+  -- it has seen, what it knows, loaded and read, and how many steps it made
   pub end_is : (v r : PassView) (to tail hold : ℕ) (new : Row) (known : List (ℕ × Stamp)) (loaded : List CellWord) (m : Moves)
       → p.own.held ≡ [] → v
       ≡ last_pass to tail hold new known loaded m → r ≡ after v (left (view_of v) (suc x) false)

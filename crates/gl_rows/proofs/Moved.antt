@@ -98,7 +98,7 @@ module _ (from to : ℕ) (window : List Stamp) where
   row_above old new m i (inl e) = kept_above old.last_write new.last_write m.last_write i e
   row_above old new m i (inr (t, e)) = kept_above (read_of old.reads t) (read_of new.reads t) (m.reads t) i e
 
--- a row whose Infos were moved over the events that the pass loaded for it
+-- a row whose Infos were moved up by the events that the pass loaded was walked on, over each list that fits the pass
 pub row_lifted : (setting : Setting) (p q : PassView) (from to : ℕ) (window : List Stamp) (old new : Row) → KnowsFrom from window p q
     → from + length window ≡ to → to ≤ p.seen → ((i : Info) → InRow old i → from ≤ i.pos) → IsWithin old p.seen
     → IsRowMovedTo from to window old new

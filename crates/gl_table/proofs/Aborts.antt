@@ -73,7 +73,7 @@ module _ (me : table.Me Slot View) (t : ℕ) (mine : List Entry) (seen : ℕ) (o
     ),
   )
 
-  -- why the attempt may be dropped so can be kept
+  -- a reason for which the attempt may be dropped can be kept
   pub abort_kept : (tx : Tx) (why : Why) → MayAbortAs (shelf t mine) now tx why → IsWhyKept why
   abort_kept tx (Changed var read found) m = let r = m.1.drop.rows var (here_in var)
       in held_near me.1 order now.held p.out r.one var r.held r.object
