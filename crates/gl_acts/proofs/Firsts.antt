@@ -28,7 +28,7 @@ module _ (R : Lists) (h : List Stamp) (list : IsEventList h R) where
   pub list_events : HasEvents R (length h)
   list_events p less = let s = some_below h p less in let e = list.made p s.0 s.1 in (e.0, (s.0, e.1))
 
-  -- no event has a position that is not below it
+  -- each event's position is below it
   pub list_below : AreAllBelow R (length h)
   list_below c p s e = at_below h p s (list.listed c p s e)
 

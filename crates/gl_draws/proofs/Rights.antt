@@ -49,7 +49,7 @@ top_write x (d ∷ ds) w e = here (is_write x d.what) refl (λ q. top_write x ds
           ],
         )
 
--- the last event of a list, behind whose front there is none
+-- where no event stands in a list from place n on, its last event is that of its first n entries
 no_later : (es : List Entry) (n : ℕ) → ((j : ℕ) (e : Entry) → At es j e → n ≤ j → position_of e ≡ None) → last_position es
     ≡ last_position (take n es)
 no_later [] zero none = refl

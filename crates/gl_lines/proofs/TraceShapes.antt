@@ -121,7 +121,7 @@ module _ (started ended : ℕ → Bool) (R : Lists) (k : AreShaped started ended
     begun_push e u = each_list (λ w es. is_empty es ≡ not (started w)) R t e (empty_push (R t) e ∙ sym (ap not runs))
         (λ w other. k.begun w) u
 
-    -- with such an entry in the list of a running thread, a fork being of a thread that was started, the lists are shaped as before
+    -- with an entry that is no Trim, Over or End in the thread's list, a fork being of a thread that was started, the lists stay shaped
     pub usual_shaped : (e : Entry) → IsUsual e → ((p u f : ℕ) (value : ℤ) → e ≡ Sync p (Fork u f) value → started u ≡ true)
         → AreShaped started ended (with_entry R t e)
     usual_shaped e usual forks = record {
