@@ -52,7 +52,7 @@ module _ (t q p : ℕ) (e : Entry) where
   own_at true false ds i = inl ((omega arith), refl)
   own_at false c ds i = absurd (cc)
 
-  -- how many there are then
+  -- with the attempt there is one draw more for its look, if it looks, and one for its end, if it looks or writes
   pub attempt_length : (a b : Bool) (ds : List Draw) → length (with_own (if a then true else b) t p e (with_look a t q ds))
       ≡ length ds + one_if a + (if a then 1 else if b then 1 else 0)
   attempt_length true b ds = omega arith
@@ -99,7 +99,7 @@ module _ (draws : ℕ → List Draw) (t q p : ℕ) (e : Entry) (reads writes : L
       → DrawAt (with_attempt t q p e reads writes draws y) (length (draws y)) (draw t q (Looked (pos 0)))
   attempt_look y i = look_at t q p e (touches reads writes y) (is_in y reads) (draws y) i
 
-  -- another thread's draws
+  -- another thread's draws stay tied to its list
   pub attempt_other : (u : ℕ) (es : List Entry) → u ≢ t → AreDrawn draws u es []
       → AreDrawn (with_attempt t q p e reads writes draws) u es []
   attempt_other u es apart k = record {

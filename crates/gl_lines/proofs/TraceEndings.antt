@@ -95,7 +95,7 @@ module _ (started : ℕ → Bool) (n : ℕ) (s : Traced) (now : State) (k : IsCl
       ])
       (λ w other i a. forks w i p u f value a) w i a
 
-  -- the thread never began
+  -- where thread n was never started, the lists of the threads below n + 1 have ended
   never : started n ≡ false → IsClosing started (suc n) s now
   never e = record {
     recorded = k.recorded;

@@ -170,7 +170,7 @@ module _ (keep : Keep) (asked : Option Command) (left : Option (List ℕ)) (sour
       (subst (λ k. Serves keep asked left status k before now) (sym done.kept_is)
       (subst (λ b. Serves keep asked left status None b now) done.same (stopped keep asked left status now stop)))
 
-  -- where what was to be written is the page for some input, what was written and what is kept serves the words
+  -- where what was to be written is the page for some input, what was written and what is kept serve the words
   pub written_of : (r : Result Page Stop) (a : Answer) → ReplyCause asked source_before source_now r → IfOk r (RepliesTo keep asked left)
       → Finishes r a sink_before sink_now before now → Serves keep asked left a.status a.kept before now
   written_of (Ok p) a cause page (kept, inl written) =

@@ -51,7 +51,7 @@ is_ready v t mine e near = record {
   named = near;
 }
 
--- what is true of a pass whose view records all that it stored
+-- a view that records all that was stored is a pass, where its fields, what is out and the entries are right for one
 pub is_pass : (v : View) (c : List (ℕ × Slot)) (t : ℕ) (mine : List Entry) (seen : ℕ) (order : List ℕ) (quiet : Bool) → v.shelves
     ≡ shelf t mine ∷ [] → t < THREADS → seen ≡ v.seen → quiet ≡ v.quiet → v.stored ≡ [] → AreOut c order v.held
     → AreBelow seen (shelf t mine) → All IsEntryKept mine
@@ -115,7 +115,7 @@ module _ (me : table.Me Slot View) (t : ℕ) (mine : List Entry) (seen : ℕ) (o
   abbrev now : View
   now = caught_up me.0 t mine
 
-  -- a step that leaves the entries as they are
+  -- a step that leaves the entries, the tail that was seen and the cells as they are leaves a pass, quiet as its view then says
   pub pass_steps : (u : View) (c : List (ℕ × Slot)) (order' : List ℕ) (quiet' : Bool) (w : table.Me Slot View) → u.shelves ≡ shelf t mine
       ∷ [] → u.seen ≡ now.seen → quiet' ≡ u.quiet → u.stored ≡ [] → AreOut c order' u.held → w ≡ (u, c) → IsPass w t mine seen order' quiet'
   pass_steps u c order' quiet' w one sees quiets unstored gone is =
@@ -190,7 +190,7 @@ module _ (me : table.Me Slot View) (t : ℕ) (mine : List Entry) (seen : ℕ) (o
       some_n : (a b : ℕ) → Some a ≡ Some b → a ≡ b
       some_n a b z = cc
 
-  -- an act
+  -- an act is published, whose words are in the cell: the pass has its entry and has seen the tail behind it
   pub pass_publishes : (ws : List ℕ) (act : Act) (value : ℤ) (y : Slot) (v : View) (c : List (ℕ × Slot)) (n : ℕ) (w : table.Me Slot View)
       (mine' : List Entry) → v ≡ filled now ws → c ≡ me.1 → mine' ≡ mine ++ Sync n act value ∷ []
       → PublishedAct (shelf t mine) act value y v c n w
@@ -240,7 +240,7 @@ module _ (me : table.Me Slot View) (t : ℕ) (mine : List Entry) (seen : ℕ) (o
       } in
       (subst (λ l. IsPass me t l seen order quiet) (sym more) b, ap (λ l. caught_up me.0 t l) more ∙ r.1)
 
-  -- a held object changes
+  -- where a held object changes, and nothing else but what was read, the pass has and holds what it had and held
   pub pass_changes : (u : View) (h g : Held) (w : table.Me Slot View) → u.shelves ≡ shelf t mine ∷ [] → u.seen ≡ now.seen → u.quiet
       ≡ now.quiet → u.stored ≡ now.stored → u.held ≡ g ∷ without h.object now.held → g.object ≡ h.object → Contains now.held h → w
       ≡ (u, me.1) → IsPass w t mine seen order quiet
@@ -252,7 +252,7 @@ module _ (me : table.Me Slot View) (t : ℕ) (mine : List Entry) (seen : ℕ) (o
   pub pass_saw : (r : Read) (w : table.Me Slot View) → Saw r now me.1 w → IsPass w t mine seen order quiet
   pass_saw r w told = pass_steps (saw now r) me.1 order quiet w refl refl p.quiets p.unstored p.out told
 
-  -- the first segment is raised, or not
+  -- where the first segment is raised, the pass has a Trim of it more, and where it is not, just the entries that it had
   pub pass_lowers : (n to : ℕ) (w : table.Me Slot View) (mine' : List Entry) (b : Bool) → nat_lt n to ≡ b
       → Lowered (shelf t mine) to now me.1 n w → mine' ≡ (if b then mine ++ Trim to ∷ [] else mine) → IsPass w t mine' seen order quiet
   pass_lowers n to w mine' b is told more =
