@@ -81,8 +81,7 @@ published_object n y drew h = by_bool (h.object == 0)
 pub below_later : (n m t : ℕ) (es : List Entry) → n ≤ m → AreBelow n (shelf t es) → AreBelow m (shelf t es)
 below_later n m t es le below i p e at is = let a = below i p e at is in omega arith
 
--- an entry more whose position, if it has one, is below n
--- not below
+-- where n is not below the other number, the test of that says no
 pub not_less : (n to : ℕ) → (n < to → ⊥) → nat_lt n to ≡ false
 not_less n to none = by (nat_lt n to) refl
   where
