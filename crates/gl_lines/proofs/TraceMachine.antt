@@ -26,7 +26,7 @@ or_assoc : (a b c : Bool) → (a || (b || c)) ≡ ((a || b) || c)
 or_assoc true b c = refl
 or_assoc false b c = refl
 
--- one step more
+-- with one step more a thread was started exactly where it was before or the step forks it
 pub started_push : (steps : List Said) (s : Said) (u : ℕ) → is_started (steps ++ s ∷ []) u ≡ (is_started steps u || item_forks u s.1)
 started_push steps s u =
     let one : list_any (λ (r : Said). item_forks u r.1) (s ∷ []) ≡ item_forks u s.1 = or_false (item_forks u s.1) in
