@@ -58,16 +58,19 @@ module _ (setting : Setting) (t : ℕ) (value : ℤ) (l : ListView) (runs : stag
   running : (now : State) → IsStateOf l now → now.threads t ≡ Running
   running now is = is.threads t ∙ ap thread_state runs
 
+  -- where the thread enters the monitor in the coded state, acquiring it is a step of the machine
   pub acquired : (o : ℕ) (l' : ListView) → Enters t o l l' → IsStepFrom setting (act_by t (Acq o)) value l l'
   acquired o l' enters now is =
       let step = enters_step setting t o l l' now (running now is) is enters in
       (step.0, record { may = step.1.may; effect = step.1.effect }, step.2)
 
+  -- where it leaves the monitor there, releasing it is one
   pub released : (o : ℕ) (l' : ListView) → Leaves t o l l' → IsStepFrom setting (act_by t (Rel o)) value l l'
   released o l' leaves now is =
       let step = leaves_step setting t o l l' now (running now is) is leaves in
       (step.0, record { may = step.1.may; effect = step.1.effect }, step.2)
 
+  -- where an object of the class has room, allocating it is one, with its reference as the value
   pub made : (c : ℕ) (fields : ℕ × ℕ) (l' : ListView) → slice_get setting.classes c ≡ Some fields → HasRoom l fields
       → pos (reference_in l c) ≡ value
       → l' ≡ with_object l fields → IsStepFrom setting (act_by t (Alloc c)) value l l'
@@ -76,6 +79,7 @@ module _ (setting : Setting) (t : ℕ) (value : ℤ) (l : ListView) (runs : stag
       (subst (λ (v : ℤ). IsStepFrom setting (act_by t (Alloc c)) v l (with_object l fields)) same
       (λ now is. makes_step setting t c fields l now (running now is) is class room))
 
+  -- a print is one, and leaves the coded state
   pub printed : IsStepFrom setting (act_by t Print) value l l
   printed now is = prints_step setting t value l now (running now is) is
 
@@ -128,6 +132,8 @@ module _ (setting : Setting) (t : ℕ) (value : ℤ) (l : ListView) (runs : stag
   told code Q true refuses back holds = λ now is. (now, record { may = running now is; effect = (refuses holds now is, refl) }, is)
   told code Q false refuses back fails = ((λ now next is step. fails (back now is step.effect.0)), refl)
 
+  -- an answer that tells whether the value is a monitor that the thread is
+  -- not in tells whether a Fail with the code 5 and that value is a step
   pub fails_as_not_owner : (code : ℕ) (b : Bool) → code ≡ 5 → MatchBool b (IsNotOwner l t value) (IsNotOwner l t value → ⊥)
       → Applies setting (act_by t (Fail code)) value l l b
   fails_as_not_owner code b is_code answer =
@@ -136,6 +142,7 @@ module _ (setting : Setting) (t : ℕ) (value : ℤ) (l : ListView) (runs : stag
       (λ q now is. not_owner refl q.0 q.1 q.2 (λ owns. q.3 owns.0 (owned_as (monitor_of l q.0) t owns.0 (sym (is.monitors q.0) ∙ owns.1))))
       outside answer)
 
+  -- one that tells whether the value is a class whose next object does not fit tells whether a Fail with the code 6 is a step
   pub fails_as_full : (code : ℕ) (b : Bool) → code ≡ 6 → MatchBool b (IsFull setting l value) (IsFull setting l value → ⊥)
       → Applies setting (act_by t (Fail code)) value l l b
   fails_as_full code b is_code answer =
@@ -148,6 +155,7 @@ module _ (setting : Setting) (t : ℕ) (value : ℤ) (l : ListView) (runs : stag
       })))
       full_there answer)
 
+  -- one that tells whether the value is a thread that was never forked tells whether a Fail with the code 11 is a step
   pub fails_as_unforked : (code : ℕ) (b : Bool) → code ≡ 11 → MatchBool b (IsUnforked l value) (IsUnforked l value → ⊥)
       → Applies setting (act_by t (Fail code)) value l l b
   fails_as_unforked code b is_code answer =
@@ -215,10 +223,12 @@ entered_where t o depth l is false test = λ held.
 
 -- the act that an entry has is the one that was applied
 module _ (setting : Setting) (t : ℕ) (l l' : ListView) (b : Bool) where
+  -- what is told of an act is told of one that is equal to it
   pub of_act : (value : ℤ) (act known : Act) → act ≡ known → Applies setting (act_by t known) value l l' b
       → Applies setting (act_by t act) value l l' b
   of_act value act known is applies = subst (λ (a : Act). Applies setting (act_by t a) value l l' b) (sym is) applies
 
+  -- what is told of the act and the value of an entry is told of the event that the entry has
   pub of_entry : (e : Entry) (at : ℕ) (act : Act) (value : ℤ) → e ≡ Sync at act value → Applies setting (act_by t act) value l l' b
       → (s : Stamp) → s.thread ≡ t → event_of e ≡ Some s.event → Applies setting s (value_of e) l l' b
   of_entry e at act value is applies s own event =
@@ -228,6 +238,7 @@ module _ (setting : Setting) (t : ℕ) (l l' : ListView) (b : Bool) where
       subst (λ (z : Stamp). Applies setting z (value_of e) l l' b) stamp
       (subst (λ (z : Entry). Applies setting (act_by t act) (value_of z) l l' b) (sym is) applies)
 
+  -- so is what is told of a commit on any variables, where the entry is a commit
   pub of_commit : (e : Entry) (at : ℕ) (tx : Tx) → e ≡ Commit at tx
       → ((xs : List ℕ) → Applies setting (record { thread = t; event = Commits xs }) (pos 0) l l' b)
       → (s : Stamp) → s.thread ≡ t → event_of e ≡ Some s.event → Applies setting s (value_of e) l l' b

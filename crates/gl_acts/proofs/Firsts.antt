@@ -24,9 +24,11 @@ pub some_below : {A : Type 0} (xs : List A) (p : ℕ) → p < length xs → (x :
 some_below xs p less = elim ((slice_get_cases xs p).1) [ inl in' ↦ (in'.0, in'.2) | inr out ↦ absurd (let le = out.0 in omega arith) ]
 
 module _ (R : Lists) (h : List Stamp) (list : IsEventList h R) where
+  -- each position below the length of the list has an event
   pub list_events : HasEvents R (length h)
   list_events p less = let s = some_below h p less in let e = list.made p s.0 s.1 in (e.0, (s.0, e.1))
 
+  -- each event's position is below it
   pub list_below : AreAllBelow R (length h)
   list_below c p s e = at_below h p s (list.listed c p s e)
 

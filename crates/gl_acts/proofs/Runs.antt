@@ -100,6 +100,7 @@ module _ (setting : Setting) (R : Lists) (n : ℕ) (run : StepsUpTo setting R n)
       let stamp : s ≡ r = λ i. record { thread = thread i; event = event i } in
       subst (λ (z : Stamp). IsStepOf n z (value_of f.entry)) stamp (subst (λ (z : Entry). IsStepOf n s (value_of z)) entry step)
 
+  -- where no other place has an event at n, this one is a step from there, and a thread that it forks has a list, the run goes up to n + 1
   pub longer : ((d : Place) (r : Stamp) → IsEventAt R d n r → d ≡ c) → Step setting (run.at n) s (value_of e.entry) next
       → ((u f : ℕ) (value : ℤ) → e.entry ≡ Sync n (Fork u f) value → R u ≢ []) → StepsUpTo setting R (n + 1)
   longer only step lists = record {

@@ -118,6 +118,7 @@ module _ (setting : Setting) (old new : State) (s : Stamp) (t : ℕ) where
   by_event (Does act) value is may x = by_act act value is may x
   by_event (Commit xs) value is may x = stays (ap (λ (z : State). z.threads t) x)
 
+  -- by a step each thread becomes what a step may make of it
   pub becomes : (value : ℤ) → Step setting old s value new → Becomes old new s t
   becomes value step = by_event s.event value refl step.may step.effect
 

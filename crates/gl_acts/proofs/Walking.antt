@@ -91,6 +91,7 @@ at_start setting R l is = record { run = no_steps setting R; is = is }
 
 -- the entry at the place tells what the place tells
 module _ (setting : Setting) (R : Lists) (c : Place) (l l' : ListView) (e : Entry) (there : EntryAt R c e) where
+  -- where a thread that the entry forks has a list, an answer that tells whether its event is a step tells whether the record goes on there
   pub makes : (b : Bool) → HasForked R e
       → ((s : Stamp) → s.thread ≡ c.thread → event_of e ≡ Some s.event → Applies setting s (value_of e) l l' b) → Makes setting R c l l' b
   makes true forked applies = λ p s x.
@@ -104,6 +105,7 @@ module _ (setting : Setting) (R : Lists) (c : Place) (l l' : ListView) (e : Entr
       inr (subst (λ (z : Entry). Rattle.gl_acts.specs.Applying.IsNoStepFrom setting s (value_of z) l) same
       (applies s x.own (ap event_of same ∙ x.event)).0)
 
+  -- where the entry forks a thread that has no list, the record stops there
   pub forks_none : (HasForked R e → ⊥) → Stops setting R c l
   forks_none none p s x =
       let same : e ≡ x.entry = same_entry (R c.thread) c.index e x.entry there x.there in

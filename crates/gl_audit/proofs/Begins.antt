@@ -105,6 +105,7 @@ module _ (setting : Setting) (R : Lists) (h : List Stamp) (is_list : IsEventList
         subst (λ k. ForkedRight setting (machine.at k)) one
         (effect_right setting (machine.at n) (machine.at (n + 1)) s.thread s.event _ right step.effect)
 
+  -- a thread's Begin in the record is in a function that a thread may start with
   pub begins_rightly : (t i at f : ℕ) (value : ℤ) → At (R t) i (Sync at (Begin f) value) → MayStart setting f
   begins_rightly t i at f value there =
       let place : Place = record { thread = t; index = i } in

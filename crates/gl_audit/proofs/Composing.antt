@@ -49,18 +49,23 @@ module _ (P : Bytecode) (inputs : List ℤ) (steps : ℕ) (made : List (ℕ × L
   pub below_list : S OfForm → Below OfList
   below_list form = below_more OfForm OfList refl below_first form
 
+  -- where the clauses of form and of the list hold, all before that of the numbers do
   pub below_numbers : S OfForm → S OfList → Below OfNumbers
   below_numbers form list = below_more OfList OfNumbers refl (below_list form) list
 
+  -- where that of the numbers holds too, all before that of the machine do
   pub below_machine : S OfForm → S OfList → S OfNumbers → Below OfMachine
   below_machine form list numbers = below_more OfNumbers OfMachine refl (below_numbers form list) numbers
 
+  -- where that of the machine holds too, all before that of the races do
   pub below_races : S OfForm → S OfList → S OfNumbers → S OfMachine → Below OfRaces
   below_races form list numbers machine = below_more OfMachine OfRaces refl (below_machine form list numbers) machine
 
+  -- where that of the races holds too, all before that of the words do
   pub below_words : S OfForm → S OfList → S OfNumbers → S OfMachine → S OfRaces → Below OfWords
   below_words form list numbers machine races = below_more OfRaces OfWords refl (below_races form list numbers machine) races
 
+  -- where that of the words holds too, all before that of the program do
   pub below_program : S OfForm → S OfList → S OfNumbers → S OfMachine → S OfRaces → S OfWords → Below OfProgram
   below_program form list numbers machine races words =
       below_more OfWords OfProgram refl (below_words form list numbers machine races) words
@@ -95,6 +100,7 @@ module _ (P : Bytecode) (inputs : List ℤ) (steps : ℕ) (made : List (ℕ × L
   act_at None c says is = absurd (cc)
   act_at (Some d) c says is = (let same : d ≡ c = cc in subst (λ b. FailsFirst P inputs steps made OfMachine (seen b)) same says)
 
+  -- where all before that of the program hold, and that one, each clause does
   pub every : Below OfProgram → S OfProgram → (k : Clause) → S k
   every below program OfForm = below OfForm (omega arith)
   every below program OfList = below OfList (omega arith)

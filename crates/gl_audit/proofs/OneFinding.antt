@@ -29,6 +29,7 @@ module _ (P : Bytecode) (inputs : List ℤ) (steps : ℕ) (made : List (ℕ × L
     (once : (k : Clause) (c d : Place) → HoldBelow P inputs steps (lists_of made) k → FailsFirst P inputs steps made k c
     → FailsFirst P inputs steps made k d → c ≡ d)
   where
+    -- two right findings are the same
     pub one_finding : (x y : Finding) → IsFinding P inputs steps made x → IsFinding P inputs steps made y → x ≡ y
     one_finding Lawful Lawful one other = refl
     one_finding Lawful (Not t i n) one (k, is, below, first) =

@@ -18,6 +18,7 @@ module _ (P : Bytecode) (inputs : List ℤ) (steps : ℕ) (R : Lists) where
   each lawful OfWords = lawful.allowed.legal
   each lawful OfProgram = lawful.runs
 
+  -- where each clause says what is so, the record is lawful for the program
   pub all : ((k : Clause) → Says P inputs steps R k) → LawfulOf P inputs steps R
   all says =
       let machine = says OfMachine in
@@ -34,6 +35,7 @@ module _ (P : Bytecode) (inputs : List ℤ) (steps : ℕ) (R : Lists) where
         runs = says OfProgram;
       }
 
+  -- the record is lawful for the program exactly where each of the seven clauses says what is so
   pub by_seven : LawfulOf P inputs steps R ↔ ((k : Clause) → Says P inputs steps R k)
   by_seven = (each, all)
 

@@ -243,6 +243,7 @@ module _ (setting : Setting) (R : Lists) (h : List Stamp) (now : State) (rows : 
         (led setting R h now rows stands L w.stand.place w.stand.entry is.there m.kind m.is_access w.stand.block block w.asked.known
         w.is_asked.knows e.other.thread apart e.leading w.found.leading)
 
+    -- what was found of a refused entry is its cause
     pub is_cause : IsCause R e
     is_cause =
         let l = w.found.last in
@@ -259,6 +260,7 @@ module _ (setting : Setting) (R : Lists) (h : List Stamp) (now : State) (rows : 
           leading = leads (found_in l.0.0 l.0.1.0 w.found.nth l.0.1.1 l.0.1.3) l.0.1.2;
         }
 
+  -- what was found of all refused entries are the causes of the record
   pub are_causes : (causes : List Cause) → AreFound R rows stands (length stands) causes → AreCauses R causes
   are_causes causes found = record {
     each = λ j e at. is_cause e (found.each j e at);

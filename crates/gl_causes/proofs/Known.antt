@@ -59,13 +59,13 @@ module _ (setting : Setting) (R : Lists) (h : List Stamp) (now : State) (rows : 
           commit = λ xs w. absurd (cc);
         }
 
-    -- what another thread knows behind its event at k
+    -- what another thread knows behind its event at k has passed the access exactly where the access precedes what it does there
     clock_told : (t k : ℕ) (r : Stamp) → EventAt h k r → r.thread ≡ t → r.event ≢ Does End → c.thread ≢ t
         → (b + 1 < clocks (take (k + 1) h) (Thread t) c.thread) ↔ Precedes h its t k
     clock_told t k r there own goes apart = subst (λ u. (b + 1 < clocks (take (k + 1) h) (Thread u) c.thread) ↔ Precedes h its u k) own
         (precede_law setting h now L.allowed its is_access k r there goes (λ e. apart (e ∙ own)))
 
-    -- what a commit hands on
+    -- what a commit hands on has passed the access exactly where the access reaches the commit's event
     handed_told : (m : Stand) → IsStand R m → IsCommit m.entry → (k : ℕ) (r : Stamp) → IsEventAt R m.place k r
         → (b + 1 < handed_on rows m c.thread) ↔ Reaches h its k
     handed_told m is commit k r e = by (c.thread == m.place.thread) refl
@@ -183,6 +183,7 @@ module _ (setting : Setting) (R : Lists) (h : List Stamp) (now : State) (rows : 
           },
         )
 
+    -- the last place of u's list that the entry's clock has passed is that of the last event of u that leads to the entry, if there is one
     pub led : (o : Option StoredPlace) → IsPlacePassed (R u) u (at known u) o → IsLed R d u o
     led None none = λ i l before. let w = leads_passed i before in none w.0 w.2
     led (Some c) w =

@@ -28,6 +28,7 @@ module _ (R : Lists) (h : List Stamp) (is_list : IsEventList h R) (rise : Positi
   abbrev pub stamp_before : Stamp
   stamp_before = record { thread = c.thread; event = (event_there last.entry b last.position).0 }
 
+  -- the event at position b has its place in the list of c, before c
   pub event_before : IsEventAt R (record { thread = c.thread; index = last.index }) b stamp_before
   event_before = record {
     entry = last.entry;
@@ -115,6 +116,7 @@ module _ (R : Lists) (h : List Stamp) (is_list : IsEventList h R) (rise : Positi
   at_event {d = d} {k = k} {r = r} e reach =
       record { place = d; position = k; event = r; reached = reach; made_at = e; own = refl; within = omega arith }
 
+  -- where the access reaches an event at or before d in d's list, it reaches the event at d
   pub up_reached : {d : Place} (k : ℕ) (r : Stamp) → IsReachedUpTo d → IsEventAt R d k r → Reaches h between k
   up_reached {d = d} k r u e = elim (up_to R h is_list rise u.place d u.position k u.event r u.made_at e u.own u.within) [
     | inl same ↦ subst (Reaches h between) (let y : u.position ≡ k = same in y) u.reached
@@ -160,6 +162,7 @@ module _ (R : Lists) (h : List Stamp) (is_list : IsEventList h R) (rise : Positi
   -- d is an entry of another thread that is no event, in the block of the event at p
   module _ (d : Place) (f : Entry) (here : EntryAt R d f) (no_event : (k : ℕ) → position_of f ≡ Some k → ⊥) (p : ℕ)
       (of_d : IsBlockOf R d p) (apart : c.thread ≢ d.thread) where
+    -- where steps lead from c to d, the access precedes what d's thread does in the block of d
     pub steps_precede : TransitiveClosure (OrdersDirectly R) c d → Precedes h between d.thread p
     steps_precede k = elim (chain_reached k) [ inl lt ↦ absurd (apart lt.0) | inr u ↦ from u ]
       where
@@ -176,6 +179,7 @@ module _ (R : Lists) (h : List Stamp) (is_list : IsEventList h R) (rise : Positi
           reached = u.reached;
         }
 
+    -- and where it precedes that, steps lead from c to d
     pub precede_steps : Precedes h between d.thread p → TransitiveClosure (OrdersDirectly R) c d
     precede_steps w = elim (reached_chain w.reached m.0 w.event m.1) [
       | inl same ↦ absurd (apart (ap (λ (z : Place). z.thread) same ∙ t))

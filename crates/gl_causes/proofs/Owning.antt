@@ -52,9 +52,11 @@ rises_push (y ∷ xs) x below rises = (
 )
 
 module _ (depths : List ℕ) where
+  -- below 0 no monitor is entered
   pub none_owned : AreOwnedBelow depths 0 []
   none_owned = record { rises = tt; each = λ m. (λ c. absurd (in_none m c), λ w. let n = w.0 in absurd (omega arith)) }
 
+  -- a monitor n that is entered comes behind those below n
   pub one_owned : (n : ℕ) (monitors : List ℕ) → nat_lt 0 (slice_index_or depths n 0) ≡ true → AreOwnedBelow depths n monitors
       → AreOwnedBelow depths (n + 1) (monitors ++ n ∷ [])
   one_owned n monitors test o = let held : 0 < slice_index_or depths n 0 = ltb-true 0 (slice_index_or depths n 0) test in record {
@@ -70,6 +72,7 @@ module _ (depths : List ℕ) where
     );
   }
 
+  -- where monitor n is not entered, those below n are all those below n + 1
   pub not_owned : (n : ℕ) (monitors : List ℕ) → nat_lt 0 (slice_index_or depths n 0) ≡ false → AreOwnedBelow depths n monitors
       → AreOwnedBelow depths (n + 1) monitors
   not_owned n monitors test o = let least = ltb-false 0 (slice_index_or depths n 0) test

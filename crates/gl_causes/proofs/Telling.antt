@@ -138,6 +138,7 @@ pub record Laid (setting : Setting) (R : Lists) (h : List Stamp) (now : State) (
 
 module _ (setting : Setting) (R : Lists) (h : List Stamp) (now : State) (rows : List (List ℕ)) (stands : List Stand)
     (L : Laid setting R h now rows stands) where
+  -- along each list the positions of events rise
   pub rise : PositionsRise R
   rise c d p q s r a b o = (L.form.formed c.thread).positions_rise c.index d.index p q a.entry b.entry a.there
       (subst (λ t. slice_get (R t) d.index ≡ Some b.entry) (sym o.0) b.there) o.1 a.position b.position
@@ -173,6 +174,7 @@ module _ (setting : Setting) (R : Lists) (h : List Stamp) (now : State) (rows : 
     abbrev pub plain_access_of : Access
     plain_access_of = record { thread = c.thread; block = b; variables = None }
 
+    -- a plain access of its thread, made in this block, stands for the entry
     pub plain_stands : StandsFor R c (record { thread = c.thread; block = b; variables = None })
     plain_stands = record {
       thread = refl;
@@ -224,12 +226,14 @@ module _ (setting : Setting) (R : Lists) (h : List Stamp) (now : State) (rows : 
     ev : (q : ℕ) × (t : Stamp) × IsEventAt R m q t × ((xs : List ℕ) × (t.event ≡ Commits xs)) × BlockAt (R m.thread) m.index q
     ev = commit_event R m s.entry is.there commit
 
+    -- the event of a commit is no End
     pub commit_goes : r.event ≢ Does End
     commit_goes end =
         let x : EventAt h p ev.1 = L.is_list.listed m p ev.1 (subst (λ q. IsEventAt R m q ev.1) (one_position ev.2 made) ev.2) in
         let same : ev.1 ≡ r = (let y = at_p in cc) in
         let z : Does End ≡ Commits ev.3.0 = sym end ∙ ap (λ (w : Stamp). w.event) (sym same) ∙ ev.3.1 in cc
 
+    -- the block of a commit is its own position
     pub commit_at : s.block ≡ p
     commit_at =
         is.block ∙ ap (λ o. unwrap_or o 0)
@@ -272,6 +276,7 @@ module _ (setting : Setting) (R : Lists) (h : List Stamp) (now : State) (rows : 
 
   -- the commits that have a lower number on some variable of a refused attempt are those that are before it there
   module _ (d : Place) (f : Entry) (here : EntryAt R d f) (refused : IsRefusedCommit f) where
+    -- an entry that commits with a lower number on a variable of both is a commit that is before the attempt there
     pub edge_out : (s : Stand) → IsStand R s → commits_before (refused_numbers f) s.entry ≡ true
         → IsCommit s.entry × RefusedCommitEdge R s.place d
     edge_out s is lower =
@@ -299,6 +304,7 @@ module _ (setting : Setting) (R : Lists) (h : List Stamp) (now : State) (rows : 
           },
         )
 
+    -- and a commit that is before it on a variable of both stands among the entries, with such a lower number
     pub edge_in : (m : Place) → RefusedCommitEdge R m d → (i : ℕ) × ((s : Stand) × (slice_get stands i ≡ Some s) × (s.place ≡ m)
         × IsStand R s × IsCommit s.entry × (commits_before (refused_numbers f) s.entry ≡ true))
     edge_in m k =

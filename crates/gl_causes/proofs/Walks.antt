@@ -232,6 +232,7 @@ module _ (R : Lists) (rows : List (List ℕ)) (stands : List Stand) (i : ℕ) (s
         let there : slice_get stands i ≡ Some r = subst (λ j. slice_get stands j ≡ Some r) at_i e in cc)
   ]
 
+  -- an entry that was not refused adds no cause
   pub found_none : refusal_of s.entry ≡ None → AreFound R rows stands (i + 1) causes
   found_none none = record {
     each = λ j e at'. of_more e (so_far.each j e at');
@@ -242,6 +243,7 @@ module _ (R : Lists) (rows : List (List ℕ)) (stands : List Stand) (i : ℕ) (s
     rising = so_far.rising;
   }
 
+  -- what is found of a refused one is added behind the causes of those before it
   pub found_some : (r : Refusal) (a : Asked) (e : Cause) → refusal_of s.entry ≡ Some r → seen e.at ≡ s.place → IsAsked rows stands s r a
       → IsFound R a stands e.at e → AreFound R rows stands (i + 1) (causes ++ e ∷ [])
   found_some r a e some place asked found = record {

@@ -71,10 +71,12 @@ module _ (trace : List Step) (all : All IsStep trace) (clean : AreClean trace) (
   sound judged = front_sound (given.lines ++ line judged ∷ []) trace (drop (k + 1) trace)
       (ap (λ ss. ss ++ drop (k + 1) trace) (said_more judged) ∙ take-append-drop (k + 1) trace) all clean
 
+  -- the detector and the plain judge say the same of the line
   pub same_said : a ≡ b
   same_said = settled_law given.lines r.0 r.1 a b (sound a) (fast given.lines (sound a) given.right given.fast).0
       (plain given.lines (sound b) given.right given.plain).0
 
+  -- with the line counted, both were given one step more
   pub given_more : now' ≡ one_line now a → AreGiven (take (k + 1) trace) d' j' t now'
   given_more more' = record {
     lines = given.lines ++ line a ∷ [];

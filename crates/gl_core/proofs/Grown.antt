@@ -71,6 +71,7 @@ module _ (x : ℕ) (ds : List Draw) (l : Marks) (s : LatestStands x ds l) (d : D
           rw (b, r, p) (s.reads u))
     ]
 
+    -- where d writes x, or reads it and does not write it, what is kept with its epoch noted stands for the draws with d
     pub noted_stands : (w : Bool) → is_write x d.what ≡ w → is_read x d.what ≡ not w → LatestStands x (d ∷ ds) (noted w e l)
     noted_stands true iw ir = record {
       writer = rw iw is.thread;

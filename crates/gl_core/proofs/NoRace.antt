@@ -36,6 +36,7 @@ module _ (known : ℕ → ℕ) (latests : List Marks) (reads writes : List ℕ) 
       by true e = ap (λ b. fails b x) e ∙ written e
       by false e = ap (λ b. fails b x) e ∙ read
 
+  -- where no read fails as a read, and no write as a write, none of the commit's variables is found to fail
   pub no_race : list_any (λ x. latest_fails known true false (latest_of latests x)) reads ≡ false
       → list_any (λ x. latest_fails known true true (latest_of latests x)) writes ≡ false
       → find (part_fails known writes latests) (with_all writes reads) ≡ None

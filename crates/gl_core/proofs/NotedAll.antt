@@ -42,6 +42,7 @@ module _ (items : List ℕ) (i : ℕ) (e : Epoch) (now new : List Marks) (n : i 
   there : (y : ℕ) → (y ≡ get_or items i 0 → ⊥) → latest_of new y ≡ latest_of now y
   there y other = is y ∙ ap (λ b. if b then noted w e (latest_of now y) else latest_of now y) (ne_eqb y (get_or items i 0) other)
 
+  -- once item i is noted, noting the items behind it gives what noting it and those gave before
   pub noted_on : (y : ℕ) → Part (drop (i + 1) items) w e new y ≡ Part (drop i items) w e now y
   noted_on y = elim (ℕ_discrete y (get_or items i 0)) [
     | yes same ↦
@@ -72,6 +73,7 @@ noted_both reads writes y e old one two a b = rw (is_in-both reads writes y) (by
 -- so are its clocks raised
 module _ (items : List ℕ) (i : ℕ) (n : i < length items) (by : ℕ → ℕ) (old new : ℕ → ℕ → ℕ) (joined : (j u : ℕ) → new j u
     ≡ (if j == get_or items i 0 then max (old j u) (by u) else old j u)) where
+  -- once the clock of item i is raised, raising those behind it gives what raising it and those gave before
   pub raised_on : (x u : ℕ) → (if is_in x (drop (i + 1) items) then max (new x u) (by u) else new x u)
       ≡ (if is_in x (drop i items) then max (old x u) (by u) else old x u)
   raised_on x u = elim (ℕ_discrete x (get_or items i 0)) [

@@ -133,6 +133,7 @@ module _ (s : Traced) (now : State) (r : IsRecorded s now) (t : ℕ) (near : t <
     epoch : IsEpochOf (plain_epoch t (clocks_in T (Thread t) t)) (D false)
     epoch = record { thread = refl; mark = (let o = own_is in omega arith); commit = refl }
 
+    -- where the access is raised or noted by what is kept, what is kept then stands for the draws behind the line
     pub plain_stands : (judged : Judged) → PlainDone (clocks_in T (Thread t)) (latest_of kept x) t x write judged (latest_of kept' x)
         → (y : ℕ) → LatestStands y ((after_item t (Access x write) judged s).draws y) (latest_of kept' y)
     plain_stands NoAccess d = absurd d
@@ -150,6 +151,7 @@ module _ (s : Traced) (now : State) (r : IsRecorded s now) (t : ℕ) (near : t <
         (tell_law trace_setting s.history now r.allowed t running x (s.draws x) (all x) (latest_of kept x) (stands x) None write
         (plain_entry x write raised s) tt (λ e. (refl, e), λ w. w.1))
 
+    -- and the line is judged by whether it is racy as the next access
     pub plain_judged : (judged : Judged) → PlainDone (clocks_in T (Thread t)) (latest_of kept x) t x write judged (latest_of kept' x)
         → IsJudgedBy (λ y. IsRacyNext s.history y (s.draws y) t None (entered (Access x write) judged s)) (Access x write) judged
     plain_judged NoAccess d = d
@@ -208,6 +210,7 @@ module _ (s : Traced) (now : State) (r : IsRecorded s now) (t : ℕ) (near : t <
     Done judged = CommitDone (taken (clocks_in T) (record { thread = t; event = Commits (with_all writes reads) })) kept t T.next
         (with_all writes reads) writes judged kept'
 
+    -- where the commit is raised or noted by what is kept, what is kept then stands for the draws behind the line
     pub commit_stands : (judged : Judged) → CommitDone
         (taken (clocks_in T) (record { thread = t; event = Commits (with_all writes reads) })) kept t T.next (with_all writes reads) writes
         judged kept' → (y : ℕ) → LatestStands y ((after_item t (CommitsOn reads writes) judged s).draws y) (latest_of kept' y)
@@ -242,6 +245,7 @@ module _ (s : Traced) (now : State) (r : IsRecorded s now) (t : ℕ) (near : t <
         (tell_law trace_setting s.history now r.allowed t running y (s.draws y) (all y) (latest_of kept y) (stands y)
         (Some (with_all writes reads)) (is_in y writes) (entered (CommitsOn reads writes) judged s) c (part_writes judged y c))
 
+    -- and the line is judged by the variables on which it is racy as the next access
     pub commit_judged : (judged : Judged) → Rises (with_all writes reads)
         → CommitDone (taken (clocks_in T) (record { thread = t; event = Commits (with_all writes reads) })) kept t T.next
         (with_all writes reads) writes judged kept'
@@ -259,6 +263,7 @@ module _ (s : Traced) (now : State) (r : IsRecorded s now) (t : ℕ) (near : t <
               ((tells_part (Raised var) y k).1 racy),
         )
 
+    -- where the clocks went on by it, they are those of the events behind the line
     pub commit_clocks : (T' : Tables) (judged : Judged) → ClocksDone T t (with_all writes reads) judged T'
         → AreClocksOf (after_item t (CommitsOn reads writes) judged s).history T'
     commit_clocks T' NoAccess d = absurd d

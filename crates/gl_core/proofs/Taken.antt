@@ -37,6 +37,7 @@ module _ (h : List Stamp) (s : Stamp) (C C1 C2 : Clocks) (n : ℕ) (same : (y : 
       ∙ ap (λ z. if is_thread s.thread y then kept C n s u else z) (r y u
       ∙ ap (λ z. if is_released s.event y then max (C y u) z else C y u) (by_is u))
 
+  -- what the tables have come to are the clocks of the list with this event
   pub moved_on : (y : Element) (u : ℕ) → C2 y u ≡ clocks (h ++ s ∷ []) y u
   moved_on y u =
       let eq : C ≡ clocks h = (λ i z v. same z v i) in

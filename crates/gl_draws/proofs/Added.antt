@@ -119,6 +119,7 @@ module _ (h h' : List Stamp) (R : Lists) (ds ds' : ℕ → List Draw) (d : Place
             (λ eq. racy.apart (ap (λ (z : Place). z.thread) eq))).1 hb);
       }
 
+  -- so the entry is racy on y in the record exactly where it is so as the next access before it
   pub racy_alike : IsRacy R d y ↔ IsRacyNext h y (ds y) d.thread v e
   racy_alike = (from_record, to_record)
 

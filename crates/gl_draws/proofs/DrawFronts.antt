@@ -44,6 +44,7 @@ module _ (h more : List Stamp) where
   what_back x ds t p near (Looked value) i = i
   what_back x ds t p near Open i = tt
 
+  -- what is said of draws over the longer list is said of them over the front, where each of their blocks stands in it
   pub draws_front : (x : ℕ) (ds : List Draw) → ((a : Draw) → Among ds a → a.block < length h) → DrawsHold (h ++ more) x ds
       → DrawsHold h x ds
   draws_front x [] near all = tt

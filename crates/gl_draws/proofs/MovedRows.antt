@@ -21,6 +21,7 @@ module _ (setting : Setting) (h : List Stamp) where
   of_moved write (Some i) (Some j) None m f = f
   of_moved write (Some i) (Some j) (Some d) m f = info_moved setting h i j (access_of d) write m f
 
+  -- where the old row stands for the draws of x, so does the row whose Infos were walked on
   pub row_moved : (x : ℕ) (ds : List Draw) (old new : Row) → IsRowMoved h old new → RowStands setting h x ds old
       → RowStands setting h x ds new
   row_moved x ds old new m s = record {
@@ -40,6 +41,7 @@ module _ (h : List Stamp) where
   option_trans (Some i) (Some j) None m n = absurd n
   option_trans (Some i) (Some j) (Some k) m n = moved_trans h i j k m n
 
+  -- what was walked on from one row to another, and from that to a third, was walked on from the first to the third
   pub row_trans : (a b c : Row) → IsRowMoved h a b → IsRowMoved h b c → IsRowMoved h a c
   row_trans a b c m n = record {
     value = n.value ∙ m.value;
@@ -48,6 +50,7 @@ module _ (h : List Stamp) where
     reads = λ t. option_trans (read_of a.reads t) (read_of b.reads t) (read_of c.reads t) (m.reads t) (n.reads t);
   }
 
+  -- an Info that is left as it is counts as one that was walked on, where its position is not behind the list
   pub option_unmoved : (o : Option Info) → ((i : Info) → o ≡ Some i → i.pos ≤ length h) → AreMoved h o o
   option_unmoved None n = tt
   option_unmoved (Some i) n = unmoved h i (n i refl)
@@ -59,6 +62,7 @@ module _ (h : List Stamp) where
   option_within (Some k) None m i e = absurd m
   option_within (Some k) (Some j) m i e = let same : j ≡ i = cc in subst (λ (z : Info). z.pos ≤ length h) same m.within
 
+  -- no position of a row whose Infos were walked on is behind the list
   pub moved_within : (a b : Row) → IsRowMoved h a b → IsWithin b (length h)
   moved_within a b m = record {
     last_write = option_within a.last_write b.last_write m.last_write;
@@ -83,6 +87,7 @@ module _ (h : List Stamp) where
   option_on (Some i) (Some j) u v m w = let same : w.0 ≡ i = (let e = w.1 in cc)
       in (j, refl, (fails_moved h i j u v m).1 (subst (λ k. Fails h k u v) same w.2))
 
+  -- on a row whose Infos were walked on some Info fails a question exactly where one did before
   pub some_fails_moved : (a b : Row) (q : Question) → IsRowMoved h a b → SomeFails h b q ↔ SomeFails h a q
   some_fails_moved a b q m = (back, on)
     where

@@ -47,6 +47,7 @@ module _ (x : ℕ) (vs : List ℤ) where
   some_is : (a b : Draw) → Some a ≡ Some b → a ≡ b
   some_is a b z = cc
 
+  -- the last write has a number
   pub last_number : (ds : List Draw) (d : Draw) → last_write x ds ≡ Some d → (n : ℕ) × DrawAt ds n d
   last_number [] d e = absurd (cc)
   last_number (c ∷ ds) d e = here (is_write x c.what) refl (λ q. last_number ds d q)
@@ -55,6 +56,7 @@ module _ (x : ℕ) (vs : List ℤ) where
       here true w rec = (length ds, inl (refl, some_is d c (sym e ∙ write_now c ds w)))
       here false w rec = let r = rec (sym (write_before c ds w) ∙ e) in (r.0, inr r.1)
 
+  -- a draw that has the number k afterwards is the one that had it before, with the repeats if it is the last write
   pub draw_back : (ds : List Draw) (k : ℕ) (a : Draw) → DrawAt (repeated x vs ds) k a → (b : Draw) × IsAfter ds k a b
   draw_back [] k a at = absurd at
   draw_back (d ∷ ds) k a at = here (is_write x d.what) refl (λ q. draw_back ds k a q)
@@ -124,6 +126,7 @@ module _ (x : ℕ) (vs : List ℤ) where
         ))
       ]
 
+  -- and one that had it before has it afterwards, but for its repeats
   pub draw_on : (ds : List Draw) (k : ℕ) (b : Draw) → DrawAt ds k b → (a : Draw) × DrawAt (repeated x vs ds) k a × IsSame x vs a b
   draw_on [] k b at = absurd at
   draw_on (d ∷ ds) k b at = here (is_write x d.what) refl (λ q. draw_on ds k b q)
@@ -152,6 +155,7 @@ module _ (x : ℕ) (vs : List ℤ) where
         | inr old ↦ (let r = rec old in (r.0, subst (λ l. DrawAt l k r.0) (sym (past x vs d ds w)) (inr r.1), r.2))
       ]
 
+  -- each thread has as many draws as before
   pub repeated_count : (t : ℕ) (ds : List Draw) → count_by t (repeated x vs ds) ≡ count_by t ds
   repeated_count t [] = refl
   repeated_count t (d ∷ ds) = here (is_write x d.what) refl (repeated_count t ds)
@@ -219,6 +223,7 @@ module _ (x : ℕ) (vs : List ℤ) where
   refused_right h until ds t p (Looked v) none r = tt
   refused_right h until ds t p Open none r = tt
 
+  -- where no access was performed behind the last write, what was said of refused attempts holds over the draws afterwards
   pub refusals_repeated : (h : List Stamp) (until : ℕ → ℕ) (ds : List Draw) → IsCalm x ds → RefusalsHold h until x ds
       → RefusalsHold h until x (repeated x vs ds)
   refusals_repeated h until [] calm all = absurd calm
@@ -240,12 +245,15 @@ module _ (x : ℕ) (vs : List ℤ) where
     abbrev pub again : ℕ → List Draw
     again = with_at draws x (repeated x vs (draws x))
 
+    -- the draws of x get the repeats
     pub again_here : again x ≡ repeated x vs (draws x)
     again_here = with_here draws x (repeated x vs (draws x))
 
+    -- those of any other variable stay
     pub again_else : (y : ℕ) → y ≢ x → again y ≡ draws y
     again_else y ne = with_else draws x y (repeated x vs (draws x)) ne
 
+    -- a draw of any variable that has a number afterwards had it before, but for its repeats
     pub again_back : (y k : ℕ) (a : Draw) → DrawAt (again y) k a → (b : Draw) × DrawAt (draws y) k b × IsSame x vs a b
     again_back y k a at = elim (ℕ_discrete y x) [
       | yes e ↦ (let r = draw_back (draws x) k a (subst (λ l. DrawAt l k a) (ap again e ∙ again_here) at)
@@ -253,6 +261,7 @@ module _ (x : ℕ) (vs : List ℤ) where
       | no ne ↦ (a, subst (λ l. DrawAt l k a) (again_else y ne) at, same_all a a refl)
     ]
 
+    -- and one that had it before has it afterwards, but for its repeats
     pub again_on : (y k : ℕ) (b : Draw) → DrawAt (draws y) k b → (a : Draw) × DrawAt (again y) k a × IsSame x vs a b
     again_on y k b at = elim (ℕ_discrete y x) [
       | yes e ↦ (let r = draw_on (draws x) k b (subst (λ z. DrawAt (draws z) k b) e at)
@@ -260,6 +269,7 @@ module _ (x : ℕ) (vs : List ℤ) where
       | no ne ↦ (b, subst (λ l. DrawAt l k b) (sym (again_else y ne)) at, same_all b b refl)
     ]
 
+    -- each thread has as many draws of each variable as before
     pub again_count : (t y : ℕ) → count_by t (again y) ≡ count_by t (draws y)
     again_count t y = elim (ℕ_discrete y x) [
       | yes e ↦ ap (λ z. count_by t (again z)) e ∙ ap (count_by t) again_here ∙ repeated_count t (draws x)
@@ -267,6 +277,7 @@ module _ (x : ℕ) (vs : List ℤ) where
       | no ne ↦ ap (count_by t) (again_else y ne)
     ]
 
+    -- each variable has as many draws as before
     pub again_long : (y : ℕ) → length (again y) ≡ length (draws y)
     again_long y = elim (ℕ_discrete y x) [
       | yes e ↦ ap (λ z. length (again z)) e ∙ ap length again_here ∙ repeated_long x vs (draws x) ∙ ap (λ z. length (draws z)) (sym e)
@@ -280,6 +291,7 @@ module _ (x : ℕ) (vs : List ℤ) where
       | no ne ↦ subst (P y) (sym (again_else y ne)) (old y)
     ]
 
+    -- each draw of any variable afterwards was there before, but for its repeats
     pub again_among : (y : ℕ) (a : Draw) → Among (again y) a → (b : Draw) × Among (draws y) b × IsSame x vs a b
     again_among y a among = elim (ℕ_discrete y x) [
       | yes e ↦ (let r = among_back x vs (draws x) a (subst (λ l. Among l a) (ap again e ∙ again_here) among)
@@ -287,6 +299,7 @@ module _ (x : ℕ) (vs : List ℤ) where
       | no ne ↦ (a, subst (λ l. Among l a) (again_else y ne) among, same_all a a refl)
     ]
 
+    -- the draws of each thread stay tied to its list
     pub again_drawn : (t : ℕ) (es : List Entry) (drawn : List Drawn) → AreDrawn draws t es drawn → AreDrawn again t es drawn
     again_drawn t es drawn f = record {
       kept = λ y k a at own. let r = again_back y k a at in kept_same es drawn y k a r.0 r.2 (f.kept y k r.0 r.1 (sym r.2.thread ∙ own));

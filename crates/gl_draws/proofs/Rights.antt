@@ -49,7 +49,7 @@ top_write x (d ∷ ds) w e = here (is_write x d.what) refl (λ q. top_write x ds
           ],
         )
 
--- the last event of a list, behind whose front there is none
+-- where no event stands in a list from place n on, its last event is that of its first n entries
 no_later : (es : List Entry) (n : ℕ) → ((j : ℕ) (e : Entry) → At es j e → n ≤ j → position_of e ≡ None) → last_position es
     ≡ last_position (take n es)
 no_later [] zero none = refl
@@ -65,9 +65,11 @@ some_same a c e = cc
 module _ (log : List Stamp) (draws : ℕ → List Draw) (t : ℕ) (es : List Entry) (drawn : List Drawn) (x k : ℕ) (events : AreEvents log t es)
     (d : AreDrawn draws t es drawn) (all : DrawsHold log x (draws x)) (r : HasRight es (length es) x k true) (var nth : ℕ) (value : ℤ)
     (is : r.entry ≡ Plain x k false true value false) where
+  -- the number k on x was drawn by the thread, in a draw that is kept and is for the write that the right is of
   pub its : (g : Draw) × DrawAt (draws x) k g × (g.thread ≡ t) × IsKept es drawn x k g × IsFor g.what r.entry x k
   its = d.made x k r.index r.entry r.there (subst (λ z. Draws z x k) (sym is) (inr (refl, refl, refl)))
 
+  -- it was drawn for that write itself
   pub what_is : its.0.what ≡ Entered (Plain x k false true value false)
   what_is = own_for its.0.what (Plain x k false true value false) x k (refl, refl) (subst (λ z. IsFor its.0.what z x k) is its.4)
 
@@ -174,6 +176,7 @@ module _ (log : List Stamp) (draws : ℕ → List Draw) (t : ℕ) (es : List Ent
               number (inl l) = l
               number (inr l) = let y = l.2 in omega arith
 
+  -- this draw is the last write of x
   pub last_is : last_write x (draws x) ≡ Some its.0
   last_is =
       let c = write_cases log x (draws x) all its.0 (draw_among (draws x) k its.0 its.1) writes in
@@ -194,6 +197,7 @@ module _ (log : List Stamp) (draws : ℕ → List Draw) (t : ℕ) (es : List Ent
             ])
       ]
 
+  -- so the last write of x is one of the thread, which has made no event since
   pub right_owes : IsOwnLast draws t es x
   right_owes = record { draw = its.0; last = last_is; own = its.2; block = block_is; number = k; value = value; plain = what_is }
 
@@ -261,5 +265,6 @@ module _ (log : List Stamp) (draws : ℕ → List Draw) (t : ℕ) (es : List Ent
             rec behind,
           )
 
+  -- behind it no access of x was performed
   pub right_calm : IsCalm x (draws x)
   right_calm = calm_from (draws x) (λ n a c. c) all its.1

@@ -156,6 +156,7 @@ pub done_starts : (z : TableView) (p q : PassView) (d : Done) → IsDone z p q (
 done_starts z p q d is = starts_with z.key.setting (view_of p) is.state p.own.id d.func d.value is.looked.told is.may.1
 
 module _ {A E : Type 0} where
+  -- what follows from what holds of a good result holds of it
   pub ok_map : (P Q : A → Type 0) → ((x : A) → P x → Q x) → (r : Result A E) → IfOk r P → IfOk r Q
   ok_map P Q f (Ok x) h = f x h
   ok_map P Q f (Err e) h = h

@@ -96,6 +96,7 @@ exit_code z p q o d near (inr e) is =
     e ∙ sym (failed_code z.key.setting p is.state o near is.looked.told may)
 
 module _ {A E : Type 0} where
+  -- what follows from two things that hold of a good result holds of it
   pub ok_both : (P Q R : A → Type 0) → ((x : A) → P x → Q x → R x) → (r : Result A E) → IfOk r P → IfOk r Q → IfOk r R
   ok_both P Q R f (Ok x) h k = f x h k
   ok_both P Q R f (Err e) h k = h

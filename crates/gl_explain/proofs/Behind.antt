@@ -34,6 +34,7 @@ module _ (kept : List Kept) (test : Told → Bool) (j : ℕ) where
   abbrev pub NoneUpTo : ℕ → Type 0
   NoneUpTo n = (h : ℕ) (k : Kept) → j < h → h < n → slice_get kept h ≡ Some k → test k.told ≡ false
 
+  -- where the line at n does not pass the test either, none behind j and before n + 1 does
   pub none_on : (n : ℕ) (k : Kept) → slice_get kept n ≡ Some k → test k.told ≡ false → NoneUpTo n → NoneUpTo (n + 1)
   none_on n k there fails none h q behind near at = elim (cases_lt h n) [
     | inl before ↦ none h q behind before at
@@ -44,6 +45,7 @@ module _ (kept : List Kept) (test : Told → Bool) (j : ℕ) where
         ap (λ (z : Kept). test z.told) (sym same) ∙ fails)
   ]
 
+  -- where it passes, and stands behind j, it is the first one behind j that does
   pub first_found : (n : ℕ) (k : Kept) → j < n → slice_get kept n ≡ Some k → test k.told ≡ true → NoneUpTo n
       → IsFirstBehind test (told_of kept) j (Some k.told)
   first_found n k behind there passes none = (
@@ -55,6 +57,7 @@ module _ (kept : List Kept) (test : Told → Bool) (j : ℕ) where
         ∙ none h m.0 after before m.1),
   )
 
+  -- where none up to the end of the lines passes the test, there is none behind j that does
   pub none_found : (n : ℕ) → length kept ≤ n → NoneUpTo n → IsFirstBehind test (told_of kept) j None
   none_found n all none = λ h q after at.
       let m = map_at told kept h q at in
@@ -62,6 +65,7 @@ module _ (kept : List Kept) (test : Told → Bool) (j : ℕ) where
       ap test (sym m.2) ∙ none h m.0 after (omega arith) m.1
 
 module _ (kept : List Kept) (t known i : ℕ) where
+  -- where what tells whether the clock has passed the line at i says no, that line was not passed
   pub passed_no : (k : Kept) → slice_get kept i ≡ Some k → (b : Bool) → IsTrue b ↔ ((k.told.thread ≡ t) × (k.own ≤ known)) → b ≡ false
       → IsPassed kept t known i → ⊥
   passed_no k there b test fails (q, here, is) =
@@ -69,6 +73,7 @@ module _ (kept : List Kept) (t known i : ℕ) where
       let yes = test.1 (subst (λ (z : Kept). (z.told.thread ≡ t) × (z.own ≤ known)) same is) in
       cc
 
+  -- a line that was passed is one of those that are kept
   pub passed_near : IsPassed kept t known i → i < length kept
   passed_near (q, here, is) = slice_get_within kept i q here
 

@@ -65,6 +65,7 @@ pub known_at : {A : Type 0} (kept : List A) (i : ℕ) (k : A) → i < length kep
 known_at kept i k near is = slice_get-get_or kept i k near ∙ ap Some (sym is)
 
 module _ (kept : List Kept) (next : Told) (x : ℕ) (known : List ℕ) (i : ℕ) where
+  -- where what tells whether the line at i is a culprit says no, it is none by what is kept
   pub unknown_no : (k : Kept) → slice_get kept i ≡ Some k → (b : Bool)
       → IsTrue b ↔ (Conflicts k.told next x × (at known k.told.thread < k.mark)) → b ≡ false → IsUnknown kept next x known i → ⊥
   unknown_no k there b test no' (q, here, is) =
@@ -72,6 +73,7 @@ module _ (kept : List Kept) (next : Told) (x : ℕ) (known : List ℕ) (i : ℕ)
       let yes = test.1 (subst (λ (z : Kept). Conflicts z.told next x × (at known z.told.thread < z.mark)) same is) in
       cc
 
+  -- a culprit by what is kept is one of the lines that are kept
   pub unknown_near : IsUnknown kept next x known i → i < length kept
   unknown_near (q, here, is) = slice_get_within kept i q here
 

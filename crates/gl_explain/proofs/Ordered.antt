@@ -51,6 +51,7 @@ module _ (kept : List Kept) (next : Told) (sound : AreSound (lines_of (told_of k
   ordered a there = subst (λ n. (tick a < n) ↔ HappensBeforeNext (history lines) a next.thread (commit_of next.item)) (sym (is a.thread))
       (by_law a there (commit_of next.item))
 
+  -- by the clock the marks tell which lines are culprits of the next one
   pub culprits : (x i : ℕ) → IsUnknown kept next x known i ↔ IsCulprit before next x i
   culprits x i = (
     λ w. (let k = w.0 in
@@ -84,6 +85,7 @@ module _ (kept : List Kept) (next : Told) (sound : AreSound (lines_of (told_of k
         (k, m.1, (conflicts, unknown))),
   )
 
+  -- and which lines of a thread were learnt of
   pub learnts : (t i : ℕ) → IsPassed kept t (at known t) i ↔ IsLearnt before next t i
   learnts t i = (
     λ w. (let k = w.0 in
@@ -116,5 +118,6 @@ module _ (kept : List Kept) (next : Told) (sound : AreSound (lines_of (told_of k
         (k, m.1, (mine, subst P mine (omega arith)))),
   )
 
+  -- so by the clock they tell both
   pub tells : Tells kept next known
   tells = record { culprits = culprits; learnts = learnts }

@@ -54,9 +54,11 @@ rises_push (y ∷ xs) x below rises = (
 )
 
 module _ (holders : List Hold) (t : ℕ) where
+  -- below 0 thread t owns no monitor
   pub none_owned : AreOwnedBelow holders t 0 []
   none_owned = record { rises = tt; each = λ m. (λ c. absurd (in_none m c), λ w. let n = w.0 in absurd (omega arith)) }
 
+  -- a monitor n that it owns comes behind those below n
   pub one_owned : (n : ℕ) (monitors : List ℕ) → is_held_by t (slice_index_or holders n None) ≡ true → AreOwnedBelow holders t n monitors
       → AreOwnedBelow holders t (n + 1) (monitors ++ n ∷ [])
   one_owned n monitors held o = record {
@@ -72,6 +74,7 @@ module _ (holders : List Hold) (t : ℕ) where
     );
   }
 
+  -- where it does not own monitor n, those below n are all those below n + 1
   pub not_owned : (n : ℕ) (monitors : List ℕ) → is_held_by t (slice_index_or holders n None) ≡ false → AreOwnedBelow holders t n monitors
       → AreOwnedBelow holders t (n + 1) monitors
   not_owned n monitors held o = record {

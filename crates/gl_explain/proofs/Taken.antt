@@ -150,6 +150,7 @@ module _ (lines : List Line) (l : Line) where
   whole : take (length lines) (lines ++ l ∷ []) ≡ lines
   whole = take-append-le (length lines) lines (l ∷ []) (omega arith) ∙ take_all (length lines) lines (omega arith)
 
+  -- a draw that is the access of the last line, which was performed, on one of the line's variables, was made by one of these lines
   pub of_last : (x : ℕ) (d : Draw) (e : Entry) → l.judged ≡ Performed → Accesses l.item x → access_of d ≡ access_at lines l
       → (Writes e x → WritesTo l.item x) → (IsPlain e → commit_of l.item ≡ None) → IsOfLine (lines ++ l ∷ []) x d e
   of_last x d e performed touches access writes plain = record {
@@ -238,6 +239,7 @@ module _ (lines : List Line) (t : ℕ) (now : _) (r : IsRecorded (traced lines) 
               performed)
         ]
 
+  -- behind a line with what may be said of it each draw of a performed access was made by one of the lines, that one among them
   pub drawn_on : (item : Item) (judged : Judged) → IsSaidOf item judged → Goal item judged
   drawn_on (Acts act) judged said = act_made act judged
   drawn_on (AccessTo x write) NoAccess said = absurd said
@@ -249,6 +251,7 @@ module _ (lines : List Line) (t : ℕ) (now : _) (r : IsRecorded (traced lines) 
 
 -- where the line's accesses are, and what its thread knows of itself
 module _ (lines : List Line) (l : Line) (sound : AreSound (lines ++ l ∷ [])) where
+  -- the lines before belong together in a state of the machine in which the last line's thread runs
   pub thread_runs : (now : State) × (IsRecorded (traced lines) now × (now.threads l.thread ≡ Running))
   thread_runs = let k = sound_traced lines (sound_front lines l sound)
       in (k.0, (k.1.recorded, runs (steps_of lines) k.0 k.1.state l.thread (last_runs lines l sound)))
@@ -272,6 +275,7 @@ module _ (lines : List Line) (l : Line) (sound : AreSound (lines ++ l ∷ [])) w
       in subst (λ h. IsAccessOf h (plain_behind lines l.thread)) (sym more.1)
       (access_grown (history lines) more.0 (plain_behind lines l.thread) plain_placed)
 
+  -- what the thread knows of itself is two more than the position of its last event
   pub own_known : clocks (history lines) (Thread l.thread) l.thread ≡ block_of l.thread (traced lines) + 2
   own_known =
       let n = thread_runs in
@@ -300,6 +304,7 @@ module _ (lines : List Line) (t : ℕ) (reads writes : List ℕ) where
     commit = λ xs e. ap Commits (let same : Some (with_all writes reads) ≡ Some xs = e in let is : with_all writes reads ≡ xs = cc in is);
   })
 
+  -- behind the commit, what its thread knows of itself is two more than the commit's position
   pub commit_known : clocks (history (lines ++ made ∷ [])) (Thread t) t ≡ length (history lines) + 2
   commit_known = subst (λ h. clocks h (Thread t) t ≡ length (history lines) + 2) (sym commit_history)
       (own_law (history lines ++ stamp ∷ []) t (length (history lines)) stamp (get_last (history lines) stamp) refl
@@ -365,6 +370,7 @@ module _ (lines : List Line) (kept : List Kept) (k : Kept) (sound : AreSound (li
         (subst (λ ls. P (length lines) ls q) all (subst (λ z. P (length lines) lines z) same new)))
   ]
 
+  -- with what is kept of the new line put last, all of these lines are kept
   pub kept_push : AreKept more (kept ++ k ∷ [])
   kept_push =
       let n = thread_runs lines (line_of k.told) sound in

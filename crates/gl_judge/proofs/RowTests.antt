@@ -30,10 +30,12 @@ module _ (setting : Setting) (h : List Stamp) (x : ℕ) (ds : List Draw) (row : 
   racy = next_fails_racy setting h s.now s.allowed question.thread s.running x ds s.holds row s.stands question refl f asks.kind
       asks.writes.0
 
+  -- where no Info of the row fails, the access is not racy
   pub not_racy : (SomeFails h row question → ⊥) → IsRacyNext h x ds question.thread question.commit f → ⊥
   not_racy = next_passes_not_racy setting h s.now s.allowed question.thread s.running x ds s.holds row s.stands question refl f asks.kind
       asks.writes.1
 
+  -- what tells whether some Info of the row fails tells whether the access is racy
   pub judged : (b : Bool) → (b ≡ true) ↔ SomeFails h row question → (b ≡ true) ↔ IsRacyNext h x ds question.thread question.commit f
   judged true j = (λ e. racy (j.0 e), λ r. refl)
   judged false j = (λ e. racy (j.0 e), λ r. absurd (not_racy (λ fails. let e = j.1 fails in cc) r))

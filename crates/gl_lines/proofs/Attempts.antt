@@ -52,7 +52,7 @@ module _ (t q p : ℕ) (e : Entry) where
   own_at true false ds i = inl ((omega arith), refl)
   own_at false c ds i = absurd (cc)
 
-  -- how many there are then
+  -- with the attempt there is one draw more for its look, if it looks, and one for its end, if it looks or writes
   pub attempt_length : (a b : Bool) (ds : List Draw) → length (with_own (if a then true else b) t p e (with_look a t q ds))
       ≡ length ds + one_if a + (if a then 1 else if b then 1 else 0)
   attempt_length true b ds = omega arith
@@ -78,14 +78,18 @@ module _ (draws : ℕ → List Draw) (t q p : ℕ) (e : Entry) (reads writes : L
   abbrev own : Draw
   own = draw t p (Entered e)
 
+  -- a draw behind the attempt was one before, or it is that of a look, on a variable
+  -- that the attempt reads, or that of its end, on one that it reads or writes
   pub attempt_cases : (y k : ℕ) (f : Draw) → DrawAt (with_attempt t q p e reads writes draws y) k f →
       DrawAt (draws y) k f ⊎ (((is_in y reads ≡ true) × (k ≡ length (draws y)) × (f ≡ draw t q (Looked (pos 0))))
       ⊎ ((touches reads writes y ≡ true) × (k ≡ length (draws y) + look_count reads y) × (f ≡ draw t p (Entered e))))
   attempt_cases y k f a = one_of t q p e (touches reads writes y) (is_in y reads) (draws y) k f a
 
+  -- each draw that there was has its number still
   pub attempt_kept : (y k : ℕ) (f : Draw) → DrawAt (draws y) k f → DrawAt (with_attempt t q p e reads writes draws y) k f
   attempt_kept y k f a = stays t q p e (touches reads writes y) (is_in y reads) (draws y) k f a
 
+  -- on each variable that the attempt reads or writes, its end is drawn with the next number, or the one after where it looks there first
   pub attempt_own : (y : ℕ) → touches reads writes y ≡ true
       → DrawAt (with_attempt t q p e reads writes draws y) (length (draws y) + look_count reads y) (draw t p (Entered e))
   attempt_own y i = own_at t q p e (touches reads writes y) (is_in y reads) (draws y) i
@@ -95,7 +99,7 @@ module _ (draws : ℕ → List Draw) (t q p : ℕ) (e : Entry) (reads writes : L
       → DrawAt (with_attempt t q p e reads writes draws y) (length (draws y)) (draw t q (Looked (pos 0)))
   attempt_look y i = look_at t q p e (touches reads writes y) (is_in y reads) (draws y) i
 
-  -- another thread's draws
+  -- another thread's draws stay tied to its list
   pub attempt_other : (u : ℕ) (es : List Entry) → u ≢ t → AreDrawn draws u es []
       → AreDrawn (with_attempt t q p e reads writes draws) u es []
   attempt_other u es apart k = record {
@@ -181,5 +185,6 @@ module _ (draws : ℕ → List Draw) (t q p : ℕ) (e : Entry) (reads writes : L
       | inr added ↦ absurd (let i' = added.0 in let w = at_within (es ++ e ∷ []) j g at_j in omega (arith, length-append es (e ∷ [])))
     ]
 
+    -- with the attempt's entry in the list, the thread's draws are tied to the list, and no number is in flight
     pub attempt_drawn : AreDrawn (with_attempt t q p e reads writes draws) t (es ++ e ∷ []) []
     attempt_drawn = record { kept = kept; made = made; in_flight = λ o c. absurd (let l = c.1 in omega arith); rise = rise }

@@ -18,14 +18,17 @@ module _ (reads writes : List ℕ) (numbers : ℕ → ℕ) where
   tx : Tx
   tx = line_tx reads writes numbers
 
+  -- its variables are those that it reads and those that it writes, together
   pub its_variables : variables_of (line_tx reads writes numbers) ≡ with_all writes reads
   its_variables = ap (λ ws. with_all ws (map (λ l. l.var) (line_tx reads writes numbers).looks))
       (map_back (λ w. w.var) (λ x. record { var = x; value = pos 0 }) (λ x. refl) writes)
       ∙ ap (λ rs. with_all writes rs) (map_back (λ l. l.var) (λ x. record { var = x; value = pos 0; nth = numbers x }) (λ x. refl) reads)
 
+  -- it has a write of each variable that it writes, in their order
   pub its_writes : map (λ w. w.var) (line_tx reads writes numbers).writes ≡ writes
   its_writes = map_back (λ w. w.var) (λ x. record { var = x; value = pos 0 }) (λ x. refl) writes
 
+  -- it has a number of each of its variables, in their order
   pub its_numbers : map (λ n. n.var) (line_tx reads writes numbers).numbers ≡ with_all writes reads
   its_numbers = map_back (λ n. n.var) (λ x. record { var = x; nth = numbers x + look_count reads x }) (λ x. refl) (with_all writes reads)
 
@@ -41,6 +44,7 @@ module _ (reads writes : List ℕ) (numbers : ℕ → ℕ) where
             (ap (λ l. l.value) m.2),
       )
 
+  -- of each variable that it reads it has a look, with the value 0 and the next number there
   pub look_there : (y : ℕ) → is_in y reads ≡ true
       → Contains (line_tx reads writes numbers).looks (record { var = y; value = pos 0; nth = numbers y })
   look_there y is = map_contains (λ x. record { var = x; value = pos 0; nth = numbers x }) reads y (is_in-contains y reads is)
@@ -56,6 +60,7 @@ module _ (reads writes : List ℕ) (numbers : ℕ → ℕ) where
         sym (sym (ap (λ z. numbers z + look_count reads z) var) ∙ ap (λ l. l.nth) m.2),
       )
 
+  -- of each variable that it reads or writes it has a number, the one after its look's where it reads it
   pub number_there : (y : ℕ) → touches reads writes y ≡ true
       → Contains (line_tx reads writes numbers).numbers (record { var = y; nth = numbers y + look_count reads y })
   number_there y is = map_contains (λ x. record { var = x; nth = numbers x + look_count reads x }) (with_all writes reads) y

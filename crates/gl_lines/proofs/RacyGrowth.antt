@@ -111,6 +111,7 @@ module _ (R R' : Lists) (n : Place) (e : Entry) (grows : Grows R R' n e) (above 
             unordered = λ h. r.unordered (happens_before_kept R R' n e grows h);
           }
 
+  -- what is raised rightly in the record is so in the grown one
   pub raised_kept : (d : Place) (f : Entry) → EntryAt R d f → IsRaisedRightly R d f → IsRaisedRightly R' d f
   raised_kept d (Plain var nth cached write value raised) old i = let k = racy_kept d (Plain var nth cached write value raised) var old
       in (λ e. k.0 (i.0 e), λ r. i.1 (k.1 r))
@@ -128,6 +129,7 @@ pub record IsBelow (R : Lists) (next : ℕ) (numbers : ℕ → ℕ) : Type 0 whe
   pub drawn : (c : Place) (e : Entry) (x k : ℕ) → EntryAt R c e → NumberOn e x k → k < numbers x
 
 module _ (R : Lists) (next : ℕ) (numbers : ℕ → ℕ) (below : IsBelow R next numbers) (t : ℕ) (e : Entry) where
+  -- the new entry stands at the end of its thread's list
   pub new_place : EntryAt (with_entry R t e) (end_place R t) e
   new_place = subst (λ es. Rattle.std.specs.Prelude.slice_get es (length (R t)) ≡ Some e) (sym (entry_own R t e)) (at_new (R t) e)
 
@@ -147,6 +149,7 @@ module _ (R : Lists) (next : ℕ) (numbers : ℕ → ℕ) (below : IsBelow R nex
       → Rattle.gl_model.specs.Form.At es i g) R t e
       (λ i g at. at_kept (R t) (e ∷ []) i g at) (λ w other i g at. at) c.thread c.index f there
 
+  -- where its position, if it is an event, is not below the next one, the record grows by it
   pub grows_by : ((p : ℕ) → position_of e ≡ Some p → next ≤ p) → Grows R (with_entry R t e) (end_place R t) e
   grows_by behind = record {
     kept = entry_kept;
@@ -155,6 +158,8 @@ module _ (R : Lists) (next : ℕ) (numbers : ℕ → ℕ) (below : IsBelow R nex
     above = λ p q c s is ev. let l = below.positions c ev.entry q ev.there ev.position in let m = behind p is in omega arith;
   }
 
+  -- where the new bounds are no lower than the old ones, and the entry's position
+  -- and numbers are below them, all of the record with the entry is below them
   pub below_push : (next' : ℕ) (numbers' : ℕ → ℕ) → next ≤ next' → ((x : ℕ) → numbers x ≤ numbers' x)
       → ((p : ℕ) → position_of e ≡ Some p → p < next') → ((x k : ℕ) → NumberOn e x k → k < numbers' x)
       → IsBelow (with_entry R t e) next' numbers'
@@ -169,6 +174,7 @@ module _ (R : Lists) (next : ℕ) (numbers : ℕ → ℕ) (below : IsBelow R nex
     ];
   }
 
+  -- where the entry's position and numbers are not below the old bounds, and it is raised rightly, the law of races goes on to hold
   pub races_push : ((p : ℕ) → position_of e ≡ Some p → next ≤ p) → ((x k : ℕ) → NumberOn e x k → numbers x ≤ k) → Races R
       → IsRaisedRightly (with_entry R t e) (end_place R t) e → Races (with_entry R t e)
   races_push behind own races right c f there = elim (entry_cases c f there) [

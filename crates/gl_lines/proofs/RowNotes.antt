@@ -122,6 +122,7 @@ module _ (s : Traced) (t : ℕ) (y : ℕ) (row : Row) (stands : RowStands trace_
       row (λ i. absurd (not_touched reads writes y none i))
       (row_grows trace_setting s.history (record { thread = t; event = Commits (with_all writes reads) } ∷ []) y (s.draws y) row stands)
 
+  -- behind a line that does not access y, or was raised, the row of y stands as before
   pub item_stays : (item : Item) (judged : Judged) → (Accesses item y → IsRaised judged)
       → RowStands trace_setting (after_item t item judged s).history y ((after_item t item judged s).draws y) row
   item_stays (Acts act) judged when = act_stays act

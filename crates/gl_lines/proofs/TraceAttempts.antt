@@ -99,6 +99,7 @@ module _ (s : Traced) (now : State) (r : IsRecorded s now) (t : ℕ) (running : 
       (ap (λ n. n + look_count reads y) (r.numbers y) ∙ sym (look_length t (block_of t s) (is_in y reads) (s.draws y)))
       (number_there reads writes s.tracing.numbers y i)
 
+  -- the draw of a look by the thread is placed, in the block of its last event
   pub look_placed : IsPlaced s.history (draw t (block_of t s) (Looked (pos 0)))
   look_placed = let b = block_here s now r t running
       in record { event = b.event; here = b.here; own = b.own; goes_on = block_goes_on s now r t running; is = tt }
@@ -112,6 +113,7 @@ module _ (s : Traced) (now : State) (r : IsRecorded s now) (t : ℕ) (running : 
   old_near y a among = let f = each_at (DrawFits s.history y) (s.draws y) a (r.fit y) among
       in slice_get_within s.history a.block f.1.placed.event f.1.placed.here
 
+  -- the entry of a performed commit on these variables draws and has what such an attempt does
   pub commit_attempt : IsAttempt s.draws (Commit s.tracing.next (line_tx reads writes s.tracing.numbers)) reads writes
   commit_attempt = record {
     looks = λ y k l. let i = look_is reads writes s.tracing.numbers y k l.0 l.1 in (i.0, i.1 ∙ r.numbers y);
@@ -123,6 +125,7 @@ module _ (s : Traced) (now : State) (r : IsRecorded s now) (t : ℕ) (running : 
     number = λ y k n. n;
   }
 
+  -- so does that of a refused one
   pub refused_attempt : (var : ℕ) → IsAttempt s.draws (Abort (line_tx reads writes s.tracing.numbers) (Raised var)) reads writes
   refused_attempt var = record {
     looks = λ y k l. let i = look_is reads writes s.tracing.numbers y k l.0 l.1 in (i.0, i.1 ∙ r.numbers y);
@@ -146,6 +149,7 @@ module _ (s : Traced) (now : State) (r : IsRecorded s now) (t : ℕ) (running : 
         let b = n.1 in omega arith;
   }
 
+  -- over any events where it is placed, the draw of a look fits the draws of each variable
   pub look_fits : (h : List Stamp) (y : ℕ) → IsPlaced h (draw t (block_of t s) (Looked (pos 0)))
       → DrawFits h y (draw t (block_of t s) (Looked (pos 0))) (s.draws y)
   look_fits h y p = record {
@@ -160,6 +164,7 @@ module _ (s : Traced) (now : State) (r : IsRecorded s now) (t : ℕ) (running : 
     abbrev f : Entry
     f = Abort (line_tx reads writes s.tracing.numbers) (Raised var)
 
+    -- the draw of the refused commit's end fits on each of its variables, behind that of its look
     pub refused_fits : (y : ℕ) → touches reads writes y ≡ true
         → DrawFits s.history y (draw t (block_of t s) (Entered f)) (with_look (is_in y reads) t (block_of t s) (s.draws y))
     refused_fits y i = record {
@@ -171,6 +176,7 @@ module _ (s : Traced) (now : State) (r : IsRecorded s now) (t : ℕ) (running : 
       named = (number_here y i, tt);
     }
 
+    -- behind a refused commit the record, the events and the draws belong together, in the same state of the machine
     pub refused_recorded : IsRecorded (after_refused t reads writes var s) now
     refused_recorded = record {
       allowed = r.allowed;
@@ -217,6 +223,7 @@ module _ (s : Traced) (now : State) (r : IsRecorded s now) (t : ℕ) (running : 
     is = ap Commits (sym (its_variables reads writes s.tracing.numbers));
   }
 
+  -- the draw of the commit's end fits on each of its variables, behind that of its look, over the events with the commit
   pub commit_fits : (y : ℕ) → touches reads writes y ≡ true
       → DrawFits (s.history ++ x ∷ []) y (draw t s.tracing.next (Entered e)) (with_look (is_in y reads) t (block_of t s) (s.draws y))
   commit_fits y i = record {
@@ -242,6 +249,7 @@ module _ (s : Traced) (now : State) (r : IsRecorded s now) (t : ℕ) (running : 
       ∷ [] = take_all (suc (length es)) (es ++ e ∷ []) (omega (arith, length-append es (e ∷ []))) in
       ap last_position whole ∙ last_push es e
 
+  -- the draw of a look is placed over the events with the commit too
   pub look_grown : IsPlaced (s.history ++ x ∷ []) (draw t (block_of t s) (Looked (pos 0)))
   look_grown = let p = look_placed in record {
     event = p.event;
@@ -255,6 +263,7 @@ module _ (s : Traced) (now : State) (r : IsRecorded s now) (t : ℕ) (running : 
   step : Step trace_setting now x (pos 0) now
   step = record { may = running; effect = refl }
 
+  -- behind a performed commit the record, the events and the draws belong together, in the same state of the machine
   pub commit_recorded : IsRecorded (after_commit t reads writes s) now
   commit_recorded = record {
     allowed = allows_push trace_setting (start trace_setting) now now s.history x (pos 0) step r.allowed;

@@ -95,7 +95,7 @@ module _ (started : ℕ → Bool) (n : ℕ) (s : Traced) (now : State) (k : IsCl
       ])
       (λ w other i a. forks w i p u f value a) w i a
 
-  -- the thread never began
+  -- where thread n was never started, the lists of the threads below n + 1 have ended
   never : started n ≡ false → IsClosing started (suc n) s now
   never e = record {
     recorded = k.recorded;
@@ -219,6 +219,7 @@ module _ (started : ℕ → Bool) (n : ℕ) (s : Traced) (now : State) (k : IsCl
           (λ r. absurd (let z : Ended ≡ Running = sym (with_at-here now.threads n Ended) ∙ r in cc))
           (λ w other r. sym (with_at-else now.threads n w Ended other) ∙ r))
 
+  -- once thread n has been ended too, the lists of the threads below n + 1 have ended, in some state of the machine
   pub one_closed : (new : State) × IsClosing started (suc n) (ending_of n s) new
   one_closed = outer (started n) refl (is_empty (s.tracing.lists n)) ((k.open' n (omega arith)).1)
     where
@@ -267,9 +268,11 @@ module _ (lines : List Line) (sound : AreSound lines) where
       )
   closing (suc n) = let c = closing n in one_closed (is_started (steps_of lines)) n (endings_of n (traced lines)) c.0 c.1
 
+  -- once all threads have been ended behind the trace, all their lists have, in some state of the machine
   pub all_closed : (now : State) × IsClosing (is_started (steps_of lines)) THREADS (endings_of THREADS (traced lines)) now
   all_closed = closing THREADS
 
+  -- the lists are then those of the trace's record
   pub whole_lists : (endings_of THREADS (traced lines)).tracing.lists ≡ trace_record lines
   whole_lists = ap (λ (z : Tracing). z.lists) (endings_tracing THREADS (traced lines))
       ∙ ap (λ (z : Tracing). (with_endings THREADS z).lists) (each_tracing lines Rattle.gl_lines.specs.Traced.at_first)

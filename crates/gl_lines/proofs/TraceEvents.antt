@@ -164,6 +164,7 @@ module _ (s : Traced) (now : State) (r : IsRecorded s now) (t : ℕ) (act : Act)
   none y k (inl d) = d
   none y k (inr d) = d
 
+  -- behind the event the record, the events and the draws belong together, in the state after the step
   pub event_recorded : IsRecorded (with_event t act s) new
   event_recorded = record {
     allowed = allows_push trace_setting (start trace_setting) now new s.history x (pos 0) step r.allowed;

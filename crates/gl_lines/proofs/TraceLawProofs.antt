@@ -83,6 +83,7 @@ module _ (lines : List Line) (l : Line) (sound : AreSound (lines ++ l ∷ [])) w
   count : length (steps_of lines) ≡ length lines
   count = length-map lines (λ (m : Line). (m.thread, m.item))
 
+  -- the lines before the last one are sound
   pub sound_front : AreSound lines
   sound_front = record {
     in_range = λ k m e. sound.in_range k m (get_front lines (l ∷ []) k m e);
@@ -94,9 +95,11 @@ module _ (lines : List Line) (l : Line) (sound : AreSound (lines ++ l ∷ [])) w
         ∙ take-append-le k (steps_of lines) ((l.thread, l.item) ∷ []) (omega arith)) f;
   }
 
+  -- the last line is one that a trace can have
   pub last_in_range : IsStep (l.thread, l.item)
   last_in_range = sound.in_range (length lines) l (get_last lines l)
 
+  -- it has no fault behind those before it
   pub last_clean : step_fault (steps_of lines) l.thread l.item ≡ None
   last_clean =
       let e : slice_get (steps_of lines ++ (l.thread, l.item) ∷ []) (length (steps_of lines))
@@ -109,6 +112,7 @@ module _ (lines : List Line) (l : Line) (sound : AreSound (lines ++ l ∷ [])) w
       ∙ take_all (length (steps_of lines)) (steps_of lines) (omega arith)) in
       subst (λ ss. step_fault ss l.thread l.item ≡ None) front f
 
+  -- its thread runs behind those before it
   pub last_runs : is_running (steps_of lines) l.thread ≡ true
   last_runs = (clean_parts (is_too_wide l.item) (is_running (steps_of lines) l.thread) (item_fault (steps_of lines) l.thread l.item)
       last_clean).1

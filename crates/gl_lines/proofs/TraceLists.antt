@@ -175,6 +175,7 @@ module _ (lines : List Line) (sound : AreSound lines) where
     | inr c ↦ absurd (let m = c.0 in omega arith)
   ]
 
+  -- the lists behind the lines are shaped, by which threads were started and which have ended
   pub lists_shaped : AreShaped (is_started (steps_of lines)) (traced lines).tracing.ended (traced lines).tracing.lists
   lists_shaped =
       let n : length (steps_of lines) ≡ length lines = length-map lines (λ (l : Line). (l.thread, l.item)) in

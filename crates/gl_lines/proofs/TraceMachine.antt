@@ -26,7 +26,7 @@ or_assoc : (a b c : Bool) → (a || (b || c)) ≡ ((a || b) || c)
 or_assoc true b c = refl
 or_assoc false b c = refl
 
--- one step more
+-- with one step more a thread was started exactly where it was before or the step forks it
 pub started_push : (steps : List Said) (s : Said) (u : ℕ) → is_started (steps ++ s ∷ []) u ≡ (is_started steps u || item_forks u s.1)
 started_push steps s u =
     let one : list_any (λ (r : Said). item_forks u r.1) (s ∷ []) ≡ item_forks u s.1 = or_false (item_forks u s.1) in
@@ -278,6 +278,7 @@ module _ (steps : List Said) (t : ℕ) (now : State) (k : IsStateOf steps now) (
       entered_once = deep_at o (Rel o) left (λ held. own_rel o held) (λ j other held. other_rel o j other held) deep_left;
     }
 
+    -- the machine allows a clean acquire, and is then as the steps leave it
     pub run_acq : (o : ℕ) → act_fault steps t (Acq o) ≡ None → ActRun steps t (Acq o) now
     run_acq o clean = from (enter_parts t (holder o steps)
         (if_none (is_some (holder o steps) && not (is_held_by t (holder o steps)))
@@ -328,6 +329,7 @@ module _ (steps : List Said) (t : ℕ) (now : State) (k : IsStateOf steps now) (
         let back : suc d + 1 - 1 ≡ suc d = omega arith in
         rw (more, some, back) refl
 
+    -- so it does a clean release
     pub run_rel : (o : ℕ) → act_fault steps t (Rel o) ≡ None → ActRun steps t (Rel o) now
     run_rel o clean = from (leave_parts t (holder o steps)
         (else_none (is_held_by t (holder o steps)) Rattle.gl_model.specs.declared.row.StepFault.TheVariants.MonitorNotOwned clean))
@@ -362,10 +364,12 @@ module _ (steps : List Said) (t : ℕ) (now : State) (k : IsStateOf steps now) (
       kept = kept_quiet steps (t, Acts act) kept joins leaves;
     }
 
+    -- so it does a read of a volatile that has the value 0
     pub run_vread : (v : ℕ) → now.volatiles v ≡ pos 0 → ActRun steps t (VRead v) now
     run_vread v word = quiet_run (VRead v) now (λ q. q) (λ u. refl) (λ u. refl) (λ m held. refl) refl refl
         (record { may = running; effect = (sym word, refl) })
 
+    -- so it does a write of a volatile
     pub run_vwrite : (v : ℕ) → ActRun steps t (VWrite v) now
     run_vwrite v = quiet_run (VWrite v) (record now { volatiles = with_at now.volatiles v (pos 0) }) (λ q w. written w (w == v) (q w))
         (λ u. refl) (λ u. refl) (λ m held. refl) refl refl (record { may = running; effect = refl })

@@ -127,6 +127,7 @@ module _ (s : Traced) (now : State) (r : IsRecorded s now) (t : ℕ) (running : 
               (sym (with_at-here s.draws x (draw t (block_of t s) (Entered plain) ∷ s.draws x))) (inr m.2),
         )
 
+    -- a plain access is racy on x in the record with it exactly where it is so as the next access before it
     pub racy_plain : IsRacy P (end_place s.tracing.lists t) x ↔ IsRacyNext s.history x (s.draws x) t None plain
     racy_plain = racy_alike s (after_plain t x write raised s) now now r p' plain None (end_place s.tracing.lists t)
         (there s.tracing.lists t plain) x (s.tracing.numbers x) (refl, refl) (λ k n. sym n.1) old_plain fresh_plain
@@ -228,6 +229,7 @@ module _ (s : Traced) (now : State) (r : IsRecorded s now) (t : ℕ) (running : 
             (λ z k. subst (λ (X : Type 0). X) (same_set trace_setting s.history (x ∷ []) (access_of o) (length s.history) z near
             (omega arith)) k) (Thread t)
 
+    -- a performed commit is racy in the record with it, on each of its variables, exactly where it is so as the next access before it
     pub racy_commit : (y : ℕ) → touches reads writes y ≡ true
         → IsRacy R (end_place s.tracing.lists t) y ↔ IsRacyNext s.history y (s.draws y) t (Some (with_all writes reads)) e
     racy_commit y i = racy_alike s (after_commit t reads writes s) now now r r' e (Some (with_all writes reads))
@@ -236,6 +238,7 @@ module _ (s : Traced) (now : State) (r : IsRecorded s now) (t : ℕ) (running : 
         (old s.tracing.next e (commit_attempt s now r t running reads writes) y)
         (fresh s.tracing.next e (commit_attempt s now r t running reads writes) y) (λ o c placed stands other. alike o c placed stands)
 
+    -- it is racy only on variables that it reads or writes
     pub racy_commit_on : (y : ℕ) → IsRacy R (end_place s.tracing.lists t) y → touches reads writes y ≡ true
     racy_commit_on y racy = let same = same_entry R (end_place s.tracing.lists t) racy.before.second e racy.before.here
         (there s.tracing.lists t e) in (number_is reads writes s.tracing.numbers y racy.before.later

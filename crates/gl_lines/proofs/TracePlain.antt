@@ -37,6 +37,7 @@ module _ (s : Traced) (now : State) (r : IsRecorded s now) (t : ℕ) (running : 
   pub block_is : last_position (s.tracing.lists t) ≡ Some (block_of t s)
   block_is = subst (λ o. o ≡ Some (unwrap_or o 0)) (sym g.last) refl
 
+  -- the position that is taken as the thread's block is that of its last event, which has its entry in the list
   pub block_here : LastOwn s.history t (s.tracing.lists t) (r.events t) (block_of t s)
   block_here = last_own s.history t (s.tracing.lists t) (r.events t) (block_of t s) block_is
 
@@ -44,6 +45,7 @@ module _ (s : Traced) (now : State) (r : IsRecorded s now) (t : ℕ) (running : 
   same_block : g.position ≡ block_of t s
   same_block = let a = g.last in let b = block_is in cc
 
+  -- this event is no End
   pub block_goes_on : block_here.event.event
       ≡ Rattle.gl_model.specs.declared.event.Event.TheVariants.Act Rattle.gl_model.specs.declared.event.Act.TheVariants.End → ⊥
   block_goes_on over = g.goes_on block_here.event
@@ -79,9 +81,11 @@ module _ (s : Traced) (now : State) (r : IsRecorded s now) (t : ℕ) (running : 
       | no other ↦ (let b : (y == x) ≡ false = ne_eqb y x other in rw b (r.numbers y))
     ]
 
+    -- the access's draw is placed
     pub placed : IsPlaced s.history d
     placed = record { event = block_here.event; here = block_here.here; own = block_here.own; goes_on = block_goes_on; is = tt }
 
+    -- it fits the draws of x
     pub plain_fits : DrawFits s.history x d (s.draws x)
     plain_fits = record {
       placed = placed;
@@ -106,6 +110,7 @@ module _ (s : Traced) (now : State) (r : IsRecorded s now) (t : ℕ) (running : 
     word true = refl
     word false = r.words x
 
+    -- behind the access the record, the events and the draws belong together, in the same state of the machine
     pub plain_recorded : IsRecorded (after_plain t x write raised s) now
     plain_recorded = record {
       allowed = r.allowed;

@@ -45,5 +45,6 @@ module _ (s s' : Traced) (now now' : State) (r : IsRecorded s now) (r' : IsRecor
     fresh = fresh;
   }
 
+  -- so the entry is racy on y in the record behind it exactly where it is so as the next access behind s
   pub racy_alike : IsRacy s'.tracing.lists d y ↔ IsRacyNext s.history y (s.draws y) d.thread v e
   racy_alike = racy_added s.history s'.history s'.tracing.lists s.draws s'.draws d e v y m added alike

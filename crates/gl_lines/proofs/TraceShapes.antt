@@ -121,6 +121,7 @@ module _ (started ended : ℕ → Bool) (R : Lists) (k : AreShaped started ended
     begun_push e u = each_list (λ w es. is_empty es ≡ not (started w)) R t e (empty_push (R t) e ∙ sym (ap not runs))
         (λ w other. k.begun w) u
 
+    -- with an entry that is no Trim, Over or End in the thread's list, a fork being of a thread that was started, the lists stay shaped
     pub usual_shaped : (e : Entry) → IsUsual e → ((p u f : ℕ) (value : ℤ) → e ≡ Sync p (Fork u f) value → started u ≡ true)
         → AreShaped started ended (with_entry R t e)
     usual_shaped e usual forks = record {
@@ -137,6 +138,7 @@ module _ (started ended : ℕ → Bool) (R : Lists) (k : AreShaped started ended
           (λ w other i a. k.forks w i p u f value a) w i a;
     }
 
+    -- with End in the thread's list they are shaped, the thread having ended
     pub end_shaped : (p : ℕ) → AreShaped started (λ w. if w == t then true else ended w) (with_entry R t (Sync p End (pos 0)))
     end_shaped p = record {
       shape = λ u. here u (ℕ_discrete u t);
@@ -167,6 +169,7 @@ module _ (started ended : ℕ → Bool) (R : Lists) (k : AreShaped started ended
 -- a thread begins
 module _ (started ended : ℕ → Bool) (R : Lists) (k : AreShaped started ended R) (u p f : ℕ) (near : u < THREADS) (unstarted : started u
     ≡ false) (alive : ended u ≡ false) where
+  -- with Begin in its list they are shaped, the thread having been started
   pub begin_shaped : AreShaped (λ w. started w || (u == w)) ended (with_entry R u (Sync p (Begin f) (pos 0)))
   begin_shaped = record {
     shape = each_list (λ w es. IsShaped (ended w) es) R u (Sync p (Begin f) (pos 0))

@@ -102,10 +102,12 @@ take_one (y ∷ xs) zero x e = let same : y ≡ x = cc in rw same refl
 take_one (y ∷ xs) (suc k) x e = ap (λ ys. y ∷ ys) (take_one xs k x e)
 
 module _ (lines : List Line) (sound : AreSound lines) where
+  -- the step at place k is that of the line at place k
   pub step_at : (k : ℕ) (l : Line) → slice_get lines k ≡ Some l → slice_get (steps_of lines) k ≡ Some (l.thread, l.item)
   step_at k l e = slice_get-map (λ (l : Line). (l.thread, l.item)) lines k
       ∙ ap (Rattle.std.specs.Prelude.option_map (λ (l : Line). (l.thread, l.item))) e
 
+  -- what the first k lines leave belongs together, in some state of the machine
   pub up_to : (k : ℕ) → k ≤ length lines → (now : State) × IsTraced (take k (steps_of lines)) (after_each (take k lines) at_first) now
   up_to zero le = (first_state, first_traced)
   up_to (suc k) le = elim ((slice_get_cases lines k).1) [
@@ -124,6 +126,7 @@ module _ (lines : List Line) (sound : AreSound lines) where
     | inr c ↦ absurd (let m = c.0 in omega arith)
   ]
 
+  -- so does what all lines leave
   pub sound_traced : (now : State) × IsTraced (steps_of lines) (traced lines) now
   sound_traced =
       let u = up_to (length lines) (omega arith) in

@@ -43,6 +43,7 @@ module _ (steps : List Said) (t u : ℕ) (now : State) (k : IsStateOf steps now)
       pub calm : ((v : ℕ) → now.volatiles v ≡ pos 0) → (v : ℕ) → mid.volatiles v ≡ pos 0
       pub calm_new : ((v : ℕ) → now.volatiles v ≡ pos 0) → (v : ℕ) → new.volatiles v ≡ pos 0
 
+    -- the machine allows a clean fork of a thread in range, and the new thread's Begin behind it
     pub run_fork : u < THREADS → act_fault steps t (Fork u 0) ≡ None → ForkRun 0
     run_fork near clean = record {
       mid = mid;
@@ -120,6 +121,7 @@ module _ (steps : List Said) (t u : ℕ) (now : State) (k : IsStateOf steps now)
     ended_else w other = ended_push steps (t, Acts (Join u)) w ∙ ap (λ b. is_ended steps w || b) (ne_eqb u w (λ e. other (sym e)))
         ∙ or_false (is_ended steps w)
 
+    -- behind the join the thread that is joined has ended
     pub ended_here : is_ended (steps ++ (t, Acts (Join u)) ∷ []) u ≡ true
     ended_here = ended_push steps (t, Acts (Join u)) u ∙ ap (λ b. is_ended steps u || b) (eq-eqb u u refl) ∙ or_true (is_ended steps u)
 
@@ -165,6 +167,7 @@ module _ (steps : List Said) (t u : ℕ) (now : State) (k : IsStateOf steps now)
       pub state : IsStateOf (steps ++ (t, Acts (Join u)) ∷ []) now
       pub keeps : AreKept (steps ++ (t, Acts (Join u)) ∷ [])
 
+    -- where that thread has ended before, the machine allows a clean join
     pub run_join : act_fault steps t (Join u) ≡ None → is_ended steps u ≡ true → JoinRun
     run_join clean over =
         let p = join_parts (is_started steps u) (u == t) clean in
@@ -185,6 +188,7 @@ module _ (steps : List Said) (t u : ℕ) (now : State) (k : IsStateOf steps now)
       pub others : (w : ℕ) → w ≢ u → mid.threads w ≡ now.threads w
       pub calm : ((v : ℕ) → now.volatiles v ≡ pos 0) → (v : ℕ) → mid.volatiles v ≡ pos 0
 
+    -- where it has not, the machine allows its End, and the clean join behind that
     pub run_end : act_fault steps t (Join u) ≡ None → is_ended steps u ≡ false → EndRun
     run_end clean alive =
         let p = join_parts (is_started steps u) (u == t) clean in

@@ -256,6 +256,7 @@ module _ (s : Traced) (now : State) (r : IsRecorded s now) (t : ℕ) (running : 
   there : (P : Place → Type 0) (e : Entry) → P (last_place (with_entry s.tracing.lists t e) t) → P (end_place s.tracing.lists t)
   there P e p = subst P (last_is s.tracing.lists t e) p
 
+  -- where a line is judged rightly in the record behind it, what is said of draws holds of those behind it
   pub item_holds : (item : Item) (judged : Judged)
       → IsJudgedRightly (after_item t item judged s).tracing.lists (last_place (after_item t item judged s).tracing.lists t) item judged
       → (y : ℕ) → DrawsHold (after_item t item judged s).history y ((after_item t item judged s).draws y)

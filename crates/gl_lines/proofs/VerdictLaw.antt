@@ -109,6 +109,8 @@ module _ (s : Traced) (now : State) (r : IsRecorded s now) (t : ℕ) (running : 
       (subst (λ z. IsRacy (with_entry s.tracing.lists t (plain_entry x write raised s)) (end_place s.tracing.lists t) z ↔ IsRacyNext
       s.history z (s.draws z) t None (plain_entry x write raised s)) same (racy_plain s now r t running x write raised))
 
+  -- the entry that a line leaves is racy in the record behind it, on each
+  -- variable that the line accesses, exactly where it is so as the next access
   pub item_alike : (item : Item) (judged : Judged) (f : Entry)
       → EntryAt (after_item t item judged s).tracing.lists (last_place (after_item t item judged s).tracing.lists t) f → (y : ℕ)
       → Accesses item y →
@@ -234,6 +236,7 @@ module _ (s : Traced) (now : State) (r : IsRecorded s now) (t : ℕ) (running : 
         (last_place (after_item t item judged s).tracing.lists t) y → ⊥)
     first_racy var a racy none = ((alike var a).1 racy, λ y lt. not_racy y (none y lt))
 
+  -- a line that is judged by the variables on which its entry is racy as the next access is judged rightly in the record behind it
   pub races_judged : (item : Item) (judged : Judged)
       → IsJudgedBy (λ y. IsRacyNext s.history y (s.draws y) t (commit_of item) (entered item judged s)) item judged →
       IsJudgedRightly (after_item t item judged s).tracing.lists (last_place (after_item t item judged s).tracing.lists t) item judged
@@ -313,6 +316,7 @@ module _ (s : Traced) (now : State) (r : IsRecorded s now) (t : ℕ) (running : 
       (λ y. IsRacyNext s.history y (s.draws y) t (commit_of item) (entered item b s)) item a b (next_alike item a b) (next_alike item b a)
       (races_said item a i) (races_said item b j)
 
+  -- over rows that stand, a line that is judged by the variables on which its questions fail is judged rightly
   pub item_judged : ((y : ℕ) → DrawsHold s.history y (s.draws y))
       → (item : Item) (judged : Judged) (rows : ℕ → Row) (questions : ℕ → Question) →
       ((y : ℕ) → Accesses item y → RowStands trace_setting s.history y (s.draws y) (rows y))

@@ -68,12 +68,14 @@ module _ {A : Type 0} (key : A → ℕ) (p : A) where
     head : length (take len parts) ≡ len
     head = length-take-le len parts long
 
+    -- where the part at i has the key of p, setting it to p gives the parts with p
     pub set_there : (d : A) → i < len → key (get_or parts i d) ≡ key p → take len (set parts i p) ≡ with_part key p (take len parts)
     set_there d l e =
         let n : i < length parts = omega arith in
         let same : key (get_or (take len parts) i p) ≡ key p = ap key (get_or-take len parts i p l ∙ get_or_default parts i p d n) ∙ e in
         take-set-lt len parts i p l ∙ with_part-there (take len parts) i (omega (arith, head)) placed.below same
 
+    -- a part at i that has another key than p has it whatever is given for a part that is not there
     pub otherwise : (at d : A) → i < len → key (get_or parts i at) ≢ key p → key (get_or parts i d) ≢ key p
     otherwise at d l other same = other (ap key (get_or_default parts i at d (omega arith)) ∙ same)
 
@@ -87,6 +89,7 @@ module _ {A : Type 0} (key : A → ℕ) (p : A) where
         let le : key p ≤ key (get_or (take len parts) i d) = placed.here d l in
         omega arith
 
+    -- where the part at i, if there is one, has another key than p, putting p in before it gives the parts with p
     pub put_there : ((d : A) → i < len → key (get_or parts i d) ≢ key p) → take i parts ++ p ∷ slice_range parts i len
         ≡ with_part key p (take len parts)
     put_there other =
@@ -98,6 +101,7 @@ module _ {A : Type 0} (key : A → ℕ) (p : A) where
         ap (λ ys. ys ++ p ∷ slice_range parts i len) (sym first) ∙ ap (λ ys. take i (take len parts) ++ p ∷ ys) (sym rest)
         ∙ (with_part-at (take len parts) i placed.within placed.below (above_here other))
 
+    -- where the part at i, if there is one, has another key than p, and the keys rise, no part has the key of p
     pub not_among : Rises (map key (take len parts)) → ((d : A) → i < len → key (get_or parts i d) ≢ key p)
         → Contains (map key (take len parts)) (key p) → ⊥
     not_among rises other c = not_there (map key (take len parts)) (key p) i rises

@@ -16,12 +16,15 @@ use Rattle.gl_model.specs.Rising.{Rises}
 use Rattle.gl_model.specs.Kept.{IsEntryKept, IsListKept, IsRecord}
 
 module _ (t : ℕ) (e : Entry) where
+  -- where the first list is thread t's, the entry comes behind its entries
   pub with_last-same : (l : ℕ × List Entry) (ls : List (ℕ × List Entry)) → l.0 ≡ t → with_last t e (l ∷ ls) ≡ (t, l.1 ++ e ∷ []) ∷ ls
   with_last-same l ls same = grind (arith, nat_tests)
 
+  -- where it is a later thread's, a list of t with the entry alone comes before it
   pub with_last-above : (l : ℕ × List Entry) (ls : List (ℕ × List Entry)) → t < l.0 → with_last t e (l ∷ ls) ≡ (t, e ∷ []) ∷ (l ∷ ls)
   with_last-above l ls above = grind (arith, nat_tests)
 
+  -- where it is an earlier thread's, it stays, and the entry goes to the lists behind it
   pub with_last-below : (l : ℕ × List Entry) (ls : List (ℕ × List Entry)) → l.0 < t → with_last t e (l ∷ ls) ≡ l ∷ with_last t e ls
   with_last-below l ls below = grind (arith, nat_tests)
 
@@ -110,6 +113,7 @@ on_ok (Err x) P Q f p = tt
 -- the lists of a record, as they are stored
 module _ (ds items new : List ThreadList) (i t : ℕ) (entry : StoredEntry) (same : ds ≡ items) (below : (k : ℕ) (d : ThreadList) → k < i
     → (get_or ds k d).thread < t) where
+  -- where the list at i is thread t's, storing the entry behind its entries gives the record with the entry
   pub append_seen : (at : ThreadList) → i < length items → at ≡ get_or items i at → at.thread ≡ t → (list : ThreadList)
       × (list.thread ≡ (get_or items i list).thread) × (list.entries.items ≡ (get_or items i list).entries.items ++ entry ∷ [])
       × (new ≡ set items i list) → map list_seen new ≡ with_last t (seen entry) (map list_seen items)
@@ -121,6 +125,7 @@ module _ (ds items new : List ThreadList) (i t : ℕ) (entry : StoredEntry) (sam
       let less : (k : ℕ) → k < i → (list_seen (get_or items k w.0)).0 < t = λ k l. rw same at (below k w.0 l) in
       rw w.3 (appended t (seen entry) list_seen items i w.0 n less old (λ j. ((w.1 ∙ old) j, more j)))
 
+  -- where the list at i, if there is one, is a later thread's, putting in a list of t with the entry alone gives the record with the entry
   pub start_seen : i ≤ length items → ((d : ThreadList) → i < length items → t < (get_or items i d).thread) → (list : ThreadList)
       × (list.thread ≡ t) × (list.entries.items ≡ entry ∷ []) × (new ≡ insert items i list) → map list_seen new
       ≡ with_last t (seen entry) (map list_seen items)

@@ -34,7 +34,7 @@ one_one x y (z ∷ zs) l = elim (cases_lt x z) [
   ])
 ]
 
--- two of them, however they lie
+-- two numbers that are put in, in whichever order, give the same list
 pub either_order : (x y : ℕ) (zs : List ℕ) → with_one x (with_one y zs) ≡ with_one y (with_one x zs)
 either_order x y zs = elim (cases_lt x y) [
   | inl l ↦ one_one x y zs l
@@ -57,12 +57,12 @@ one_again x (z ∷ zs) = elim (cases_lt x z) [
   ]
 ]
 
--- one more on the right
+-- a number that is put in on the right is put into the whole
 pub all_one : (xs : List ℕ) (y : ℕ) (zs : List ℕ) → with_all xs (with_one y zs) ≡ with_one y (with_all xs zs)
 all_one [] y zs = refl
 all_one (x ∷ xs) y zs = ap (with_all xs) (either_order x y zs) ∙ all_one xs y (with_one x zs)
 
--- one more on the left
+-- so is one that is put in on the left
 pub one_all : (x : ℕ) (ws zs : List ℕ) → with_all (with_one x ws) zs ≡ with_one x (with_all ws zs)
 one_all x [] zs = refl
 one_all x (w ∷ ws) zs = elim (cases_lt x w) [
@@ -90,7 +90,7 @@ first_above : (x : ℕ) (xs : List ℕ) → AllByRecursion (λ y. x < y) xs → 
 first_above x [] all = refl
 first_above x (y ∷ ys) all = with_one-above x y ys all.0
 
--- those of a rising list alone
+-- a rising list that is put into the empty one is that list
 pub all_none : (xs : List ℕ) → Rises xs → with_all xs [] ≡ xs
 all_none [] r = refl
 all_none (x ∷ xs) r = all_one xs x [] ∙ ap (with_one x) (all_none xs r.1) ∙ first_above x xs r.0

@@ -129,6 +129,7 @@ module _ (ids : List ℕ) (len i x : ℕ) (long : len ≤ length ids) (within : 
   head_length : length (take len ids) ≡ len
   head_length = length-take-le len ids long
 
+  -- where x is the id at i, the set is the one with x already
   pub found_there : i < len → get_or ids i 0 ≡ x → take len ids ≡ with_one x (take len ids)
   found_there l e = sym (with_one-there (take len ids) x i (omega (arith, head_length)) below (get_or-take len ids i 0 l ∙ e))
 
@@ -141,6 +142,7 @@ module _ (ids : List ℕ) (len i x : ℕ) (long : len ≤ length ids) (within : 
       let le : x ≤ get_or (take len ids) i 0 = here l in
       omega arith
 
+  -- where the id at i, if there is one, is another one, putting x in before it gives the set with x
   pub put_there : (i < len → get_or ids i 0 ≢ x) → take i ids ++ x ∷ slice_range ids i len ≡ with_one x (take len ids)
   put_there other =
       let le : i ≤ len = omega (arith, head_length) in
@@ -149,6 +151,7 @@ module _ (ids : List ℕ) (len i x : ℕ) (long : len ≤ length ids) (within : 
       let rest : drop i (take len ids) ≡ slice_range ids i len = rw split at (drop-take i (len - i) ids) in
       rw (with_one-at (take len ids) x i within below (above_here other), first, rest)
 
+  -- where the id at i, if there is one, is another one, and the set rises, x is not in it
   pub not_among : Rises (take len ids) → (i < len → get_or ids i 0 ≢ x) → Contains (take len ids) x → ⊥
   not_among rises other c = not_there (take len ids) x i rises below (above_here other) c.0 c.1 (get_or_default (take len ids) c.0 0 x c.1
       ∙ c.2)

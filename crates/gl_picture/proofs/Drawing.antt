@@ -95,6 +95,7 @@ module _ (P : Told → Type 0) where
   abbrev pub Each : List Told → Type 0
   Each lines = (i : ℕ) (k : Told) → slice_get lines i ≡ Some k → P k
 
+  -- what holds of each line holds of each row that is drawn of them
   pub each_drawn : (lines : List Told) → Each lines → Each (rows_of lines)
   each_drawn lines all = elim (rows_cases lines) [
     | inl short ↦ subst Each (sym short.1) all
@@ -104,6 +105,7 @@ module _ (P : Told → Type 0) where
     ])
   ]
 
+  -- and of each line of a span
   pub each_spanned : (place race : ℕ) (lines : List Told) → Each lines → Each (span place race lines)
   each_spanned place race lines all i k at =
       all ((place - LEAD) + i) k (get_taken (race + 1) lines ((place - LEAD) + i) k (get_dropped (place - LEAD) (take
@@ -140,6 +142,7 @@ drawn_last lines i k at last = elim (rows_cases lines) [
 ]
 
 module _ (told : List Told) (f : First) (first : IsFirstRace told f) where
+  -- the line that the race is said to be with stands before the race
   pub place_before : f.explanation.place < f.race
   place_before =
       let near = slice_get_within (take f.race told) f.explanation.place f.explanation.other first.explained.there in
@@ -147,12 +150,14 @@ module _ (told : List Told) (f : First) (first : IsFirstRace told f) where
       let some = length-take-le f.race told (omega arith) in
       omega arith
 
+  -- the race is one of the lines that were told
   pub race_within : f.race < length told
   race_within = slice_get_within told f.race f.explanation.at first.there
 
   abbrev pub lines : List Told
   lines = span f.explanation.place f.race told
 
+  -- the line that it is with is drawn as far from the first row as it stands from the first line of the span
   pub other_drawn : slice_get (rows_of lines) (f.explanation.place - (f.explanation.place - LEAD)) ≡ Some f.explanation.other
   other_drawn =
       let place = f.explanation.place in
@@ -162,6 +167,7 @@ module _ (told : List Told) (f : First) (first : IsFirstRace told f) where
       (at_dropped (place - LEAD) (take (f.race + 1) told) place f.explanation.other (omega arith)
       (at_taken (f.race + 1) told place f.explanation.other (omega arith) at))
 
+  -- the race's own line is the last row
   pub race_drawn : IsEnd f.explanation.at (rows_of lines)
   race_drawn =
       let place = f.explanation.place in

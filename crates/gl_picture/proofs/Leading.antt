@@ -25,9 +25,11 @@ meet_by t u g k e f r given taken test = (
 )
 
 module _ (rows : List Told) (t from : ℕ) where
+  -- where a row between the two places is of thread t, yes is the right answer to whether one is
   pub row_new : (i to : ℕ) (k : Told) → from ≤ i → i < to → slice_get rows i ≡ Some k → k.thread ≡ t → IsTrue true ↔ HasRow rows t from to
   row_new i to k after near there is = (λ _. (i, k, after, near, there, is), λ _. refl)
 
+  -- where row i is of another thread and none before it is of t, none before i + 1 is
   pub row_on : (i : ℕ) (k : Told) → slice_get rows i ≡ Some k → k.thread ≢ t → (HasRow rows t from i → ⊥) → HasRow rows t from (i + 1) → ⊥
   row_on i k there other none (h, q, after, near, at, is) = elim (cases_lt h i) [
     | inl before ↦ none (h, q, after, before, at, is)
@@ -38,6 +40,7 @@ module _ (rows : List Told) (t from : ℕ) where
         other (ap (λ (z : Told). z.thread) same ∙ is))
   ]
 
+  -- where none of the rows before n is of t, no is the right answer for any place up to n
   pub row_never : (n to : ℕ) → to ≤ n → (HasRow rows t from n → ⊥) → IsTrue false ↔ HasRow rows t from to
   row_never n to all none = (λ t. absurd (cc), λ w. absurd (none (w.0, w.1, w.2, (let near = w.3 in omega arith), w.4, w.5)))
 

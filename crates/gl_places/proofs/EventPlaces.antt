@@ -50,9 +50,11 @@ use_or c (Some u) = u
 
 -- what is read of a list of uses that stands for these, and written to a list of places
 module _ (items : List StoredUse) (us : List Use) (are : map use_seen items ≡ us) where
+  -- there are as many of the stored uses as of the uses
   pub all_uses : length items ≡ length us
   all_uses = sym (length-map items use_seen) ∙ ap length are
 
+  -- any places, as many as the uses, are right as far as no use was put down
   pub put_none : (places : List StoredPlace) → length places ≡ length items → ArePut us 0 (map seen places)
   put_none places long = record { long = length-map places seen ∙ long ∙ all_uses; each = λ j p c less at. absurd (omega arith) }
 

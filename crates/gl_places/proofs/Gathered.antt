@@ -93,7 +93,7 @@ module _ (f : Entry → List ℕ) where
         | inr other ↦ next_is_later t l ls other (gathers_next t ls rises.1)
       ]
 
--- one entry more of a list
+-- the uses of one entry more of a list come behind those of the entries before it
 pub list_more :
     (f : Entry → List ℕ) (t i : ℕ) (es : List Entry) (e : Entry) → slice_get es i ≡ Some e →
     uses_from f t 0 (take (i + 1) es) ≡ uses_from f t 0 (take i es) ++ map (λ k. use_at t i k) (f e)
@@ -104,7 +104,8 @@ list_more f t i es e at =
     ∙ ap (λ x. take i es ++ x ∷ []) (get_or_from_slice_get es i e e at) in
     ap (uses_from f t 0) grown ∙ uses_more f t 0 (take i es) e ∙ ap (λ n. uses_from f t 0 (take i es) ++ map (λ k. use_at t n k) (f e)) long
 
--- what was gathered of a list, with one entry more
+-- where what was gathered ends with the uses of the first i entries, putting those of entry i behind it makes it end with those of the
+-- first i + 1
 pub entry_more :
     (f : Entry → List ℕ) (t i : ℕ) (es : List Entry) (e : Entry) (start before after : List Use) → slice_get es i ≡ Some e →
     after ≡ before ++ map (λ k. use_at t i k) (f e) → before ≡ start ++ uses_from f t 0 (take i es) →
@@ -114,7 +115,7 @@ entry_more f t i es e start before after at is was =
     ∙ append_assoc start (uses_from f t 0 (take i es)) (map (λ k. use_at t i k) (f e))
     ∙ ap (λ us. start ++ us) (sym (list_more f t i es e at))
 
--- an entry of the program among those that are seen
+-- an entry of a stored list stands at its index among those that are seen
 pub entry_at :
     (list : List StoredEntry) (i : ℕ) (e : StoredEntry) → e ≡ get_or list i e → i < length list → slice_get (map seen list) i
     ≡ Some (seen e)

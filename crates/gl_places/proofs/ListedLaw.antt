@@ -100,10 +100,12 @@ module _ (made : List (ℕ × List Entry)) (kept : IsRecord made) where
   differs : Differ us
   differs = record_differ positions_on made kept.0 (λ t j e at. one_once (position_of e))
 
+  -- each position among the uses, with its place, is that of an event there
   pub event_of_use : (k p : ℕ) (c : Place) → slice_get us k ≡ Some (c, p) → (s : Stamp) × IsEventAt R c p s
   event_of_use k p c at = (let x = use_is positions_on made kept.0 (c, p) (k, at)
       in stamped R c p x.entry x.there (one_among (position_of x.entry) p x.among))
 
+  -- the position of each event is among the uses, with its place
   pub use_of_event : (c : Place) (p : ℕ) (s : Stamp) → IsEventAt R c p s → (k : ℕ) × (slice_get us k ≡ Some (c, p))
   use_of_event c p s e = is_used positions_on made c.thread c.index p e.entry e.there (among_one (position_of e.entry) p e.position)
 
@@ -138,6 +140,7 @@ module _ (made : List (ℕ × List Entry)) (kept : IsRecord made) where
           let k = use_of_event e.0 q s.0 e.1 in
           any_found q k.0 ns (number_of us k.0 (e.0, q) k.1)
 
+  -- in a listed record no entry has a position that fails
   pub fails_not : Listed R → (c : Place) → PositionFailsAt made c → ⊥
   fails_not (h, is) c x = by_fault x.wrong.wrong where
     -- the number that is wrong is that of the use

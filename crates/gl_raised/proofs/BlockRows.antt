@@ -24,7 +24,7 @@ pub record AreRows (R : Lists) (i : ℕ) (rows : List (List ℕ)) (tables : Tabl
   pub known : (h : List Stamp) → IsEventList h R → (p u : ℕ) (s : Stamp) → p < i → EventAt h p s → cell rows p u
       ≡ clocks (take (p + 1) h) (Thread s.thread) u
 
--- one clock more
+-- with one clock put last, each row before it has the cells that it had
 cell_old : (rows : List (List ℕ)) (clock : List ℕ) (p u : ℕ) → p < length rows → cell (rows ++ clock ∷ []) p u ≡ cell rows p u
 cell_old [] clock p u l = absurd (omega arith)
 cell_old (r ∷ rows) clock zero u l = refl

@@ -177,6 +177,8 @@ module _ (R : Lists) (claims : List Claim) (old us : List Access) (rows before k
     | inr none ↦ absurd (let z = none.0 in let y = slice_get_within claims k l at in omega arith)
   ]
 
+  -- where a claim names another variable than was found, the first such claim's place
+  -- is the first at which the law of races fails, and where none does, the law holds
   pub answer : (result : Option StoredPlace) → IsFirstOther claims least result
       → MatchOption result (Races R) (λ c. IsFirstBy Before (RaceFailsAt R) (seen c))
   answer None all = λ c e here. elim (access_or_right R c e) [

@@ -199,6 +199,7 @@ module _ (R : Lists) (t i b : ℕ) (p : StoredPlace) (is_place : seen p ≡ reco
     );
   }
 
+  -- with the claims and the accesses of this entry, those before the next place are gathered
   pub gathered_more : AreGathered R (record { thread = t; index = i + 1 }) (claims ++ claims_of p b e) (accesses
       ++ accesses_of (length claims) t b e)
   gathered_more = by (kind_of e)

@@ -130,6 +130,7 @@ module _ (us : List Access) (i : ℕ) (a : Access) (here : slice_get us i ≡ So
         ))
   ]
 
+  -- where the access was not performed, the marks are those of the first i + 1 accesses too
   pub lasts_kept : (old : List Lasts) → (a.performed ≡ true → ⊥) → AreLasts us i old → AreLasts us (i + 1) old
   lasts_kept old none know x t n commit write l e =
       let before = know x t n commit write l e in (
@@ -194,6 +195,7 @@ module _ (us : List Access) (i : ℕ) (a : Access) (here : slice_get us i ≡ So
     | inr other ↦ least_grows known k o (λ x now. other.0 (sym now.0)) (know k o other.1)
   ]
 
+  -- where it is not racy by those before it, what was found of each claim goes for the first i + 1 accesses too
   pub least_kept : (known : List (List ℕ)) (old : List (Option ℕ)) → (IsRacyBy known us i a → ⊥) → AreLeast known us i old
       → AreLeast known us (i + 1) old
   least_kept known old none know k o e = least_grows known k o (λ x now. none now.2) (know k o e)

@@ -80,6 +80,7 @@ module _ (rows : List (List ℕ)) (us : List Access) (i : ℕ) (a : Access) (her
             ]),
           )
 
+  -- where the access is none of a performed commit, the variables know what the first i + 1 hand on as well
   pub handed_kept : (old : List (List ℕ)) → (a.commit ≡ true → a.performed ≡ true → ⊥) → VariablesKnow rows us i old
       → VariablesKnow rows us (i + 1) old
   handed_kept old none know x u n = (
@@ -141,6 +142,7 @@ module _ (rows : List (List ℕ)) (us : List Access) (i : ℕ) (a : Access) (her
             ]),
           )
 
+  -- where it is none of a refused commit, the claims know what the first i + 1 learn as well
   pub learned_kept : (first old : List (List ℕ)) → (a.commit ≡ true → a.performed ≡ false → ⊥) → ClaimsKnow rows us i first old
       → ClaimsKnow rows us (i + 1) first old
   learned_kept first old none know k u n = (

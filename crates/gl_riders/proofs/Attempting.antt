@@ -366,6 +366,7 @@ module _ (P : Bytecode) (c : Config) (att : Attempt) (runs : c.attempt ≡ Some 
   no_look : knows p x ≡ true → (value : ℤ) → p.looks ≡ looks_after p (Read x) (Answer value)
   no_look known value = rw (runs, known) refl
 
+  -- what was read of x in the attempt is what the read is answered
   pub read_answers : (value : ℤ) (own new : Own) (b : Attempting) → DrawsFor (Some a) own → IsRead x value a own b new
       → IsAnswered P c (Read x) (Answer value) own new (Some a) (Some b)
   read_answers value own new b draws read = by_words (written a x) (looked a x) refl refl read where

@@ -128,6 +128,7 @@ module _ (P : Bytecode) (z : TableView) (c : Config) where
   run_asks TxBegin run = tt
   run_asks (TxEnd keep) run = tt
 
+  -- a thread that asks what only a running thread asks runs by its list
   pub rides_run : (own : Own) (txn : Option Attempting) (ask : Ask) → ask ≡ ask_of c.stage → Rides P z.id c own txn → IsRun ask
       → life_of own.mine ≡ Running
   rides_run own txn ask is rides run =
@@ -139,6 +140,7 @@ module _ (P : Bytecode) (z : TableView) (c : Config) where
   access_runs x None = tt
   access_runs x (Some a) = tt
 
+  -- a thread that asks for an access runs by its list
   pub access_life : (own : Own) (txn : Option Attempting) (x : ℕ) (write : Option ℤ) → access_ask x write ≡ ask_of c.stage
       → Rides P z.id c own txn → life_of own.mine ≡ Running
   access_life own txn x write is rides = rides_run own txn (access_ask x write) is rides (access_runs x write)
@@ -148,10 +150,12 @@ module _ (P : Bytecode) (z : TableView) (c : Config) where
   near_by x None near = near
   near_by x (Some a) near = near
 
+  -- the variable that it asks to access is one that there is
   pub access_near : (own : Own) (txn : Option Attempting) (x : ℕ) (write : Option ℤ) → access_ask x write ≡ ask_of c.stage
       → Rides P z.id c own txn → x < VARIABLES
   access_near own txn x write is rides = near_by x write (rw (sym is) at rides.in_range)
 
+  -- outside an attempt no number waits
   pub outside_draws : (own : Own) (txn : Option Attempting) → txn ≡ None → Rides P z.id c own txn → own.drawn ≡ []
   outside_draws own txn idle rides = no_draws txn own idle rides.drawn
 
@@ -160,6 +164,7 @@ module _ (P : Bytecode) (z : TableView) (c : Config) where
   none_of None is = refl
   none_of (Some a) is = cc
 
+  -- an access that is asked for outside an attempt may be marked, where the list has room for an entry
   pub mark : (v : PassView) (txn : Option Attempting) (x : ℕ) (write : Option ℤ) → access_ask x write ≡ ask_of c.stage
       → Rides P z.id c v.own txn → txn ≡ None → 0 < v.spare → MayMark z v
   mark v txn x write is rides idle room = record {

@@ -62,7 +62,7 @@ pub held_is : (p : PassView) (x : ℕ) (row : Row) (tail : ℕ) → held_at (x +
 held_is p x row tail = ap (λ b. if b then row_held x row tail else held_at (x + 1) (map (with_tail tail) p.own.held))
     (eq-eqb (suc x) (x + 1) (omega arith))
 
--- a pass that walked over its row
+-- a walk over the row that was taken changes the pass in nothing but what it knows and loaded and how many steps it made
 pub walked_is : (p : PassView) (x : ℕ) (row : Row) (tail : ℕ) (w u : PassView) → w ≡ with_row p x row tail → HasWalked row w u → u
     ≡ walked_row p x row tail u.known u
 walked_is p x row tail w u is walk =
@@ -84,7 +84,7 @@ asks_as p q write by plain writes =
 pub block_is : (es : List Entry) (p : ℕ) → last_position es ≡ Some p → last_position es ≡ Some (block_of es)
 block_is es p e = e ∙ ap Some (sym (ap or_zero e))
 
--- the least monitors that its thread owns, before it took the row
+-- the least monitors that the thread owns, once the row was taken, are those that it owned before
 pub least_before : (setting : Setting) (p : PassView) (x : ℕ) (row : Row) (tail : ℕ) (w : PassView) (held : List ℕ) → w
     ≡ with_row p x row tail → OwnLeast setting w.own.id w.own.mine held → OwnLeast setting p.own.id p.own.mine held
 least_before setting p x row tail w held is least =
@@ -131,7 +131,7 @@ row_within p x row tail v w took_is within is =
     let has = subst (λ (z : PassView). Contains z.own.held (new_held (suc x) (slot.Row row))) (sym took_is) (0, omega arith, refl) in
     subst (IsWithin row) (sym (ap (λ (z : PassView). z.seen) is)) (within (new_held (suc x) (slot.Row row)) row has refl)
 
--- what an access is
+-- an access writes where a value is given, and is raised as it is said; a read has the row's word, and where it is raised 0
 pub access_facts : (row : Row) (w : Option ℤ) (r : Bool) → ((access_of row w r).write ≡ is_some w) × ((access_of row w r).raised ≡ r)
     × ((access_of row w r).write ≡ false → (access_of row w r).raised ≡ false → (access_of row w r).value ≡ row.value)
     × ((access_of row w r).raised ≡ true → (access_of row w r).write ≡ false → (access_of row w r).value ≡ pos 0)
@@ -283,6 +283,7 @@ module _ (p : PassView) (x : ℕ) (row : Row) (tail : ℕ) (known : List (ℕ ×
   none_left : (k : ℕ) (h : Held) → h.object ≡ k → without k (h ∷ []) ≡ []
   none_left k h e = ap (λ b. if not b then h ∷ [] else []) (eq-eqb h.object k e)
 
+  -- once the access was marked on the row, and the row put back, the pass is the one that stored the access
   pub is_stored : (a : PlainAccess) (u r : PassView) → p.own.held ≡ [] → u
       ≡ marked_plain (walked_row p x row tail known walker) x nth a.write a.value a.raised → r ≡ after u (left (view_of u) (suc x) false)
       → IsStored a r
@@ -393,7 +394,7 @@ module _ (setting : Setting) (p : PassView) (x : ℕ) (row : Row) (tail : ℕ) (
       subst (λ (z : PassView). MayPutBack setting (shelf_of z) (view_of z) (suc x) (slot.Row new) false)
       (sym (is ∙ ap (at_held p x row tail known walker nth a) (held_is p x row tail))) back
 
--- the events that it loaded
+-- an access that walked over its row, and made three steps more, loaded each event once
 loads_once : (p : PassView) (x : ℕ) (row : Row) (tail : ℕ) (w u r : PassView) → w ≡ with_row p x row tail → HasWalked row w u → r.seen
     ≡ tail → r.known ≡ u.known → r.moves ≡ moved 2 (moved 1 u.moves) → LoadsOnce row p r
 loads_once p x row tail w u r is walk seen known cost =

@@ -31,7 +31,8 @@ walk_costs row from tail steps events p q ends named is = record {
   others = ap (λ (m : Moves). m.others) is;
 }
 
--- of a check
+-- a check that walked over its row loaded at most five words for each event up to the tail, from any position on before which no Info of
+-- the row stands, and did nothing else
 pub check_costs : (row : Row) (p q : PassView) → HasWalked row p q → WalkCosts row p.seen 0 p q
 check_costs row p q w = walk_costs row w.from p.seen 0 w.events p q w.ends w.named
     (ap (λ (z : PassView). z.moves) w.is ∙ ap (with_loads (5 * length w.events)) (moved_none p.moves))
@@ -41,7 +42,7 @@ placed_long : (n : ℕ) (xs : List Stamp) → length (placed_from n xs) ≡ leng
 placed_long n [] = refl
 placed_long n (x ∷ xs) = ap suc (placed_long (suc n) xs)
 
--- a walk and some steps
+-- a pass that loaded these events, five words of each, came to know them and made so many other steps costs no more than these steps
 pub costs_walked : (from steps most : ℕ) (events : List Stamp) (p q : PassView) → q.known ≡ p.known ++ placed_from from events
     → q.moves ≡ with_loads (5 * length events) (moved steps p.moves) → steps ≤ most → CostsAtMost most p q
 costs_walked from steps most events p q known is few =
@@ -51,11 +52,11 @@ costs_walked from steps most events p q known is few =
     let o = ap (λ (m : Moves). m.others) is in
     record { loads = omega arith; stores = ap (λ (m : Moves). m.stores) is; others = omega arith }
 
--- no step
+-- a pass that does nothing costs no step
 pub costs_same : (p : PassView) → CostsAtMost 0 p p
 costs_same p = record { loads = refl; stores = refl; others = omega arith }
 
--- steps alone
+-- a pass that makes so many steps, and comes to know nothing, costs no more than these steps
 pub costs_steps : (steps : ℕ) (p q : PassView) → q.known ≡ p.known → q.moves ≡ moved steps p.moves → CostsAtMost steps p q
 costs_steps steps p q known is =
     let k = ap length known in

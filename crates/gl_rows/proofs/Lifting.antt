@@ -54,7 +54,7 @@ floor_step q x n h e at =
     ∙ ap (λ (l : List Held). holding q (record h { floor = Some n } ∷ l) (q.reads ++ Hold h.object n ∷ []) (moved 1 q.moves))
     (none_left h.object h refl)
 
--- it is raised
+-- the hold of the one held row is raised, with the row as it is moved up
 raise_step : (q : PassView) (x to : ℕ) (row : Row) (h : Held) → q.own.held ≡ h ∷ [] → h.object ≡ suc x
     → after q (raised (view_of q) (held_at (x + 1) q.own.held) (slot.Row row) to)
     ≡ holding q (record h { taken = slot.Row row; tails = q.seen ∷ []; floor = Some to } ∷ []) q.reads (moved 1 q.moves)
@@ -109,6 +109,7 @@ module _ (p : PassView) (x : ℕ) (row : Row) (before : ℕ) where
   abbrev pub floor_pass : PassView
   floor_pass = holding p (floored ∷ []) reads_floored floor_moves
 
+  -- where nothing was held, the pass that took the row holds just that row, and has it among what it read
   pub took_is : (v : PassView) → p.own.held ≡ [] → v ≡ after p (took (view_of p) (suc x) (slot.Row row)) → v
       ≡ holding p (new_held (suc x) (slot.Row row) ∷ []) (p.reads ++ Taken (suc x) (slot.Row row) ∷ []) (moved 2 p.moves)
   took_is v empty is = is ∙ take_step p x row empty
@@ -121,6 +122,7 @@ module _ (p : PassView) (x : ℕ) (row : Row) (before : ℕ) where
       (subst (λ (h : Held). Contains (new_held (suc x) (slot.Row row) ∷ []) h × (h.object ≡ suc x))
       (sym (head_held x (new_held (suc x) (slot.Row row)) refl)) ((0, omega arith, refl), refl))
 
+  -- once the row's hold was loaded too, the pass is the one that took the row and loaded its hold
   pub floor_is : (v u : PassView) → v ≡ holding p (new_held (suc x) (slot.Row row) ∷ []) (p.reads ++ Taken (suc x) (slot.Row row) ∷ [])
       (moved 2 p.moves) → u
       ≡ after v (saw_floor (view_of v) (held_at (x + 1) v.own.held) before) → u ≡ floor_pass
@@ -135,6 +137,7 @@ module _ (p : PassView) (x : ℕ) (row : Row) (before : ℕ) where
   may_put_first setting u is = subst (λ (z : PassView). MayPutBack setting (shelf_of z) (view_of z) (suc x) (slot.Row row) false) (sym is)
       (may_put_same setting floor_pass x floored row refl refl refl refl)
 
+  -- where the row goes back then, the pass is the first one, but for what it read and how many steps it made
   pub first_is : (u r : PassView) → p.own.held ≡ [] → u ≡ floor_pass → r ≡ after u (left (view_of u) (suc x) false) → r
       ≡ record p { reads = reads_floored; moves = moved 2 floor_moves }
   first_is u r empty is step =
@@ -146,14 +149,17 @@ module _ (p : PassView) (x : ℕ) (row : Row) (before : ℕ) where
   lifted tail known loaded m = record (holding p
       (with_tail tail floored ∷ []) reads_floored m) { seen = tail; known = known; loaded = loaded }
 
+  -- once the tail was loaded, the pass has seen that tail, and so has the row that it holds
   pub tail_is : (u v : PassView) (tail : ℕ) → u ≡ floor_pass → v ≡ after u (saw_tail (view_of u) tail)
       → v ≡ lifted tail p.known p.loaded (moved 1 floor_moves)
   tail_is u v tail is step = step ∙ ap (λ (z : PassView). after z (saw_tail (view_of z) tail)) is
 
+  -- the row is held still
   pub holds_lifted : (v : PassView) (tail : ℕ) → v ≡ lifted tail p.known p.loaded (moved 1 floor_moves) → HoldsRow v row
   holds_lifted v tail is = subst (λ (z : PassView). HoldsRow z row) (sym is)
       (with_tail tail floored, (0, omega arith, refl), (x, refl), refl)
 
+  -- where each held row lies within the tail that was loaded, the row lies within what the pass has seen
   pub within_lifted : (u v : PassView) (tail : ℕ) → u ≡ floor_pass
       → ((h : Held) (r : Row) → Contains u.own.held h → h.taken ≡ slot.Row r → IsWithin r tail)
       → v ≡ lifted tail p.known p.loaded (moved 1 floor_moves)
@@ -162,6 +168,7 @@ module _ (p : PassView) (x : ℕ) (row : Row) (before : ℕ) where
       let has = subst (λ (z : PassView). Contains z.own.held floored) (sym was) (0, omega arith, refl) in
       subst (IsWithin row) (sym (ap (λ (z : PassView). z.seen) is)) (within floored row has refl)
 
+  -- a walk over the row's Infos changes the pass in nothing but what it knows and loaded and how many steps it made
   pub lifted_is : (v w : PassView) (to tail : ℕ) → v ≡ lifted tail p.known p.loaded (moved 1 floor_moves) → HasWalkedTo row to v w → w
       ≡ lifted tail w.known w.loaded w.moves
   lifted_is v w to tail is walk =
@@ -209,12 +216,14 @@ module _ (p : PassView) (x : ℕ) (row : Row) (before : ℕ) where
   abbrev pub raised_pass : ℕ → ℕ → Row → List (ℕ × Stamp) → List CellWord → Moves → PassView
   raised_pass to tail new known loaded m = holding (lifted tail known loaded m) (raised_held to tail new ∷ []) reads_floored (moved 1 m)
 
+  -- once the hold was raised, the pass holds the row as it is moved up, with that hold
   pub raised_is : (w u : PassView) (to tail : ℕ) (new : Row) → w ≡ lifted tail w.known w.loaded w.moves → u
       ≡ after w (raised (view_of w) (held_at (x + 1) w.own.held) (slot.Row new) to) → u ≡ raised_pass to tail new w.known w.loaded w.moves
   raised_is w u to tail new is step =
       step ∙ ap (λ (z : PassView). after z (raised (view_of z) (held_at (x + 1) z.own.held) (slot.Row new) to)) is
       ∙ raise_step (lifted tail w.known w.loaded w.moves) x to new (with_tail tail floored) refl refl
 
+  -- the held row is there, as the call for its hold asks for it
   pub holds_raised : (u : PassView) (to tail : ℕ) (new : Row) (known : List (ℕ × Stamp)) (loaded : List CellWord) (m : Moves) → u
       ≡ raised_pass to tail new known loaded m → Contains u.own.held (held_at (x + 1) u.own.held)
       × ((held_at (x + 1) u.own.held).object ≡ suc x)
@@ -236,6 +245,7 @@ module _ (p : PassView) (x : ℕ) (row : Row) (before : ℕ) where
       holding (lifted tail known loaded m) (record (raised_held to tail new) { floor = Some hold } ∷ []) (reads_floored ++ Hold (suc x) hold
       ∷ []) (moved 1 (moved 1 m))
 
+  -- once the hold was loaded again, the pass has it among what it read
   pub last_is : (u v : PassView) (to tail hold : ℕ) (new : Row) (known : List (ℕ × Stamp)) (loaded : List CellWord) (m : Moves) → u
       ≡ raised_pass to tail new known loaded m → v ≡ after u (saw_floor (view_of u) (held_at (x + 1) u.own.held) hold) → v
       ≡ last_pass to tail hold new known loaded m
@@ -243,6 +253,7 @@ module _ (p : PassView) (x : ℕ) (row : Row) (before : ℕ) where
       step ∙ ap (λ (z : PassView). after z (saw_floor (view_of z) (held_at (x + 1) z.own.held) hold)) is
       ∙ floor_step (raised_pass to tail new known loaded m) x hold (raised_held to tail new) refl refl
 
+  -- the row that was moved up may be put back then
   pub may_put_last : (setting : Setting) (v : PassView) (to tail hold : ℕ) (new : Row) (known : List (ℕ × Stamp))
       (loaded : List CellWord) (m : Moves)
       → v ≡ last_pass to tail hold new known loaded m → MayPutBack setting (shelf_of v) (view_of v) (suc x) (slot.Row new) false
@@ -251,6 +262,8 @@ module _ (p : PassView) (x : ℕ) (row : Row) (before : ℕ) where
       (may_put_same setting (last_pass to tail hold new known loaded m) x (record (raised_held to tail new) { floor = Some hold }) new refl
       refl refl refl)
 
+  -- once it was put back, the pass is the first one, but for the tail that
+  -- it has seen, what it knows, loaded and read, and how many steps it made
   pub end_is : (v r : PassView) (to tail hold : ℕ) (new : Row) (known : List (ℕ × Stamp)) (loaded : List CellWord) (m : Moves)
       → p.own.held ≡ [] → v
       ≡ last_pass to tail hold new known loaded m → r ≡ after v (left (view_of v) (suc x) false)
@@ -289,6 +302,7 @@ module _ (p : PassView) (x : ℕ) (row : Row) (before : ℕ) where
     cost = ap (λ (z : PassView). z.moves) is ∙ five_steps p.moves ∙ loads_none (moved 5 p.moves);
   }
 
+  -- where the hold was raised from below the position, and is the position in the end, the pass has advanced the row to it
   pub advanced_last : (v w r : PassView) (to tail hold : ℕ) → before < to → hold ≡ to
       → v ≡ lifted tail p.known p.loaded (moved 1 floor_moves)
       → HasWalkedTo row to v w → r ≡ record p {

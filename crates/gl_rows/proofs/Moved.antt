@@ -40,6 +40,7 @@ window_agrees setting s seen known from to window l ends near is f =
     ∙ subst (λ (z : List Stamp). slice_get z (from + k) ≡ Some x) (sym (take-append-drop to l)) there)
 
 module _ (l : List Stamp) (from to : ℕ) (window : List Stamp) (is : drop from (take to l) ≡ window) (near : to ≤ length l) where
+  -- an Info that stands from the window's start on, and was moved up by the window's events, was walked on over the list
   pub info_moved_to : (old new : Info) → from ≤ old.pos → old.pos ≤ length l → IsMovedTo from to window old new → IsMoved l old new
   info_moved_to old new behind within (inl s) = subst (IsMoved l old) (sym s.1) (unmoved l old within)
   info_moved_to old new behind within (inr (lt, w)) =
@@ -68,6 +69,7 @@ module _ (l : List Stamp) (from to : ℕ) (window : List Stamp) (is : drop from 
   kept_moved_to (Some o) None at m = absurd m
   kept_moved_to (Some o) (Some n) at m = info_moved_to o n (at o refl).0 (at o refl).1 m
 
+  -- a row whose Infos stand there, and were moved up so, was walked on over the list
   pub row_moved_to : (old new : Row) → ((i : Info) → InRow old i → from ≤ i.pos) → IsWithin old (length l)
       → IsRowMovedTo from to window old new → IsRowMoved l old new
   row_moved_to old new behind within m = record {
@@ -91,11 +93,12 @@ module _ (from to : ℕ) (window : List Stamp) where
   kept_above (Some o) None m i e = absurd m
   kept_above (Some o) (Some n) m i e = let same : n ≡ i = cc in subst (λ (k : Info). to ≤ k.pos) same (info_above o n m)
 
+  -- no Info of the row as it was moved stands before the position
   pub row_above : (old new : Row) → IsRowMovedTo from to window old new → (i : Info) → InRow new i → to ≤ i.pos
   row_above old new m i (inl e) = kept_above old.last_write new.last_write m.last_write i e
   row_above old new m i (inr (t, e)) = kept_above (read_of old.reads t) (read_of new.reads t) (m.reads t) i e
 
--- a row whose Infos were moved over the events that the pass loaded for it
+-- a row whose Infos were moved up by the events that the pass loaded was walked on, over each list that fits the pass
 pub row_lifted : (setting : Setting) (p q : PassView) (from to : ℕ) (window : List Stamp) (old new : Row) → KnowsFrom from window p q
     → from + length window ≡ to → to ≤ p.seen → ((i : Info) → InRow old i → from ≤ i.pos) → IsWithin old p.seen
     → IsRowMovedTo from to window old new

@@ -63,6 +63,7 @@ module _ (setting : Setting) (t p x nth : ℕ) (es : List Entry) (write raised :
   abbrev Fits : List Stamp → Type 0
   Fits l = IsFitting setting (shelf t (es ++ Plain x nth false write value raised ∷ [])) seen known l
 
+  -- the thread's last event stays the last one with the plain entry behind it
   pub still_last : last_position (es ++ e ∷ []) ≡ Some p
   still_last = last_push es e ∙ last
 

@@ -47,7 +47,7 @@ still_trans p q r a b = record {
 still_same : (p : PassView) → IsStill p p
 still_same p = record { own = refl; spare = refl; quiet = refl; later = omega arith }
 
--- the hold was loaded
+-- one thing more among what it read changes nothing of a pass's own
 still_saw : (p q : PassView) (r : Read) → q ≡ after p (saw (view_of p) r) → IsStill p q
 still_saw p q r is = subst (IsStill p) (sym is) (record { own = refl; spare = refl; quiet = refl; later = omega arith })
 
@@ -55,7 +55,7 @@ still_saw p q r is = subst (IsStill p) (sym is) (record { own = refl; spare = re
 at_once : (x m : ℕ) → Hold (x + 1) m ≡ Hold (suc x) m
 at_once x m = let same : x + 1 ≡ suc x = omega arith in ap (λ k. Hold k m) same
 
--- a row whose hold is far enough
+-- a row whose hold was loaded, and is far enough, was tried
 pub tried_far : (x to n : ℕ) (p q : PassView) → q ≡ after p (saw (view_of p) (Hold (x + 1) n)) → to ≤ n → IsTried x to p q
 tried_far x to n p q is le = record {
   still = still_saw p q (Hold (x + 1) n) is;
@@ -84,7 +84,7 @@ few_steps : (x to hold steps : ℕ) (holds : List Read) → LoadedHolds x to hol
 few_steps x to hold steps holds (inl (le, is, some)) = omega arith
 few_steps x to hold steps holds (inr (before, below, same, is, some)) = omega arith
 
--- a row that was to be moved up, whatever came of it
+-- a row whose hold was loaded, and that then was moved up to the position or was found busy, was tried
 pub tried_by : (x to n : ℕ) (p q r : PassView) (answer : Result ℕ WasBusy) → q ≡ after p (saw (view_of p) (Hold (x + 1) n))
     → IfOk answer (λ hold. HasAdvanced x to q hold r) → IfErr answer (λ b. ReadBusy x b.by q r) → IsStill q r → IsTried x to p r
 tried_by x to n p q r (Ok hold) is done busy still =
@@ -109,7 +109,7 @@ tried_by x to n p q r (Err b) is done busy still = record {
       (costs_steps 1 q r busy.known busy.cost) (omega arith);
 }
 
--- no row yet
+-- a pass that did nothing has tried the rows below 0
 pub tried_none : (to : ℕ) (p : PassView) → AreTried 0 to p p
 tried_none to p = record {
   still = still_same p;
@@ -119,7 +119,7 @@ tried_none to p = record {
   cost = costs_same p;
 }
 
--- one row more
+-- once the row of k was tried too, the rows of the variables below k + 1 were tried
 pub tried_next : (k to : ℕ) (p q r : PassView) → AreTried k to p q → IsTried k to q r → AreTried (k + 1) to p r
 tried_next k to p q r a t = record {
   still = still_trans p q r a.still t.still;
@@ -133,7 +133,7 @@ tried_next k to p q r a t = record {
   cost = costs_both (9 * k) 9 (9 * (k + 1)) p q r a.cost t.cost (omega arith);
 }
 
--- the tail was loaded first
+-- loading the tail changes nothing of what the pass owns, which holds no object
 pub may_try : (z : TableView) (p q : PassView) (tail : ℕ) → MaySettle z p → q ≡ after p (saw_tail (view_of p) tail) → (q.own ≡ p.own)
     × (q.own.held ≡ [])
 may_try z p q tail may is =
@@ -163,7 +163,7 @@ same_trims before to low is = by (nat_lt before to) refl
         let below : low ≤ before = omega arith in
         ap (λ b. if b then Trim to ∷ [] else []) e ∙ sym (ap (λ b. if b then Trim low ∷ [] else []) (le-ltb before low below))
 
--- the whole
+-- where the tail was loaded, then each row was tried, and then the first segment was settled, the pass has swept
 pub swept : (z : TableView) (p q r s : PassView) (tail to low : ℕ) → 0 < z.key.cells → q ≡ after p (saw_tail (view_of p) tail)
     → p.seen ≤ tail → q.own ≡ p.own → to ≡ tail / z.key.cells * z.key.cells → AreTried VARIABLES to q r → IsSettled z r s low
     → IsSwept z p s low

@@ -44,12 +44,12 @@ placed_at n (y ∷ xs) (suc k) x e =
     subst (λ m. Contains (placed_from n (y ∷ xs)) (m, x)) same
     (in_cons (n, y) (placed_from (suc n) xs) (suc n + k, x) (placed_at (suc n) xs k x e))
 
--- a pass that loaded nothing
+-- a pass that did nothing has loaded no events, from whatever position on
 pub knows_none : (n : ℕ) (p : PassView) → KnowsFrom n [] p p
 knows_none n p = ap (λ (known : List (ℕ × Stamp)). record p { known = known }) (sym (append-nil p.known))
     ∙ ap (λ (m : Moves). record p { known = p.known ++ []; moves = m }) (loads_none p.moves)
 
--- a pass that loaded one event more
+-- a pass that knows these events, and then loads the one behind them, knows that one too
 pub knows_next : (n m : ℕ) (xs : List Stamp) (x : Stamp) (p q r : PassView) → n + length xs ≡ m → KnowsFrom n xs p q → r
     ≡ record q { known = r.known; loaded = r.loaded; moves = with_loads 5 q.moves } → r.known ≡ q.known ++ (m, x) ∷ []
     → KnowsFrom n (xs ++ x ∷ []) p r
@@ -81,7 +81,7 @@ empty_of : (xs : List Stamp) → length xs ≡ 0 → xs ≡ []
 empty_of [] e = refl
 empty_of (x ∷ xs) e = absurd (omega arith)
 
--- a walk over a row from the least position of its Infos
+-- a pass that loaded the events up to a position, from that of an Info of the row or none at all, has walked over the row up to there
 pub has_walked : (row : Row) (n to : ℕ) (xs : List Stamp) (p q : PassView) → KnowsFrom n xs p q → n + length xs ≡ to → (n ≡ to)
     ⊎ ((i : Info) × InRow row i × (i.pos ≡ n)) → HasWalkedTo row to p q
 has_walked row n to xs p q is ends named = record {
@@ -92,7 +92,7 @@ has_walked row n to xs p q is ends named = record {
   named = elim named [ inl e ↦ inl (empty_of xs (omega arith)) | inr i ↦ inr i ];
 }
 
--- no walk
+-- a pass that did nothing has walked over its row, which loaded no event
 pub not_walked : (row : Row) (p : PassView) → HasWalked row p p
 not_walked row p = record { from = p.seen; events = []; is = knows_none p.seen p; ends = add-zero p.seen; named = inl refl }
 

@@ -95,6 +95,7 @@ module _ (asked : Option Command) (source_before source_now sink_before sink_now
     no_write = λ other. absurd (other cut.status_is);
   }
 
+  -- where what was to be written has its cause, so has the status that is answered
   pub causes_of : (r : Result Page Stop) (a : Answer) → ReplyCause asked source_before source_now r
       → Finishes r a sink_before sink_now before now
       → HasCauses asked source_before source_now sink_before sink_now a.status
@@ -130,6 +131,7 @@ not_answered : (s stop : ℕ) → s ≡ stop → (stop ≡ READ_FAILED) ⊎ (sto
 not_answered s stop is one answered = grind arith
 
 module _ (asked : Option Command) (left left_now : Option (List ℕ)) (sink_before sink_now : ℕ) (before now : Option (List ℕ)) where
+  -- where the source was left as what was to be written says, it was left as the status that is answered says
   pub left_of : (r : Result Page Stop) (a : Answer) → (ReadsNothing asked → left_now ≡ left)
       → ((most : ℕ) → most_of asked ≡ Some most → IfOk r (λ p. IsAccepted p.status → IsAtEnd left_now))
       → ((most : ℕ) → most_of asked ≡ Some most → OnOk r (HasRead most left left_now)) → Finishes r a sink_before sink_now before now
@@ -168,6 +170,7 @@ module _ (keep : Keep) (asked : Option Command) (left : Option (List ℕ)) (sour
       (subst (λ k. Serves keep asked left status k before now) (sym done.kept_is)
       (subst (λ b. Serves keep asked left status None b now) done.same (stopped keep asked left status now stop)))
 
+  -- where what was to be written is the page for some input, what was written and what is kept serve the words
   pub written_of : (r : Result Page Stop) (a : Answer) → ReplyCause asked source_before source_now r → IfOk r (RepliesTo keep asked left)
       → Finishes r a sink_before sink_now before now → Serves keep asked left a.status a.kept before now
   written_of (Ok p) a cause page (kept, inl written) =

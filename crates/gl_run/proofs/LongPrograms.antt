@@ -24,7 +24,7 @@ use Rattle.gl_run.specs.declared.status.TheConstants.{NO_COMMAND, READ_FAILED, W
 use Rattle.gl_run.specs.declared.words.Command.{Command}
 use Rattle.gl_run.specs.declared.words.Command.TheVariants as commands
 
--- one number in both
+-- numbers that are equal as options are equal
 some_number : (m n : ℕ) → Some m ≡ Some n → m ≡ n
 some_number m n e = cc
 

@@ -136,9 +136,11 @@ module _ (settled : LastIsSettled) (apart : (text : List ℕ) (trace : List Trac
         one.kept_is ∙ sym two.kept_is,
       )
 
+  -- no text is both accepted and refused by `check`
   pub checks_apart : ChecksAreApart
   checks_apart keep input s t a b j k one two = apart input one.trace two.line two.kind one.meaning two.fault
 
+  -- `check` has one answer for each input
   pub checks_one : ChecksAreOne
   checks_one keep input s t a b j k one two =
       elim one [

@@ -46,6 +46,7 @@ TextsAreOne =
     → IsAuditText text Q ys n S → (draft_of P ≡ draft_of Q) × (xs ≡ ys) × (m ≡ n) × (R ≡ S)
 
 module _ (apart : TextsAreApart) (faults : FaultsAreOne) (texts : TextsAreOne) (once : OneFinding) where
+  -- no text is both accepted and refused by `audit`
   pub audits_apart : AuditsAreApart
   audits_apart input s t a b j k one two = apart input one.program one.inputs one.steps one.made two.line two.kind one.meaning two.fault
 
@@ -69,6 +70,7 @@ module _ (apart : TextsAreApart) (faults : FaultsAreOne) (texts : TextsAreOne) (
         one.kept_is ∙ sym two.kept_is,
       )
 
+  -- `audit` has one answer for each input
   pub audits_one : AuditsAreOne
   audits_one input s t a b j k one two =
       elim one [
@@ -93,6 +95,7 @@ module _ (apart : TextsAreApart) (faults : FaultsAreOne) (texts : TextsAreOne) (
             one.status_is ∙ ap finding_status (once P inputs steps made one.finding Lawful is right lawful),
       )
 
+  -- the status of `audit` is that of no fault exactly where the record that the text says is lawful
   pub audits_exact : AuditsAreExact
   audits_exact input P inputs steps made status bytes kept meaning one =
       elim one [

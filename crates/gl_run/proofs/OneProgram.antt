@@ -48,6 +48,7 @@ module _ (apart : (text : List ℕ) (program : Bytecode) (inputs : List ℤ) (li
     (faults : (text : List ℕ) (a b j k : ℕ) → IsFirstFault text a j → IsFirstFault text b k → (a ≡ b) × (j ≡ k))
     (texts : (text : List ℕ) (P Q : Bytecode) (xs ys : List ℤ) → IsText text P xs → IsText text Q ys → (draft_of P ≡ draft_of Q)
     × (xs ≡ ys)) where
+  -- no text is both accepted and refused by `list`
   pub listings_apart : ListingsAreApart
   listings_apart input s t a b j k one two = apart input one.program one.inputs two.line two.kind one.meaning two.fault
 
@@ -59,6 +60,7 @@ module _ (apart : (text : List ℕ) (program : Bytecode) (inputs : List ℤ) (li
       let program : one.program ≡ two.program = same_program one.program two.program same.0
       in (one.status_is ∙ sym two.status_is, one.bytes_are ∙ ap listing program ∙ sym two.bytes_are, one.kept_is ∙ sym two.kept_is)
 
+  -- `list` has one answer for each input
   pub listings_one : ListingsAreOne
   listings_one input s t a b j k one two =
       elim one [
@@ -72,6 +74,7 @@ module _ (apart : (text : List ℕ) (program : Bytecode) (inputs : List ℤ) (li
 module _ (apart : (text : List ℕ) (program : Bytecode) (inputs : List ℤ) (line kind : ℕ) → IsText text program inputs
     → IsFirstFault text line kind → ⊥)
     (faults : (text : List ℕ) (a b j k : ℕ) → IsFirstFault text a j → IsFirstFault text b k → (a ≡ b) × (j ≡ k)) where
+  -- no text is both accepted and refused by a run
   pub runs_apart : RunsAreApart
   runs_apart options input s t a b j k one two = apart input one.program one.inputs two.line two.kind one.meaning two.fault
 
@@ -87,6 +90,7 @@ module _ (apart : (text : List ℕ) (program : Bytecode) (inputs : List ℤ) (li
             ∙ ap (λ (m : SealedView). run_text options m.entries) same ∙ sym y.bytes_are,
       )
 
+  -- what is kept of a run settles the rest of its answer
   pub runs_told : RunsAreTold
   runs_told options input s t a b kept one two =
       elim one [
@@ -181,6 +185,7 @@ module _ (checks : ChecksAreOne) (listings : ListingsAreOne) (audits : AuditsAre
   texts_told keep (commands.Load load) input s t a b kept one two = loads load s t a b kept one two
   texts_told keep commands.Audit input s t a b kept one two = let same = audits input s t a b kept kept one two in (same.0, same.1)
 
+  -- words that run no program have one answer for each input
   pub replies_one : RepliesAreOne
   replies_one keep asked input none s t a b j k one two =
       elim one [
@@ -198,6 +203,7 @@ module _ (checks : ChecksAreOne) (listings : ListingsAreOne) (audits : AuditsAre
             ]
       ]
 
+  -- whatever the words are, what is kept settles the rest of the answer
   pub replies_told : RepliesAreTold
   replies_told keep asked input s t a b kept one two =
       elim one [

@@ -8,11 +8,11 @@ use Rattle.gl_model.specs.Kept.{IsRecord}
 use Rattle.gl_model.specs.Lists.{list_of, lists_of}
 use Rattle.gl_trace.proofs.TracerLemmas.{below_none, weaker}
 
--- the list of the first thread
+-- where the first list is thread t's, it is the list of t
 pub first_list : (l : ℕ × List Entry) (ls : List (ℕ × List Entry)) (t : ℕ) → l.0 ≡ t → lists_of (l ∷ ls) t ≡ l.1
 first_list l ls t same = ap (λ b. unwrap_or (if b then Some l.1 else list_of ls t) []) (eq-eqb l.0 t same)
 
--- that of another
+-- where it is another thread's, the list of t is the one among the others
 pub other_list : (l : ℕ × List Entry) (ls : List (ℕ × List Entry)) (t : ℕ) → (l.0 ≡ t → ⊥) → lists_of (l ∷ ls) t ≡ lists_of ls t
 other_list l ls t other = ap (λ b. unwrap_or (if b then Some l.1 else list_of ls t) []) (ne_eqb l.0 t other)
 

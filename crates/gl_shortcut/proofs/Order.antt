@@ -44,6 +44,7 @@ module _ (setting : Setting) (h : List Stamp) (i : Info) (a : Access) (write : B
       (taken_map (set_after h i) (LocksetAt h a (length h)) (record { thread = q.thread; event = Commits xs }) (λ y k. (here y).0 k)
       (Thread q.thread) c))
 
+  -- where the Info passes the test, the access happens before the question's, or both are commits
   pub passes_ordered : IsOrderedOrExcepted (set_after h i) q.thread q.commit → IsOrderedBefore h a q
   passes_ordered c = ∣ ordered q.commit c ∣₁
 
@@ -68,6 +69,7 @@ module _ (setting : Setting) (h : List Stamp) (i : Info) (a : Access) (write : B
   both_pass None some none = absurd (cc)
   both_pass (Some xs) some one = inl (has_mark some)
 
+  -- and where one of these is so, the Info does not fail the test
   pub ordered_passes : IsOrderedBefore h a q → Fails h i q.thread q.commit → ⊥
   ordered_passes o fails = ∥∥₁_elim o (λ x y. absurd x)
       (λ k. fails (elim k [ inl before ↦ passes q.commit before | inr both ↦ both_pass q.commit both.0 both.1 ]))

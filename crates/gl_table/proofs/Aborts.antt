@@ -73,6 +73,7 @@ module _ (me : table.Me Slot View) (t : ℕ) (mine : List Entry) (seen : ℕ) (o
     ),
   )
 
+  -- a reason for which the attempt may be dropped can be kept
   pub abort_kept : (tx : Tx) (why : Why) → MayAbortAs (shelf t mine) now tx why → IsWhyKept why
   abort_kept tx (Changed var read found) m = let r = m.1.drop.rows var (here_in var)
       in held_near me.1 order now.held p.out r.one var r.held r.object
@@ -101,6 +102,7 @@ module _ (me : table.Me Slot View) (t : ℕ) (mine : List Entry) (seen : ℕ) (o
   gone tx (Raised var) = out.out_mapped me.1 order now.held p.out
       (with_drew (variables_of tx) (draw t (block_of mine) (Entered (Abort tx (Raised var))))) (λ h. refl)
 
+  -- once it was dropped, with a transaction that can be kept, the pass has that entry more in its list, and the rest is as before
   pub pass_aborts : (tx : Tx) (why : Why) (mine' : List Entry) → MayAbortAs (shelf t mine) now tx why → IsTxKept tx → mine' ≡ mine
       ++ Abort tx why ∷ [] → IsPass me t mine' seen order quiet × (caught_up me.0 t mine' ≡ adds_one now t mine (Abort tx why))
   pass_aborts tx why mine' m kept more = pass_adds me t mine seen order quiet p (Abort tx why) mine' (may_add tx why m) (same_seen tx why)

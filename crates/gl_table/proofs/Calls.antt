@@ -45,6 +45,7 @@ module _ (key : Key) (slots id : ℕ) (me : table.Me Slot View) (t : ℕ) (es : 
   as_told i f tells a = subst (λ z. table.Allows (Rule key) slots id me i f (tells z)) (sym told)
       (record_first key slots id me.0 (caught_up me.0 t es) me.1 ready.more i f (tells (caught_up me.0 t es)) ready.adds a)
 
+  -- an object that there is and that the pass does not hold may be taken
   pub may_take : (setting : Setting) (k y : ℕ) → y ≡ k → setting ≡ key.setting → k < objects → DoesNotHold (caught_up me.0 t es).held k
       → table.Allows (Rule key) slots id me (3 * k + 1) (λ n. either (n == 0) (t + 1) n) (Took setting y u me.1)
   may_take setting k y is same near free =
@@ -53,6 +54,7 @@ module _ (key : Key) (slots id : ℕ) (me : table.Me Slot View) (t : ℕ) (es : 
       (as_told (3 * k + 1) (λ n. either (n == 0) (t + 1) n) (λ z. Took key.setting k z me.1)
       (takes_turn key slots id k (caught_up me.0 t es) me.1 (shelf t es) near refl (λ o. free o.0 o.1 o.2))))
 
+  -- the held object may be put back as it is, where the rule lets it be put back so
   pub may_leave : (k y : ℕ) (q r : Bool) → y ≡ k → r ≡ q → objects ≤ slots
       → (x : Slot) × (c : List (ℕ × Slot)) × (me.1 ≡ (k, x) ∷ c) × MayPutBack key.setting (shelf t es) (caught_up me.0 t es) k x q
       → table.Allows (Rule key) slots id me (3 * k + 1) (λ _. 0) (λ _. Left y r u me.1)
@@ -73,19 +75,24 @@ module _ (key : Key) (slots id : ℕ) (me : table.Me Slot View) (t : ℕ) (es : 
       (subst (λ z. table.Allows (Rule key) slots id me (3 * k + 1) (λ _. 0) (λ _. Left z q u me.1)) (sym is)
       (as_told (3 * k + 1) (λ _. 0) (λ z _. Left k q z me.1) d))
 
+  -- the tail may be loaded
   pub may_tail : table.Allows (Rule key) slots id me 0 (λ n. n) (SawTail u me.1)
   may_tail = as_told 0 (λ n. n) (λ z. SawTail z me.1) (loads_tail key slots id (caught_up me.0 t es) me.1)
 
+  -- the hold of an object that there is may be loaded
   pub may_hold : (k y : ℕ) → y ≡ k → k < objects → table.Allows (Rule key) slots id me (3 * k + 2) (λ n. n) (SawHold y u me.1)
   may_hold k y is near = subst (λ z. table.Allows (Rule key) slots id me (3 * k + 2) (λ n. n) (SawHold z u me.1)) (sym is)
       (as_told (3 * k + 2) (λ n. n) (λ z. SawHold k z me.1) (loads_hold key slots id k (caught_up me.0 t es) me.1 near))
 
+  -- the stop word may be set
   pub may_set : table.Allows (Rule key) slots id me 3075 (λ _. 1) (λ _. Saw SetStop u me.1)
   may_set = as_told 3075 (λ _. 1) (λ z _. Saw SetStop z me.1) (sets_stop key slots id (caught_up me.0 t es) me.1)
 
+  -- the stop word may be loaded
   pub may_stop : table.Allows (Rule key) slots id me 3075 (λ n. n) (SawStop u me.1)
   may_stop = as_told 3075 (λ n. n) (λ z. SawStop z me.1) (loads_stop key slots id (caught_up me.0 t es) me.1)
 
+  -- the next word of an event may be stored in the cell for a tail, where the rule lets it be stored
   pub may_put : (cell i n : ℕ) → (h : Held) × (tail : ℕ) × MayStoreWord key (caught_up me.0 t es) h tail × (cell ≡ tail % capacity key) → i
       ≡ length (caught_up me.0 t es).stored → table.Allows (Rule key) slots id me (3076 + 5 * cell + i) (λ _. n) (λ _. PutWord n u me.1)
   may_put cell i n (h, tail, may, here) next =
@@ -94,6 +101,7 @@ module _ (key : Key) (slots id : ℕ) (me : table.Me Slot View) (t : ℕ) (es : 
       (as_told (cell_at (capacity key) tail (length (caught_up me.0 t es).stored)) (λ _. n) (λ z _. PutWord n z me.1)
       (puts_word key slots id n (caught_up me.0 t es) me.1 h tail may)))
 
+  -- an event that is an act may be published, where no number waits and the rule lets it be published
   pub may_publish : (e : EventSaid) (act : Act) (value : ℤ) (l' : ListView) → e
       ≡ record { shelf = shelf t es; act = act; value = value; state = slot.List l' } → (caught_up me.0 t es).drawn ≡ []
       → (h : Held) × (l : ListView) × MayPublish key (shelf t es) (caught_up me.0 t es) h l l' (λ n. Sync n act value)
@@ -105,6 +113,7 @@ module _ (key : Key) (slots id : ℕ) (me : table.Me Slot View) (t : ℕ) (es : 
       (as_told 0 (λ n. (n + 1) % 2 ^ 64) (λ z. PublishedAct (shelf t es) act value (slot.List l') z me.1)
       (publishes_act key slots id (caught_up me.0 t es) me.1 (shelf t es) h l l' act value refl idle may))
 
+  -- the number of a plain access may be drawn on a held row, where the rule lets the access be marked there
   pub may_draw : (m : MarkSaid) (h g : Held) (x y p : ℕ) (write : Bool) (value : ℤ) (raised : Bool) → m
       ≡ record { shelf = shelf t es; block = p; write = write; value = value; raised = raised } → y ≡ x → g ≡ h → (taken : Row)
       × (q : Question) × MayMark key.setting (shelf t es) (caught_up me.0 t es) h x taken p q write value raised
@@ -123,6 +132,7 @@ module _ (key : Key) (slots id : ℕ) (me : table.Me Slot View) (t : ℕ) (es : 
       (as_told (3 * h.object) (λ n. (n + 1) % 2 ^ 64) (λ z. Marked (shelf t es) h x p write value raised z me.1)
       (marks_plain key slots id (caught_up me.0 t es) me.1 (shelf t es) h x may.0 p may.1 write value raised refl may.2)))))
 
+  -- the hold of a held row may be loaded
   pub may_floor : (x : ℕ) (h g : Held) → g ≡ h → Contains (caught_up me.0 t es).held h × (h.object ≡ suc x)
       → table.Allows (Rule key) slots id me (3 * (x + 1) + 2) (λ n. n) (SawFloor g u me.1)
   may_floor x h g is has =
@@ -132,6 +142,7 @@ module _ (key : Key) (slots id : ℕ) (me : table.Me Slot View) (t : ℕ) (es : 
       (as_told (3 * h.object + 2) (λ n. n) (λ z. SawFloor h z me.1)
       (loads_floor key slots id (caught_up me.0 t es) me.1 h has.0 (λ e. let a = has.1 in absurd (omega arith)))))
 
+  -- the hold of a held row may be set to a position, where the rule lets the row be moved up to it
   pub may_raise : (x to : ℕ) (row : Row) (h g : Held) (y : Slot) → g ≡ h → y ≡ slot.Row row → (taken : Row)
       × MayRaise key.setting (shelf t es) (caught_up me.0 t es) h x taken row to
       → table.Allows (Rule key) slots id me (3 * (x + 1) + 2) (λ _. to) (λ _. Raised g y to u me.1)
@@ -143,6 +154,7 @@ module _ (key : Key) (slots id : ℕ) (me : table.Me Slot View) (t : ℕ) (es : 
       (as_told (3 * h.object + 2) (λ _. to) (λ z _. Raised h (slot.Row row) to z me.1)
       (raises_hold key slots id (caught_up me.0 t es) me.1 (shelf t es) h x may.0 row to refl may.1))))
 
+  -- the first segment may be raised to another one, where the rule lets the pass trim to it
   pub may_lower : (to y : ℕ) (s : Shelf) → s ≡ shelf t es → y ≡ to → MayTrim key (shelf t es) (caught_up me.0 t es) to
       → table.Allows (Rule key) slots id me 2 (λ n. max n to) (Lowered s y u me.1)
   may_lower to y s is same may =
@@ -151,6 +163,7 @@ module _ (key : Key) (slots id : ℕ) (me : table.Me Slot View) (t : ℕ) (es : 
       (as_told 2 (λ n. max n to) (λ z. Lowered (shelf t es) to z me.1)
       (raises_low key slots id to (caught_up me.0 t es) me.1 (shelf t es) refl may)))
 
+  -- the number of a look, or of an attempt's end, may be drawn on a held row, where the rule lets it be drawn there
   pub may_open : (a b : Shelf) (h g : Held) (x y p q : ℕ) (look o : Option ℤ) → b ≡ a → a ≡ shelf t es → q ≡ p → y ≡ x → g ≡ h → o ≡ look
       → (taken : Row) × MayOpen (shelf t es) (caught_up me.0 t es) h x taken p look
       → table.Allows (Rule key) slots id me (3 * (x + 1)) (λ n. (n + 1) % 2 ^ 64) (Opened b g y q o u me.1)
@@ -169,6 +182,7 @@ module _ (key : Key) (slots id : ℕ) (me : table.Me Slot View) (t : ℕ) (es : 
       (as_told (3 * h.object) (λ n. (n + 1) % 2 ^ 64) (λ z. Opened (shelf t es) h x p look z me.1)
       (marks_open key slots id (caught_up me.0 t es) me.1 (shelf t es) h x may.0 p look refl may.1)))))))
 
+  -- a held row may be put back with a value that the thread owed, where the rule lets it be paid
   pub may_pay : (x y : ℕ) (h g : Held) (row : Row) (z : Slot) (c : List (ℕ × Slot)) → y ≡ x → g ≡ h → z ≡ slot.Row row → objects ≤ slots
       → me.1 ≡ (x + 1, slot.Row row) ∷ c
       → (taken : Row) × (value : ℤ) × MayPay (caught_up me.0 t es) h x taken value × (row ≡ record taken { value = value })
@@ -194,6 +208,7 @@ module _ (key : Key) (slots id : ℕ) (me : table.Me Slot View) (t : ℕ) (es : 
       (subst (λ q. table.Allows (Rule key) slots id me (3 * (x + 1) + 1) (λ _. 0) (λ _. PaidLeft x h q u me.1)) (sym state)
       (as_told (3 * (x + 1) + 1) (λ _. 0) (λ w _. PaidLeft x h (slot.Row row) w me.1) f)))
 
+  -- a commit may be published, where the rule lets its transaction be committed
   pub may_commit : (s : Shelf) (y : Slot) (z : Tx) (tx : Tx) (l' : ListView) → s ≡ shelf t es → y ≡ slot.List l' → z ≡ tx
       → (h : Held) × (l : ListView) × MayPublish key (shelf t es) (caught_up me.0 t es) h l l' (λ n. Commit n tx) (commit_stamp t tx)
       (pos 0)
@@ -207,6 +222,7 @@ module _ (key : Key) (slots id : ℕ) (me : table.Me Slot View) (t : ℕ) (es : 
       (as_told 0 (λ n. (n + 1) % 2 ^ 64) (λ w. PublishedTx (shelf t es) tx (slot.List l') w me.1)
       (publishes_commit key slots id (caught_up me.0 t es) me.1 (shelf t es) h l l' tx p m question refl commits may))))
 
+  -- a word of an event's cell may be loaded, where the tail was seen behind that event and the rule lets it be walked
   pub may_cell : (k : Key) (y o i j cell : ℕ) → k ≡ key → y ≡ o → j ≡ i → cell ≡ o % capacity key → i < 5
       → (o < (caught_up me.0 t es).seen) × MayWalk (caught_up me.0 t es) o
       → table.Allows (Rule key) slots id me (3076 + 5 * cell + i) (λ n. n) (SawCell (capacity k) y j u me.1)
@@ -221,6 +237,7 @@ module _ (key : Key) (slots id : ℕ) (me : table.Me Slot View) (t : ℕ) (es : 
       (as_told (cell_at (capacity key) o i) (λ n. n) (λ z. SawCell (capacity key) o i z me.1)
       (loads_cell key slots id o i (caught_up me.0 t es) me.1 few may.0 may.1)))))
 
+  -- so may the last word of its cell, by which the event is known
   pub may_event : (k : Key) (y o cell : ℕ) → k ≡ key → y ≡ o → cell ≡ o % capacity key → (o < (caught_up me.0 t es).seen)
       × MayWalk (caught_up me.0 t es) o → table.Allows (Rule key) slots id me (3076 + 5 * cell + 4) (λ n. n)
       (SawEvent (capacity k) y u me.1)

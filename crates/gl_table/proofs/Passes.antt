@@ -51,7 +51,7 @@ is_ready v t mine e near = record {
   named = near;
 }
 
--- what is true of a pass whose view records all that it stored
+-- a view that records all that was stored is a pass, where its fields, what is out and the entries are right for one
 pub is_pass : (v : View) (c : List (ℕ × Slot)) (t : ℕ) (mine : List Entry) (seen : ℕ) (order : List ℕ) (quiet : Bool) → v.shelves
     ≡ shelf t mine ∷ [] → t < THREADS → seen ≡ v.seen → quiet ≡ v.quiet → v.stored ≡ [] → AreOut c order v.held
     → AreBelow seen (shelf t mine) → All IsEntryKept mine
@@ -81,8 +81,7 @@ published_object n y drew h = by_bool (h.object == 0)
 pub below_later : (n m t : ℕ) (es : List Entry) → n ≤ m → AreBelow n (shelf t es) → AreBelow m (shelf t es)
 below_later n m t es le below i p e at is = let a = below i p e at is in omega arith
 
--- an entry more whose position, if it has one, is below n
--- not below
+-- where n is not below the other number, the test of that says no
 pub not_less : (n to : ℕ) → (n < to → ⊥) → nat_lt n to ≡ false
 not_less n to none = by (nat_lt n to) refl
   where
@@ -115,13 +114,14 @@ module _ (me : table.Me Slot View) (t : ℕ) (mine : List Entry) (seen : ℕ) (o
   abbrev now : View
   now = caught_up me.0 t mine
 
-  -- a step that leaves the entries as they are
+  -- a step that leaves the entries, the tail that was seen and the cells as they are leaves a pass, quiet as its view then says
   pub pass_steps : (u : View) (c : List (ℕ × Slot)) (order' : List ℕ) (quiet' : Bool) (w : table.Me Slot View) → u.shelves ≡ shelf t mine
       ∷ [] → u.seen ≡ now.seen → quiet' ≡ u.quiet → u.stored ≡ [] → AreOut c order' u.held → w ≡ (u, c) → IsPass w t mine seen order' quiet'
   pass_steps u c order' quiet' w one sees quiets unstored gone is =
       subst (λ x. IsPass x t mine seen order' quiet') (sym is)
       (is_pass u c t mine seen order' quiet' one p.ready.named (p.sees ∙ sym sees) quiets unstored gone p.below p.kept)
 
+  -- where the object that was to be taken is another thread's, the pass notes who has it, and has and holds what it had and held
   pub pass_refuses : (setting : Setting) (k n : ℕ) (w : table.Me Slot View) → Took setting k now me.1 n w → n ≢ 0
       → IsPass w t mine seen order quiet × (w.0 ≡ refused now k (n - 1)) × (n ≤ THREADS) × (n - 1 ≢ t)
   pass_refuses setting k n w told busy =
@@ -145,11 +145,13 @@ module _ (me : table.Me Slot View) (t : ℕ) (mine : List Entry) (seen : ℕ) (o
   pub took_room : (k : ℕ) → (HasObject now k → ⊥) → k < objects → length order < objects
   took_room k free near = out.out_room me.1 order now.held p.out k free near
 
+  -- where it was free, the pass holds it besides, as the object that it took last
   pub pass_takes : (k : ℕ) (y : Slot) (z : table.Me Slot View) → (HasObject now k → ⊥) → k < objects → z
       ≡ (took now k y, (k, slot.Empty) ∷ me.1) → IsPass z t mine seen (k ∷ order) quiet
   pass_takes k y z free near is = pass_steps (took now k y) ((k, slot.Empty) ∷ me.1) (k ∷ order) quiet z refl refl p.quiets p.unstored
       (out.out_takes me.1 order now.held p.out k y free near) is
 
+  -- once it loaded the tail, the pass has seen that tail
   pub pass_sees : (n : ℕ) (w : table.Me Slot View) → SawTail now me.1 n w → IsPass w t mine n order quiet
   pass_sees n w told =
       let le = told.1 in
@@ -187,7 +189,7 @@ module _ (me : table.Me Slot View) (t : ℕ) (mine : List Entry) (seen : ℕ) (o
       some_n : (a b : ℕ) → Some a ≡ Some b → a ≡ b
       some_n a b z = cc
 
-  -- an act
+  -- an act is published, whose words are in the cell: the pass has its entry and has seen the tail behind it
   pub pass_publishes : (ws : List ℕ) (act : Act) (value : ℤ) (y : Slot) (v : View) (c : List (ℕ × Slot)) (n : ℕ) (w : table.Me Slot View)
       (mine' : List Entry) → v ≡ filled now ws → c ≡ me.1 → mine' ≡ mine ++ Sync n act value ∷ []
       → PublishedAct (shelf t mine) act value y v c n w
@@ -237,7 +239,7 @@ module _ (me : table.Me Slot View) (t : ℕ) (mine : List Entry) (seen : ℕ) (o
       } in
       (subst (λ l. IsPass me t l seen order quiet) (sym more) b, ap (λ l. caught_up me.0 t l) more ∙ r.1)
 
-  -- a held object changes
+  -- where a held object changes, and nothing else but what was read, the pass has and holds what it had and held
   pub pass_changes : (u : View) (h g : Held) (w : table.Me Slot View) → u.shelves ≡ shelf t mine ∷ [] → u.seen ≡ now.seen → u.quiet
       ≡ now.quiet → u.stored ≡ now.stored → u.held ≡ g ∷ without h.object now.held → g.object ≡ h.object → Contains now.held h → w
       ≡ (u, me.1) → IsPass w t mine seen order quiet
@@ -245,10 +247,11 @@ module _ (me : table.Me Slot View) (t : ℕ) (mine : List Entry) (seen : ℕ) (o
       pass_steps u me.1 order quiet w one sees (p.quiets ∙ sym quiets) (stored ∙ p.unstored)
       (subst (AreOut me.1 order) (sym held) (out.out_changes me.1 order now.held p.out h g has same)) is
 
+  -- with one thing more among what it read, the pass has and holds what it had and held
   pub pass_saw : (r : Read) (w : table.Me Slot View) → Saw r now me.1 w → IsPass w t mine seen order quiet
   pass_saw r w told = pass_steps (saw now r) me.1 order quiet w refl refl p.quiets p.unstored p.out told
 
-  -- the first segment is raised, or not
+  -- where the first segment is raised, the pass has a Trim of it more, and where it is not, just the entries that it had
   pub pass_lowers : (n to : ℕ) (w : table.Me Slot View) (mine' : List Entry) (b : Bool) → nat_lt n to ≡ b
       → Lowered (shelf t mine) to now me.1 n w → mine' ≡ (if b then mine ++ Trim to ∷ [] else mine) → IsPass w t mine' seen order quiet
   pass_lowers n to w mine' b is told more =
@@ -296,6 +299,7 @@ module _ (me : table.Me Slot View) (t : ℕ) (mine : List Entry) (seen : ℕ) (o
   pub is_out : (h : Held) → Contains now.held h → Contains order h.object
   is_out h has = out.is_out me.1 order now.held p.out h has
 
+  -- once the object was put back, the pass holds the others, and is quiet if it was or if it put that back quietly
   pub pass_puts : (k : ℕ) (q : Bool) (order' : List ℕ) (c : List (ℕ × Slot)) (z : table.Me Slot View) → IsPermutation order order' → order'
       ≡ k ∷ drop 1 order' → c ≡ empties (drop 1 order') → z ≡ (left now k q, c) → IsPass z t mine seen (drop 1 order') (quiet || q)
   pass_puts k q order' c z perm front gone is =

@@ -9,7 +9,7 @@ use Rattle.gl_model.specs.Records.{position_of}
 use Rattle.gl_draws.proofs.Pushes.{at_cases, at_kept, at_new}
 use Rattle.gl_table.specs.RightOf.{right_after, right_from, right_of}
 
--- an entry more
+-- with an entry put last, the right is what this entry makes of the right before it
 pub right_push : (x : ℕ) (r : Option (ℕ × Bool)) (es : List Entry) (e : Entry) → right_from x r (es ++ e ∷ [])
     ≡ right_after x (right_from x r es) e
 right_push x r [] e = refl

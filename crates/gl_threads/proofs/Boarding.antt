@@ -288,6 +288,7 @@ module _ (P : Bytecode) (steps : ℕ) (z : TableId) (W : ℕ) where
     pub long : length ps ≡ n
     pub back : AreBack P steps z ps
 
+  -- where fewer than 16 threads were gathered, the worker that has the next one has some rider
   pub gathers_some : (n : ℕ) (crews : List Crew) (ps : List PassView) → Gathers n crews ps → n < 16 → n % W < W
       → ((d : Crew) → (slice_index_or crews (n % W) d).riders.items ≡ []) → (d : Crew) → ⊥
   gathers_some n crews ps g less low none d =
@@ -355,6 +356,7 @@ module _ (P : Bytecode) (steps : ℕ) (t : TableView) (W : ℕ) where
         ready = ready_more P steps t crews (length left % W) crew rider g.ready in' aboard gets window;
       }
 
+  -- once no thread is left, all 16 are dealt
   pub deals_none : (left : List PassView) (crews : List Crew) → Deals left crews → length left ≡ 0 → AreDealt W 0 16 crews
   deals_none left crews g none =
       let sum = g.sum in

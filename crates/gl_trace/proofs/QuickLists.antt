@@ -18,6 +18,7 @@ use Rattle.gl_trace.proofs.QuickLemmas.{none_in_both, words_behind, words_last, 
 -- ---- digits are none of these
 
 module _ (p : ℕ → Bool) (none : (b : ℕ) → 48 ≤ b → b ≤ 57 → p b ≡ false) where
+  -- where a test passes no digit, it passes nothing in a word of digits
   pub digits_none : (ds : List ℕ) → list_all is_ascii_digit ds ≡ true → list_any p ds ≡ false
   digits_none [] e = refl
   digits_none (b ∷ bs) e =
@@ -99,6 +100,7 @@ module _ (text kept rest w : List ℕ) (stop : ℕ) (more' : List ℕ) (id : ℕ
   is_new : (new ≡ kept ++ id ∷ []) × (is_set (kept ++ id ∷ []) ≡ true)
   is_new = set_new new (kept ++ id ∷ []) put
 
+  -- where a comma ends the word, the set with its number was read up to behind the comma
   pub listed_more : stop ≡ 44 → IsListed text new more'
   listed_more comma = record {
     front = l.front ++ (w ++ 44 ∷ []);
@@ -121,6 +123,7 @@ module _ (text kept rest w : List ℕ) (stop : ℕ) (more' : List ℕ) (id : ℕ
   some_more [] e = e
   some_more (x ∷ xs) e = refl
 
+  -- the text begins with a word, up to where this number ends, that reads as the set with it
   pub listed_all : (word : List ℕ) × Begins text word stop more' × (set_of word ≡ Ok (Some new)) × (is_set new ≡ true)
   listed_all = (
     l.front ++ w,

@@ -32,7 +32,7 @@ loop-pos-init c = (
   λ lt. absurd (omega arith),
 )
 
--- one event more
+-- where one event more was kept, the pass knows the events of the window with that one
 pub loop-pos-preserved : goal.loop-pos-preserved
 loop-pos-preserved c =
     let inv = c.loop-pos.invariant in
