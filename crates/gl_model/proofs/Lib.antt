@@ -1,6 +1,7 @@
 pub mod Bits
 pub mod Variables
 pub mod Rules
+pub mod ThreadLists
 pub mod Rooms
 pub mod RisingLists
 pub mod ListsOf
