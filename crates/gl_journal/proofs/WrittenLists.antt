@@ -1,5 +1,5 @@
 -- The text of a record, list by list and part by part.
-use Rattle.std.proofs.Common.{◌≡◌, ◌⊎◌, ℕ, ◌+◌, ◌-◌, ◌<◌, ◌≤◌, zero, suc, List, [], ◌∷◌, ◌++◌, Option, Some, None, codes, length, map, take, slice_get, refl, ap, sym, ◌∙◌, arith, inl, inr, append_assoc, append-nil, subst}
+use Rattle.std.proofs.Common.{◌≡◌, ℕ, ◌+◌, ◌-◌, ◌<◌, ◌≤◌, zero, suc, List, [], ◌∷◌, ◌++◌, Some, None, codes, length, map, take, slice_get, refl, ap, sym, ◌∙◌, arith, inl, inr, append_assoc, append-nil, subst}
 use Rattle.std.specs.List.{AllByRecursion, flat_map}
 use Rattle.std.proofs.lemmas.List.{map-append, take_more, take_all}
 use Rattle.std.proofs.lemmas.Option.{slice_get_within, get_or_from_slice_get, slice_get_cases}
@@ -11,6 +11,7 @@ use Rattle.gl_model.proofs.ThreadLists.{below, gathers_next, one_of}
 use Rattle.gl_journal.specs.Fields.{Word}
 use Rattle.gl_journal.specs.Written.{AllEntries, IsEntryTyped}
 use Rattle.gl_journal.specs.Rows.{Row, entry_row, entry_rows, header_row, list_rows, list_word, record_text, row_text, thread_row}
+use Rattle.gl_model.proofs.RisingPushes.{all_push}
 
 -- ## Lists of parts
 
@@ -64,11 +65,6 @@ past_of xs at none =
     ]
 
 -- ## What holds of each part
-
--- what holds of all and of one more holds of all with it
-all_push : {A : Type 0} (P : A → Type 0) (xs : List A) (x : A) → AllByRecursion P xs → P x → AllByRecursion P (xs ++ x ∷ [])
-all_push P [] x all last = (last, tt)
-all_push P (y ∷ xs) x all last = (all.0, all_push P xs x all.1 last)
 
 -- what holds of the first i and of the one at i holds of the first i + 1
 pub all_more : {A : Type 0} (P : A → Type 0) (xs : List A) (i : ℕ) (x : A) → slice_get xs i ≡ Some x → P x → AllByRecursion P (take i xs)

@@ -4,6 +4,7 @@ pub mod Rules
 pub mod ThreadLists
 pub mod Rooms
 pub mod RisingLists
+pub mod RisingPushes
 pub mod ListsOf
 pub mod Pushed
 pub mod Parts

@@ -80,7 +80,7 @@ commit_block (x ∷ es) zero at tx e = let z : x ≡ Commit at tx = cc in rw z r
 commit_block (x ∷ es) (suc i) at tx e = rw (commit_block es i at tx e) refl
 
 -- a commit has an event, that of a commit, which is its own block
-commit_event : (R : Lists) (c : Place) (e : Entry) → EntryAt R c e → IsCommit e → (p : ℕ) × (s : Stamp) × IsEventAt R c p s
+pub commit_event : (R : Lists) (c : Place) (e : Entry) → EntryAt R c e → IsCommit e → (p : ℕ) × (s : Stamp) × IsEventAt R c p s
     × ((xs : List ℕ) × (s.event ≡ Commits xs)) × BlockAt (R c.thread) c.index p
 commit_event R c (Commit at tx) here is = (
   at,
@@ -106,7 +106,7 @@ number_access (Trim low) x k n = absurd n
 number_access (Over ending) x k n = absurd n
 
 -- a commit that was performed is not a refused one
-no_two : (e : Entry) → IsCommit e → IsRefusedCommit e → ⊥
+pub no_two : (e : Entry) → IsCommit e → IsRefusedCommit e → ⊥
 no_two (Commit at tx) i r = r
 no_two (Sync at act value) i r = i
 no_two (Plain var nth cached write value raised) i r = i
@@ -115,7 +115,7 @@ no_two (Trim low) i r = i
 no_two (Over ending) i r = i
 
 -- a plain entry is no commit
-not_plain_commit : (e : Entry) → IsPlain e → IsCommit e → ⊥
+pub not_plain_commit : (e : Entry) → IsPlain e → IsCommit e → ⊥
 not_plain_commit (Plain var nth cached write value raised) i r = r
 not_plain_commit (Commit at tx) i r = i
 not_plain_commit (Sync at act value) i r = i
@@ -133,7 +133,7 @@ not_plain_refused (Trim low) i r = i
 not_plain_refused (Over ending) i r = i
 
 -- a commit, or a refused one, drew its numbers itself
-draws_itself : (e : Entry) (x k : ℕ) → IsCommit e ⊎ IsRefusedCommit e → NumberOn e x k → NumberDraws e x k
+pub draws_itself : (e : Entry) (x k : ℕ) → IsCommit e ⊎ IsRefusedCommit e → NumberOn e x k → NumberDraws e x k
 draws_itself (Commit at tx) x k w n = n
 draws_itself (Abort tx (Raised var)) x k w n = n
 draws_itself (Abort tx (Changed var read found)) x k w n = absurd n
