@@ -6,8 +6,9 @@ use Rattle.std.proofs.lemmas.Option.{slice_get_within}
 use Rattle.gl_model.specs.Entries.{Entry}
 use Rattle.gl_model.specs.Records.{Lists}
 use Rattle.gl_places.specs.Places.{Before}
-use Rattle.gl_causes.specs.Stands.{Stand, IsStand, AreStands, block_before}
+use Rattle.gl_causes.specs.Stands.{Stand, IsStand, AreStands}
 use Rattle.gl_raised.proofs.Gathering.{at_cases, kept_at, new_at, next_before, next_cases}
+use Rattle.gl_raised.specs.Gathers.{block_before}
 
 -- one entry more
 pub stands_more :

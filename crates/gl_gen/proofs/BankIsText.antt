@@ -32,7 +32,9 @@ is_fine line = list_all (λ b. nat_le 32 b && nat_le b 126) line && nat_le (leng
 plain_bytes : (bytes : List ℕ) → list_all (λ b. nat_le 32 b && nat_le b 126) bytes ≡ true → IsPlain bytes
 plain_bytes [] is = tt
 plain_bytes (b ∷ bytes) is =
-    (let here = and_parts _ _ (and_parts _ _ is).0 in ((leb-true 32 b here.0, leb-true b 126 here.1), plain_bytes bytes (and_parts _ _ is).1))
+    (let parts = and_parts _ _ is in
+    let here = and_parts _ _ parts.0 in
+    ((leb-true 32 b here.0, leb-true b 126 here.1), plain_bytes bytes parts.1))
 
 -- a line that passes the test is fine
 fine : (line : Line) → is_fine line ≡ true → IsFine line

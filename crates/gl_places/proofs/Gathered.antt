@@ -28,7 +28,8 @@ uses_more f t i (x ∷ es) e =
 uses_of_both : (f : Entry → List ℕ) (ls ms : List (ℕ × List Entry)) → uses_of f (ls ++ ms) ≡ uses_of f ls ++ uses_of f ms
 uses_of_both f [] ms = refl
 uses_of_both f (l ∷ ls) ms =
-    ap (λ rest. uses_from f l.0 0 l.1 ++ rest) (uses_of_both f ls ms) ∙ sym (append_assoc (uses_from f l.0 0 l.1) (uses_of f ls) (uses_of f ms))
+    ap (λ rest. uses_from f l.0 0 l.1 ++ rest) (uses_of_both f ls ms)
+    ∙ sym (append_assoc (uses_from f l.0 0 l.1) (uses_of f ls) (uses_of f ms))
 
 -- what is gathered of a thread's list, if it has one, is what its entries have
 of_one : (f : Entry → List ℕ) (t : ℕ) (list : Option (List Entry)) → uses_of f (one_of t list) ≡ uses_from f t 0 (unwrap_or list [])
