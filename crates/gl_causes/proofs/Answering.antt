@@ -1,6 +1,6 @@
 -- From what is found of the refused entries to their causes.
-use Rattle.std.proofs.Common.{◌≡◌, ◌≢◌, ℕ, zero, suc, ◌^◌, ◌<◌, List, [], ◌∷◌, length, map, Bool, true, false, refl, ap, sym, ◌∙◌, subst, inl, inr, arith, Some, None}
-use Rattle.std.specs.Prelude.{Contains, Option, if◌then◌else◌, is_some, slice_get}
+use Rattle.std.proofs.Common.{◌≡◌, ◌≢◌, ℕ, zero, suc, ◌^◌, ◌<◌, List, [], ◌∷◌, length, map, Bool, true, false, refl, ap, sym, ◌∙◌, subst, inl, inr, arith, Some}
+use Rattle.std.specs.Prelude.{Contains, if◌then◌else◌, is_some, slice_get}
 use Rattle.std.proofs.lemmas.List.{length-map}
 use Rattle.std.proofs.lemmas.Option.{slice_get_within, slice_get-get_or, get_or_from_slice_get}
 use Rattle.gl_draws.proofs.Sets.{map_contains}
@@ -31,6 +31,7 @@ use Rattle.gl_causes.proofs.Known.{led}
 use Rattle.gl_causes.proofs.Racing.{race_in, race_out, some_race}
 use Rattle.gl_causes.proofs.Telling.{Laid, block_is, stand_of}
 use Rattle.gl_raised.proofs.Faulting.{allowed_of}
+use Rattle.gl_causes.proofs.Passing.{some_there}
 
 -- what was refused is racy there
 racy_of : (R : Lists) (c : Place) (f : Entry) (x : ℕ) → IsRaisedRightly R c f → raised_on f ≡ Some x → IsRacy R c x
@@ -56,11 +57,6 @@ in_list xs x w = (w.0, slice_get-get_or xs w.0 x w.1 ∙ ap Some w.2)
 pub of_list : {A : Type 0} (xs : List A) (i : ℕ) (x : A) → slice_get xs i ≡ Some x → Contains xs x
 of_list xs i x e = (i, slice_get_within xs i x e, get_or_from_slice_get xs i x x e)
 
--- those that race are among all, and race
-some_means : (o : Option ℕ) → is_some o ≡ true → (k : ℕ) × (o ≡ Some k)
-some_means None e = absurd (cc)
-some_means (Some k) e = (k, refl)
-
 -- an entry among the races of a refused one stands among the entries and has a race number
 filtered_means : (a : Asked) (xs : List Stand) (j : ℕ) (s : Stand) → slice_get (races_among a xs) j ≡ Some s → (i : ℕ)
     × ((slice_get xs i ≡ Some s) × ((k : ℕ) × (race_number a s ≡ Some k)))
@@ -73,7 +69,7 @@ filtered_means a (x ∷ xs) j s e = by (is_some (race_number a x)) refl j e (λ 
         → (i : ℕ) × ((slice_get (x ∷ xs) i ≡ Some s) × ((k : ℕ) × (race_number a s ≡ Some k)))
     by true is zero e' rec =
         let same : x ≡ s = cc in
-        (zero, (ap Some same, some_means (race_number a s) (ap (λ (z : Stand). is_some (race_number a z)) (sym same) ∙ is)))
+        (zero, (ap Some same, some_there (race_number a s) (ap (λ (z : Stand). is_some (race_number a z)) (sym same) ∙ is)))
     by true is (suc j) e' rec = let w = rec j e' in (suc w.0, w.1)
     by false is j e' rec = let w = rec j e' in (suc w.0, w.1)
 

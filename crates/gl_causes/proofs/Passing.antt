@@ -17,7 +17,8 @@ pub block_on : (es : List Entry) (i : ℕ) (e : Entry) (block : Option ℕ) → 
 block_on es i e block there is =
     ap (or_else (position_of e)) is ∙ sym (last_push (take i es) e) ∙ ap last_position (sym (taken es i e there))
 
-some_there : (o : Option ℕ) → is_some o ≡ true → (k : ℕ) × (o ≡ Some k)
+-- what is there is some number
+pub some_there : (o : Option ℕ) → is_some o ≡ true → (k : ℕ) × (o ≡ Some k)
 some_there None e = absurd (cc)
 some_there (Some k) e = (k, refl)
 

@@ -82,7 +82,7 @@ module _ (p : Progress) where
 -- ## There is no other
 
 -- a word that is among neither the writes nor the looks is not known
-not_known : (w l : Option ℤ) → (is_some w || is_some l) ≡ false → known_word w l ≡ None
+pub not_known : (w l : Option ℤ) → (is_some w || is_some l) ≡ false → known_word w l ≡ None
 not_known (Some a) l is = cc
 not_known None (Some b) is = cc
 not_known None None is = refl
