@@ -89,11 +89,7 @@ commit_event R c (Commit at tx) here is = (
   (variables_of tx, refl),
   commit_block (R c.thread) c.index at tx here,
 )
-commit_event R c (Sync at act value) here is = absurd is
-commit_event R c (Plain var nth cached write value raised) here is = absurd is
-commit_event R c (Abort tx why) here is = absurd is
-commit_event R c (Trim low) here is = absurd is
-commit_event R c (Over ending) here is = absurd is
+commit_event R c _ here is = absurd is
 
 -- an entry that has a number is an access
 number_access : (e : Entry) (x k : ℕ) → NumberOn e x k → IsAccess e
@@ -108,29 +104,17 @@ number_access (Over ending) x k n = absurd n
 -- a commit that was performed is not a refused one
 pub no_two : (e : Entry) → IsCommit e → IsRefusedCommit e → ⊥
 no_two (Commit at tx) i r = r
-no_two (Sync at act value) i r = i
-no_two (Plain var nth cached write value raised) i r = i
-no_two (Abort tx why) i r = i
-no_two (Trim low) i r = i
-no_two (Over ending) i r = i
+no_two _ i r = i
 
 -- a plain entry is no commit
 pub not_plain_commit : (e : Entry) → IsPlain e → IsCommit e → ⊥
 not_plain_commit (Plain var nth cached write value raised) i r = r
-not_plain_commit (Commit at tx) i r = i
-not_plain_commit (Sync at act value) i r = i
-not_plain_commit (Abort tx why) i r = i
-not_plain_commit (Trim low) i r = i
-not_plain_commit (Over ending) i r = i
+not_plain_commit _ i r = i
 
 -- a plain entry is no refused commit
 not_plain_refused : (e : Entry) → IsPlain e → IsRefusedCommit e → ⊥
 not_plain_refused (Plain var nth cached write value raised) i r = r
-not_plain_refused (Commit at tx) i r = i
-not_plain_refused (Sync at act value) i r = i
-not_plain_refused (Abort tx why) i r = i
-not_plain_refused (Trim low) i r = i
-not_plain_refused (Over ending) i r = i
+not_plain_refused _ i r = i
 
 -- a commit, or a refused one, drew its numbers itself
 pub draws_itself : (e : Entry) (x k : ℕ) → IsCommit e ⊎ IsRefusedCommit e → NumberOn e x k → NumberDraws e x k
