@@ -1,59 +1,35 @@
 -- A program that nothing is wrong with is within the limits, and its lines can say it.
-use Rattle.std.proofs.Common.{◌≡◌, ◌<◌, ◌≤◌, ◌==◌, ◌||◌, ℕ, List, [], ◌∷◌, zero, suc, subst, Bool, true, false, Option, Some, None, length, refl, ap, ◌∙◌, arith, nat_lt, nat_le, slice_get}
-use Rattle.std.specs.Prelude.{sum_by}
+use Rattle.std.proofs.Common.{◌≡◌, ◌<◌, ◌≤◌, ◌==◌, ◌||◌, ℕ, List, [], ◌∷◌, zero, suc, subst, Bool, true, false, Option, Some, None, length, refl, ap, ◌∙◌, arith, nat_lt, slice_get}
 use Rattle.std.specs.List.{AllByRecursion, list_any}
 use Rattle.std.specs.Option.{option_and_then}
 use Rattle.std.proofs.Math.Bool.{or-true}
-use Rattle.std.proofs.lemmas.Bool.{and_parts}
+use Rattle.std.proofs.lemmas.Bool.{and_parts, ltb-true, ltb-false, leb-true, or_parts}
 use Rattle.std.proofs.lemmas.Bool.Decides.{nat_tests}
 use Rattle.std.proofs.lemmas.List.Folds.{list_any_at}
 use Rattle.std.proofs.lemmas.Option.{get_or_from_slice_get, slice_get_within}
-use Rattle.gl_model.specs.declared.limits.TheConstants.{CLASSES, FUNCTIONS, VARIABLES, VOLATILES}
+use Rattle.gl_model.specs.declared.limits.TheConstants.{VARIABLES, VOLATILES}
 use Rattle.gl_bytecode.specs.declared.instr.Catch.{Catch}
 use Rattle.gl_bytecode.specs.declared.instr.Instr.{Instr}
 use Rattle.gl_bytecode.specs.declared.instr.Instr.TheVariants.{Push, Load, Store, Inc, Jump, Jz, Jnz, Call, Throw, New, Get, Put, Vget, Vput, Fork}
-use Rattle.gl_bytecode.specs.declared.limits.TheConstants.{CATCHES, CODE}
+use Rattle.gl_bytecode.specs.declared.limits.TheConstants.{CATCHES}
 use Rattle.gl_bytecode.specs.Faults.{AllThrowInRange, IsFaultless, ThrowsInRange, has_args, instr_fault, is_long_class, is_long_function, is_too_long}
 use Rattle.gl_bytecode.specs.Programs.{Bytecode, Function, function_at, instr_at}
-use Rattle.gl_bytecode.proofs.Faultless.{IsNamed, all_from, catch_named, faultless_is_sound, holds, instr_right}
+use Rattle.gl_bytecode.proofs.Faultless.{IsNamed, all_from, catch_named, faultless_is_sound, holds, instr_right, none_at, limits_of}
 use Rattle.gl_asm.specs.declared.table.Operand.TheVariants.{Label}
 use Rattle.gl_asm.specs.Code.{code_of}
 use Rattle.gl_asm.specs.Listable.{AreTyped, IsTyped, OperandsAreTyped}
 use Rattle.gl_asm.specs.Listing.{catch_names, is_label}
 use Rattle.gl_asm.specs.Words.{operand_of}
-use Rattle.gl_asm.proofs.ListingLemmas.{neither, none_at, not_more}
 use Rattle.gl_asm.proofs.ListedWalk.{IsHandler, IsLabel, IsListable, IsSayable, IsShortClass, IsThere}
 use Rattle.gl_asm.proofs.ListedWords.{Fits}
 
 -- ## Limits
 
-pub record Limits (P : Bytecode) : Type 0 where
-  pub code : sum_by (λ (F : Function). length F.code) P.functions ≤ CODE
-  pub functions : length P.functions ≤ FUNCTIONS
-  pub classes : length P.classes ≤ CLASSES
-  pub each_function : list_any is_long_function P.functions ≡ false
-  pub each_class : list_any is_long_class P.classes ≡ false
-
--- a program that is not too long keeps to each single limit
-pub limits_of : (P : Bytecode) → is_too_long P ≡ false → Limits P
-limits_of P short =
-    let a = neither _ _ short in
-    let b = neither _ _ a.0 in
-    let c = neither _ _ b.0 in
-    let d = neither _ _ c.0 in
-    record {
-      code = not_more CODE (sum_by (λ (F : Function). length F.code) P.functions) d.0;
-      functions = not_more FUNCTIONS (length P.functions) d.1;
-      classes = not_more CLASSES (length P.classes) c.1;
-      each_function = b.1;
-      each_class = a.1;
-    }
-
 -- each class of a program that is not too long has no more fields than a class may have
 pub short_classes : (P : Bytecode) → is_too_long P ≡ false → AllByRecursion IsShortClass P.classes
 short_classes P short = all_from IsShortClass P.classes (λ k fields is.
-    let ends = neither _ _ (none_at is_long_class P.classes k fields (limits_of P short).each_class is) in
-    (not_more VARIABLES fields.plain ends.0, not_more VOLATILES fields.volatile ends.1))
+    let ends = or_parts _ _ (none_at is_long_class P.classes k fields (limits_of P short).each_class is) in
+    (ltb-false VARIABLES fields.plain ends.0, ltb-false VOLATILES fields.volatile ends.1))
 
 -- where the arguments of a function are counted, there is the function
 args_there : (n : ℕ) (o : Option Function) → has_args n o ≡ true → (F : Function) × (o ≡ Some F)
@@ -78,19 +54,11 @@ some_has p xs k x is has = list_any_at p xs k x (slice_get_within xs k x is) (ap
 itself : (n : ℕ) → (n == n) ≡ true
 itself n = grind (arith, nat_tests)
 
--- a test for less that is true says less
-less : (a b : ℕ) → nat_lt a b ≡ true → a < b
-less a b is = grind (arith, nat_tests)
-
--- a test for at most that is true says at most
-at_most : (a b : ℕ) → nat_le a b ≡ true → a ≤ b
-at_most a b is = grind (arith, nat_tests)
-
 -- the place that an instruction goes to is listed
 jump_label : (F : Function) (at : ℕ) (i : Instr) (to : ℕ) → slice_get F.code at ≡ Some i → operand_of i ≡ Label to
     → nat_lt to (length F.code) ≡ true → IsLabel F to
 jump_label F at i to there goes within =
-    let inside = less to (length F.code) within in
+    let inside = ltb-true to (length F.code) within in
     let some : list_any (λ j. is_label to (operand_of j)) F.code
     ≡ true = some_has (λ j. is_label to (operand_of j)) F.code at i there (ap (is_label to) goes ∙ itself to) in
     (omega arith, ap (λ b. b || list_any (catch_names to) F.catches) some)
@@ -126,9 +94,9 @@ handler_there P F named k h is =
     let all = holds _ _ (catch_named P F named k h is) in
     let parts = and_parts _ _ all in
     let firsts = and_parts _ _ parts.0 in
-    let target = less h.target (length F.code) firsts.0 in
-    let order = at_most h.from h.to firsts.1 in
-    let within = at_most h.to (length F.code) parts.1 in
+    let target = ltb-true h.target (length F.code) firsts.0 in
+    let order = leb-true h.from h.to firsts.1 in
+    let within = leb-true h.to (length F.code) parts.1 in
     let from_end = h.from == h.from in (
       catch_label F k h h.from is (first_of_three (h.from == h.from) (h.to == h.from) (h.target == h.from) (itself h.from))
           (omega (arith, order, within)),
@@ -145,9 +113,9 @@ there_of : (P : Bytecode) (F : Function) (at : ℕ) (i : Instr) → slice_get F.
 there_of P F at (Jump to) there right = jump_label F at (Jump to) to there refl (holds (nat_lt to (length F.code)) _ right)
 there_of P F at (Jz to) there right = jump_label F at (Jz to) to there refl (holds (nat_lt to (length F.code)) _ right)
 there_of P F at (Jnz to) there right = jump_label F at (Jnz to) to there refl (holds (nat_lt to (length F.code)) _ right)
-there_of P F at (Call f) there right = less f (length P.functions) (holds (nat_lt f (length P.functions)) _ right)
+there_of P F at (Call f) there right = ltb-true f (length P.functions) (holds (nat_lt f (length P.functions)) _ right)
 there_of P F at (Fork f) there right = function_there P 1 f (holds (has_args 1 (function_at P f)) _ right)
-there_of P F at (New c) there right = less c (length P.classes) (holds (nat_lt c (length P.classes)) _ right)
+there_of P F at (New c) there right = ltb-true c (length P.classes) (holds (nat_lt c (length P.classes)) _ right)
 there_of P F at _ there right = tt
 
 -- an operand fits a line, where it is of its type and the code that is thrown is in range
@@ -198,8 +166,8 @@ listable P ok thrown typed f F is =
     let sound = (faultless_is_sound P ok).1 in
     let locals = sound.locals f F is in
     let named = (ok.right f F is).named in
-    let long = neither _ _ (none_at is_long_function P.functions f F (limits_of P ok.short).each_function is) in
-    let many = neither _ _ long.0 in
+    let long = or_parts _ _ (none_at is_long_function P.functions f F (limits_of P ok.short).each_function is) in
+    let many = or_parts _ _ long.0 in
     let here : (at : ℕ) (i : Instr) → slice_get F.code at ≡ Some i → option_and_then (λ G. slice_get G.code at) (function_at P f) ≡ Some i =
     λ at i there. ap (option_and_then (λ (G : Function). slice_get G.code at)) is ∙ there
     in
@@ -207,7 +175,7 @@ listable P ok thrown typed f F is =
       args = omega (arith, locals.0, locals.1);
       locals = locals.1;
       code = sound.short f F is;
-      catches = not_more CATCHES (length F.catches) many.0;
+      catches = ltb-false CATCHES (length F.catches) many.0;
       instrs = all_from (IsSayable P F) F.code (λ at i there. record {
         fits = fits_at P thrown typed f at i (here at i there);
         there = there_of P F at i there (instr_right P F named at i there);

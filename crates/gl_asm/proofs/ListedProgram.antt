@@ -6,7 +6,7 @@ use Rattle.std.specs.Str.Lines.{lines}
 use Rattle.std.proofs.lemmas.Bool.Decides.{nat_tests}
 use Rattle.gl_bytecode.specs.Faults.{AllThrowInRange, IsFaultless, program_of}
 use Rattle.gl_bytecode.specs.Programs.{Bytecode, Draft, draft_of}
-use Rattle.gl_bytecode.proofs.Faultless.{all_from}
+use Rattle.gl_bytecode.proofs.Faultless.{all_from, limits_of}
 use Rattle.gl_asm.specs.declared.definitions.Definition.{Definition}
 use Rattle.gl_asm.specs.declared.definitions.Scope.TheVariants.{Functions}
 use Rattle.gl_asm.specs.declared.limits.TheConstants.{LONGEST}
@@ -16,7 +16,7 @@ use Rattle.gl_asm.specs.Forms.{none_yet}
 use Rattle.gl_asm.specs.Listable.{OperandsAreTyped}
 use Rattle.gl_asm.specs.Listing.{listing}
 use Rattle.gl_asm.specs.Texts.{IsText, LineFault, lines_read, text_read}
-use Rattle.gl_asm.proofs.ListedLimits.{has_main, limits_of, listable, short_classes}
+use Rattle.gl_asm.proofs.ListedLimits.{has_main, listable, short_classes}
 use Rattle.gl_text.proofs.WordLines.{lines_of_ended}
 use Rattle.gl_asm.proofs.ListedNames.{main_is}
 use Rattle.gl_asm.proofs.ListedRows.{functions_rows, listing_is, rows}
@@ -54,7 +54,7 @@ not_over : (a b : ℕ) → b ≤ a → nat_lt a b ≡ false
 not_over a b most = grind (arith, nat_tests)
 
 -- a text that is not too long is read by its lines
-read_short : (text : List ℕ) → length text ≤ LONGEST → text_read text ≡ lines_read (lines text)
+pub read_short : (text : List ℕ) → length text ≤ LONGEST → text_read text ≡ lines_read (lines text)
 unfolding text_read
 read_short text short = rw (not_over LONGEST (length text) short) refl
 

@@ -11,11 +11,11 @@ use Rattle.gl_bytecode.specs.declared.object.Fields.{Fields}
 use Rattle.gl_bytecode.specs.Programs.{Bytecode, Function}
 use Rattle.gl_asm.specs.declared.limits.TheConstants.{LONGEST, MOST_INDEX}
 use Rattle.gl_asm.proofs.ListedLengths.{catch_length, class_length, header_length, instr_length, label_length}
-use Rattle.gl_asm.proofs.ListedLimits.{Limits}
 use Rattle.gl_text.proofs.WordLines.{IsPlain, ended, plain_indented, plain_spaced}
 use Rattle.gl_asm.proofs.ListedRows.{catch_row, catch_rows, class_row, class_rows, code_rows, function_rows, functions_rows, header_row, instr_row, label_row, label_rows, names_of, rows}
 use Rattle.gl_asm.proofs.ListedWalk.{IsHandler, IsListable, IsSayable, IsShortClass}
 use Rattle.gl_asm.proofs.ListedWords.{catch_are_words, catch_words, class_are_words, class_words, header_are_words, header_words, instr_are_words, instr_words, label_are_words, label_words}
+use Rattle.gl_bytecode.proofs.Faultless.{Limits}
 
 -- rows without a bad byte, that take so many bytes at most with their line feeds
 abbrev pub AreRows : List (List ℕ) → ℕ → Type 0

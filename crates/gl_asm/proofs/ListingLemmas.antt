@@ -1,9 +1,7 @@
 -- The texts of numbered things, one more at a time.
 use Rattle.std.proofs.Common.{◌≡◌, ◌+◌, ◌<◌, ◌≤◌, ℕ, List, [], ◌∷◌, ◌++◌, Option, Some, None, length, take, get_or, slice_get, refl, ap, sym, ◌∙◌, arith, append_assoc, append-nil, add-zero}
 use Rattle.std.proofs.lemmas.List.{take_more, take_all, length-take-le}
-use Rattle.std.proofs.Common.{inl, inr, zero, suc, Bool, true, false, ◌||◌, nat_lt, subst}
-use Rattle.std.specs.List.{list_any}
-use Rattle.std.proofs.lemmas.Bool.Decides.{nat_tests}
+use Rattle.std.proofs.Common.{inl, inr}
 use Rattle.gl_bytecode.specs.declared.limits.TheConstants.{CATCHES, CODE}
 use Rattle.gl_model.specs.declared.limits.TheConstants.{CLASSES}
 use Rattle.gl_bytecode.specs.declared.object.Fields.{Fields}
@@ -12,12 +10,14 @@ use Rattle.gl_bytecode.specs.Validity.{IsValid}
 use Rattle.std.specs.Prelude.{option_map}
 use Rattle.std.specs.Option.{option_and_then}
 use Rattle.std.proofs.lemmas.Option.{slice_get_within, get_or_from_slice_get, slice_get_cases}
+use Rattle.std.proofs.lemmas.Bool.{or_parts, ltb-false}
 use Rattle.gl_bytecode.specs.declared.instr.Catch.{Catch}
 use Rattle.gl_bytecode.specs.declared.instr.Instr.{Instr}
 use Rattle.gl_bytecode.specs.Programs.{Bytecode, Function, function_at}
 use Rattle.gl_asm.specs.Code.{IsShort, code_of, catches_of, text_of}
 use Rattle.gl_asm.specs.Listable.{AreTyped}
 use Rattle.gl_asm.specs.Listing.{body, each_from, header}
+use Rattle.gl_bytecode.proofs.Faultless.{none_at}
 
 -- the texts of numbered things with one more at the end are the texts before and that of the new one
 pub each_from-push : {A : Type 0} (text : ℕ → A → List ℕ) (i : ℕ) (xs : List A) (x : A)
@@ -142,17 +142,6 @@ none_typed (Some F) is = cc
 
 -- ## Limits
 
--- where not one of two holds, neither does
-pub neither : (a b : Bool) → (a || b) ≡ false → (a ≡ false) × (b ≡ false)
-neither true b is = cc
-neither false b is = (refl, is)
-
--- where no element of a list passes a test, the one at a place does not
-pub none_at : {A : Type 0} (p : A → Bool) (xs : List A) (i : ℕ) (x : A) → list_any p xs ≡ false → slice_get xs i ≡ Some x → p x ≡ false
-none_at p [] i x none there = cc
-none_at p (y ∷ ys) zero x none there = let e : y ≡ x = cc in subst (λ z. p z ≡ false) e (neither (p y) (list_any p ys) none).0
-none_at p (y ∷ ys) (suc i) x none there = none_at p ys i x (neither (p y) (list_any p ys) none).1 there
-
 -- a function that is there, or none, has no more instructions than it may have
 code_short : (P : Bytecode) (f : ℕ) (o : Option Function) → ((F : Function) → o ≡ Some F → length F.code ≤ CODE) → length (code_of o) ≤ CODE
 code_short P f None all = omega arith
@@ -163,21 +152,17 @@ catches_short : (o : Option Function) → ((F : Function) → o ≡ Some F → l
 catches_short None all = omega arith
 catches_short (Some F) all = all F refl
 
--- what does not pass a test for less is at least as great
-pub not_more : (a b : ℕ) → nat_lt a b ≡ false → b ≤ a
-not_more a b is = grind (arith, nat_tests)
-
 -- a faultless and valid program has no more classes, instructions and catches than are listed
 pub is_short : (P : Bytecode) → IsFaultless P → IsValid P → IsShort P
 is_short P ok valid =
-    let a = neither _ _ ok.short in
-    let b = neither _ _ a.0 in
-    let c = neither _ _ b.0 in
+    let a = or_parts _ _ ok.short in
+    let b = or_parts _ _ a.0 in
+    let c = or_parts _ _ b.0 in
     record {
-      classes = not_more CLASSES (length P.classes) c.1;
+      classes = ltb-false CLASSES (length P.classes) c.1;
       code = λ f. code_short P f (function_at P f) (λ F is. valid.1.short f F is);
       catches = λ f. catches_short (function_at P f) (λ F is.
           let long = none_at is_long_function P.functions f F b.1 is in
-          let d = neither _ _ (neither _ _ long).0 in
-          not_more CATCHES (length F.catches) d.0);
+          let d = or_parts _ _ (or_parts _ _ long).0 in
+          ltb-false CATCHES (length F.catches) d.0);
     }

@@ -29,6 +29,7 @@ pub record Told (P : Bytecode) (x : Exchange) (p q : Progress) : Type 0 where
   pub fits : takes p.config reply ≡ true
   pub config : q.config ≡ next P p.config reply
   pub looks : q.looks ≡ looks_after p (ask_of p.config.stage) reply
+  pub writes : q.writes ≡ writes_after p (ask_of p.config.stage) reply
 
 -- an exchange that leads from one progress to another is told so
 pub told_of : (P : Bytecode) (x : Exchange) (p q : Progress) → told_one P x p ≡ Some q → Told P x p q
@@ -50,6 +51,7 @@ told_of P x p q is = by_reply (reply_of p (ask_of p.config.stage) x) refl where
         fits = fits;
         config = ap (λ (m : Progress). m.config) same;
         looks = ap (λ (m : Progress). m.looks) same;
+        writes = ap (λ (m : Progress). m.writes) same;
       }
   by_test r false gives fits = (let e : told_one P x p ≡ None = rw (gives, fits) refl in cc)
 

@@ -1,10 +1,11 @@
 -- A program that nothing is wrong with is valid.
-use Rattle.std.proofs.Common.{◌≡◌, ℕ, zero, suc, ◌+◌, ◌-◌, ◌<◌, ◌≤◌, nat_lt, Bool, true, false, ◌&&◌, ◌||◌, not, List, [], ◌∷◌, length, Option, Some, None, refl, sym, ◌∙◌, ap, subst, arith}
+use Rattle.std.proofs.Common.{◌≡◌, ℕ, zero, suc, ◌+◌, ◌-◌, ◌<◌, ◌≤◌, nat_lt, Bool, true, false, not, List, [], ◌∷◌, length, Option, Some, None, refl, sym, ◌∙◌, ap, subst, arith}
 use Rattle.std.specs.Prelude.{slice_get, sum_by, if◌then◌else◌}
 use Rattle.std.specs.List.{AllByRecursion, list_any}
 use Rattle.std.proofs.lemmas.Bool.Decides.{nat_tests}
 use Rattle.std.proofs.lemmas.List.Sums.{sum_by-cons}
 use Rattle.std.proofs.lemmas.Option.{slice_get_within}
+use Rattle.std.proofs.lemmas.Bool.{and_parts, or_parts, ltb-true, ltb-false}
 use Rattle.gl_bytecode.specs.declared.instr.Catch.{Catch}
 use Rattle.gl_bytecode.specs.declared.instr.Flow.{Flow}
 use Rattle.gl_bytecode.specs.declared.instr.Flow.TheVariants.{Leaves, Next, Always, Either}
@@ -12,43 +13,25 @@ use Rattle.gl_bytecode.specs.declared.instr.Instr.{Instr}
 use Rattle.gl_bytecode.specs.declared.instr.Instr.TheVariants.{Jump, Jz, Jnz, Ret, Halt, Throw}
 use Rattle.gl_bytecode.specs.declared.limits.TheConstants.{CODE, LOCALS, OPERANDS}
 use Rattle.gl_model.specs.declared.limits.TheConstants.{CLASSES, FUNCTIONS}
-use Rattle.gl_bytecode.specs.Faults.{AreDepths, HasDepths, IsFaultless, IsRight, catch_fault, closes, fault_at, falls_off, has_args, instr_fault, is_closed, is_long_function, is_too_long, named_fault, unless}
+use Rattle.gl_bytecode.specs.Faults.{AreDepths, HasDepths, IsFaultless, IsRight, catch_fault, closes, fault_at, falls_off, has_args, instr_fault, is_closed, is_long_class, is_long_function, is_too_long, named_fault, unless}
 use Rattle.gl_bytecode.specs.Instructions.{Named, Nothing, Local, Place, Called, Forked, Class, Thrown, flow, gives, named_by, needs, places_after, successors}
 use Rattle.gl_bytecode.specs.Programs.{Bytecode, Function, function_at}
 use Rattle.gl_bytecode.specs.Validity.{Depths, Goes, IsThere, IsValid, NamesWhatIs}
 
 -- ## Tests
 
--- neither of two tests holds, where not one of them does
-neither : (a b : Bool) → (a || b) ≡ false → (a ≡ false) × (b ≡ false)
-neither true b is = cc
-neither false b is = (refl, is)
-
--- both tests hold, where they hold together
-both : (a b : Bool) → (a && b) ≡ true → (a ≡ true) × (b ≡ true)
-both true b is = (refl, is)
-both false b is = cc
-
 -- a test holds, where there is no fault for want of it
 pub holds : (b : Bool) (kind : ℕ) → unless b kind ≡ None → b ≡ true
 holds true kind is = refl
 holds false kind is = cc
 
--- the test of less is right where it holds
-less : (a b : ℕ) → nat_lt a b ≡ true → a < b
-less a b is = grind (arith, nat_tests)
-
--- and where it fails
-not_more : (a b : ℕ) → nat_lt a b ≡ false → b ≤ a
-not_more a b is = grind (arith, nat_tests)
-
 -- ## Lists
 
 -- a test that no element passes fails at each place
-none_at : {X : Type 0} (p : X → Bool) (xs : List X) (k : ℕ) (x : X) → list_any p xs ≡ false → slice_get xs k ≡ Some x → p x ≡ false
+pub none_at : {X : Type 0} (p : X → Bool) (xs : List X) (k : ℕ) (x : X) → list_any p xs ≡ false → slice_get xs k ≡ Some x → p x ≡ false
 none_at p [] k x none is = cc
-none_at p (y ∷ xs) zero x none is = (let same : y ≡ x = cc in rw (sym same) (neither (p y) (list_any p xs) none).0)
-none_at p (y ∷ xs) (suc k) x none is = none_at p xs k x (neither (p y) (list_any p xs) none).1 is
+none_at p (y ∷ xs) zero x none is = (let same : y ≡ x = cc in rw (sym same) (or_parts (p y) (list_any p xs) none).0)
+none_at p (y ∷ xs) (suc k) x none is = none_at p xs k x (or_parts (p y) (list_any p xs) none).1 is
 
 -- no element is more than the sum
 at_most_sum : {X : Type 0} (f : X → ℕ) (xs : List X) (k : ℕ) (x : X) → slice_get xs k ≡ Some x → f x ≤ sum_by f xs
@@ -70,23 +53,23 @@ all_with Q R S (x ∷ xs) join q r = (join x q.0 r.0, all_with Q R S xs join q.1
 
 -- below the length of a list there is an element
 there_below : {X : Type 0} (xs : List X) (k : ℕ) → k < length xs → (x : X) × (slice_get xs k ≡ Some x)
-there_below [] k less = absurd (omega arith)
-there_below (x ∷ xs) zero less = (x, refl)
-there_below (x ∷ xs) (suc k) less = there_below xs k (omega arith)
+there_below [] k ltb-true = absurd (omega arith)
+there_below (x ∷ xs) zero ltb-true = (x, refl)
+there_below (x ∷ xs) (suc k) ltb-true = there_below xs k (omega arith)
 
 -- ## What is named
 
 -- what has no fault is there
 named_right : (P : Bytecode) (F : Function) (n : Named) → named_fault P F n ≡ None → IsThere P F n
 named_right P F Nothing none = tt
-named_right P F (Local k) none = less k F.locals (holds (nat_lt k F.locals) _ none)
+named_right P F (Local k) none = ltb-true k F.locals (holds (nat_lt k F.locals) _ none)
 named_right P F (Place to) none = tt
-named_right P F (Called f) none = less f (length P.functions) (holds (nat_lt f (length P.functions)) _ none)
+named_right P F (Called f) none = ltb-true f (length P.functions) (holds (nat_lt f (length P.functions)) _ none)
 named_right P F (Forked f) none = with_args 1 (function_at P f) (holds (has_args 1 (function_at P f)) _ none) where
   with_args : (n : ℕ) (o : Option Function) → has_args n o ≡ true → (G : Function) × (o ≡ Some G) × (G.args ≡ n)
   with_args n None is = cc
   with_args n (Some G) is = (G, refl, grind (arith, nat_tests))
-named_right P F (Class c) none = less c (length P.classes) (holds (nat_lt c (length P.classes)) _ none)
+named_right P F (Class c) none = ltb-true c (length P.classes) (holds (nat_lt c (length P.classes)) _ none)
 named_right P F (Thrown code) none = tt
 
 -- an instruction without a fault names what is there
@@ -102,9 +85,9 @@ TargetIsThere F (Either to) = to < length F.code
 
 -- a jump without a fault goes to an instruction that is there
 target_there : (P : Bytecode) (F : Function) (i : Instr) → instr_fault P F i ≡ None → TargetIsThere F (flow i)
-target_there P F (Jump to) none = less to (length F.code) (holds (nat_lt to (length F.code)) _ none)
-target_there P F (Jz to) none = less to (length F.code) (holds (nat_lt to (length F.code)) _ none)
-target_there P F (Jnz to) none = less to (length F.code) (holds (nat_lt to (length F.code)) _ none)
+target_there P F (Jump to) none = ltb-true to (length F.code) (holds (nat_lt to (length F.code)) _ none)
+target_there P F (Jz to) none = ltb-true to (length F.code) (holds (nat_lt to (length F.code)) _ none)
+target_there P F (Jnz to) none = ltb-true to (length F.code) (holds (nat_lt to (length F.code)) _ none)
 target_there P F _ none = tt
 
 -- and so is the one that follows, where it is gone on to
@@ -113,10 +96,10 @@ next_there :
     at + 1 < length F.code
 next_there F at i is ended goes_on = by_test (nat_lt (at + 1) (length F.code)) refl where
   by_test : (b : Bool) → nat_lt (at + 1) (length F.code) ≡ b → at + 1 < length F.code
-  by_test true passes = less (at + 1) (length F.code) passes
+  by_test true passes = ltb-true (at + 1) (length F.code) passes
   by_test false fails =
       let within = slice_get_within F.code at i is in
-      let past = not_more (at + 1) (length F.code) fails in
+      let past = ltb-false (at + 1) (length F.code) fails in
       let last : length F.code - 1 ≡ at = omega arith in
       let falls : falls_off F ≡ true = rw (last, is, goes_on) refl in
       cc
@@ -157,8 +140,8 @@ pub catch_right : (P : Bytecode) (F : Function) → IsNamed P F → (k : ℕ) (c
     → c.target < length F.code
 catch_right P F named k c is =
     let all = holds _ _ (catch_named P F named k c is) in
-    let target = (both _ _ (both _ _ all).0).0 in
-    less c.target (length F.code) target
+    let target = (and_parts _ _ (and_parts _ _ all).0).0 in
+    ltb-true c.target (length F.code) target
 
 -- the successors of each instruction are there
 pub successors_of :
@@ -187,7 +170,7 @@ within_clip : (F : Function) (depth : ℕ → Option ℕ) (at n : ℕ) → clipp
 within_clip F depth at n is = by_test (nat_lt at (length F.code)) refl is where
   by_test : (b : Bool) → nat_lt at (length F.code) ≡ b → (if b then depth at else None) ≡ Some n → (at < length F.code)
       × (depth at ≡ Some n)
-  by_test true passes is = (less at (length F.code) passes, is)
+  by_test true passes is = (ltb-true at (length F.code) passes, is)
   by_test false fails is = cc
 
 -- an instruction that leaves its function puts nothing on the stack
@@ -271,35 +254,43 @@ main_there n (Some F) is = (F, refl, grind (arith, nat_tests))
 
 -- ## The limits
 
--- each of the limits on a program, but that on a class's fields
-abbrev Limits : Bytecode → Type 0
-Limits P =
-    (nat_lt CODE (sum_by (λ F. length F.code) P.functions) ≡ false) × (nat_lt FUNCTIONS (length P.functions) ≡ false)
-    × (nat_lt CLASSES (length P.classes) ≡ false) × (list_any is_long_function P.functions ≡ false)
+-- each limit on a program, taken alone
+pub record Limits (P : Bytecode) : Type 0 where
+  pub code : sum_by (λ (F : Function). length F.code) P.functions ≤ CODE
+  pub functions : length P.functions ≤ FUNCTIONS
+  pub classes : length P.classes ≤ CLASSES
+  pub each_function : list_any is_long_function P.functions ≡ false
+  pub each_class : list_any is_long_class P.classes ≡ false
 
--- no limit is passed, each taken alone
-limits_of : (P : Bytecode) → is_too_long P ≡ false → Limits P
+-- a program that is not too long keeps to each single limit
+pub limits_of : (P : Bytecode) → is_too_long P ≡ false → Limits P
 limits_of P short =
-    let a = neither _ _ short in
-    let b = neither _ _ a.0 in
-    let c = neither _ _ b.0 in
-    let d = neither _ _ c.0 in
-    (d.0, d.1, c.1, b.1)
+    let a = or_parts _ _ short in
+    let b = or_parts _ _ a.0 in
+    let c = or_parts _ _ b.0 in
+    let d = or_parts _ _ c.0 in
+    record {
+      code = ltb-false CODE (sum_by (λ (F : Function). length F.code) P.functions) d.0;
+      functions = ltb-false FUNCTIONS (length P.functions) d.1;
+      classes = ltb-false CLASSES (length P.classes) c.1;
+      each_function = b.1;
+      each_class = a.1;
+    }
 
 -- no function is longer than a program may be
 short_of : (P : Bytecode) → IsFaultless P → (f : ℕ) (F : Function) → function_at P f ≡ Some F → length F.code ≤ CODE
 short_of P ok f F is =
-    let all = not_more CODE (sum_by (λ G. length G.code) P.functions) (limits_of P ok.short).0 in
+    let all = (limits_of P ok.short).code in
     let one = at_most_sum (λ (G : Function). length G.code) P.functions f F is in
     omega arith
 
 -- each function has its arguments among its locals, and no more locals than a frame
 locals_of : (P : Bytecode) → IsFaultless P → (f : ℕ) (F : Function) → function_at P f ≡ Some F → (F.args ≤ F.locals) × (F.locals ≤ LOCALS)
 locals_of P ok f F is =
-    let none = none_at is_long_function P.functions f F (limits_of P ok.short).3 is in
-    let a = neither _ _ none in
-    let b = neither _ _ a.0 in
-    (not_more F.locals F.args b.1, not_more LOCALS F.locals a.1)
+    let none = none_at is_long_function P.functions f F (limits_of P ok.short).each_function is in
+    let a = or_parts _ _ none in
+    let b = or_parts _ _ a.0 in
+    (ltb-false F.locals F.args b.1, ltb-false LOCALS F.locals a.1)
 
 -- a program without a fault is valid, by the depths of its functions
 pub faultless_is_sound : (P : Bytecode) → IsFaultless P → IsValid P

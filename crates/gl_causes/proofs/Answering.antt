@@ -1,6 +1,6 @@
 -- From what is found of the refused entries to their causes.
-use Rattle.std.proofs.Common.{◌≡◌, ◌≢◌, ℕ, zero, suc, ◌+◌, ◌^◌, ◌<◌, List, [], ◌∷◌, length, map, Bool, true, false, refl, ap, sym, ◌∙◌, subst, inl, inr, arith, Some, None}
-use Rattle.std.specs.Prelude.{ℤ, Contains, Option, if◌then◌else◌, is_some, slice_get}
+use Rattle.std.proofs.Common.{◌≡◌, ◌≢◌, ℕ, zero, suc, ◌^◌, ◌<◌, List, [], ◌∷◌, length, map, Bool, true, false, refl, ap, sym, ◌∙◌, subst, inl, inr, arith, Some}
+use Rattle.std.specs.Prelude.{Contains, if◌then◌else◌, is_some, slice_get}
 use Rattle.std.proofs.lemmas.List.{length-map}
 use Rattle.std.proofs.lemmas.Option.{slice_get_within, slice_get-get_or, get_or_from_slice_get}
 use Rattle.gl_draws.proofs.Sets.{map_contains}
@@ -9,10 +9,10 @@ use Rattle.gl_model.specs.declared.event.Stamp.{Stamp}
 use Rattle.gl_model.specs.declared.limits.TheConstants.{THREADS}
 use Rattle.gl_model.specs.declared.tx.Why.TheVariants.{Changed, Raised}
 use Rattle.gl_model.specs.Entries.{Entry, Sync, Commit, Plain, Abort, Trim, Over}
-use Rattle.gl_model.specs.Form.{Form, Numbered, IsMachineRun, value_of}
+use Rattle.gl_model.specs.Form.{Form, Numbered}
 use Rattle.gl_model.specs.HappensBefore.{IsRacy, IsRaisedRightly, Races}
 use Rattle.gl_model.specs.Kept.{IsEntryKept}
-use Rattle.gl_model.specs.Machine.{Setting, State, Step, Run, Allows}
+use Rattle.gl_model.specs.Machine.{Setting, State}
 use Rattle.gl_model.specs.Records.{Lists, Place, EntryAt, IsEventList, NumberOn}
 use Rattle.gl_places.specs.Places.{Before, seen}
 use Rattle.gl_raised.specs.Accesses.{raised_on}
@@ -30,28 +30,8 @@ use Rattle.gl_causes.proofs.EntryTests.{refusal_means, refusal_there}
 use Rattle.gl_causes.proofs.Known.{led}
 use Rattle.gl_causes.proofs.Racing.{race_in, race_out, some_race}
 use Rattle.gl_causes.proofs.Telling.{Laid, block_is, stand_of}
-
--- if each event of a list steps from one state to the next, the list is a run from the first of these states to the last
-run_from :
-    (setting : Setting) (f : ℕ → State) (ys : List Stamp) (n m : ℕ) → m ≡ n + length ys
-    → ((p q : ℕ) (s : Stamp) → slice_get ys p ≡ Some s → q ≡ n + p → (v : ℤ) × Step setting (f q) s v (f (q + 1)))
-    → Run setting (f n) ys (f m)
-run_from setting f [] n m is steps = ap f (let z : m ≡ n = omega arith in z)
-run_from setting f (s ∷ ys) n m is steps =
-    let k = steps 0 n s refl (omega arith) in
-    (k.0, f (n + 1), k.1, run_from setting f ys (n + 1) m (omega arith) (λ p q t e w. steps (suc p) q t e (omega arith)))
-
--- the history that a record's entries make is allowed, if the machine runs it
-allowed_of : (setting : Setting) (R : Lists) (h : List Stamp) → IsEventList h R → (run : IsMachineRun setting R h)
-    → Allows setting h (run.at (length h))
-allowed_of setting R h is run = subst (λ o. Run setting o h (run.at (length h))) run.first
-    (run_from setting run.at h 0 (length h) (omega arith) steps)
-  where
-    steps : (p q : ℕ) (s : Stamp) → slice_get h p ≡ Some s → q ≡ 0 + p → (v : ℤ) × Step setting (run.at q) s v (run.at (q + 1))
-    steps p q s e same =
-        let m = is.made p s e in
-        let z : p ≡ q = omega arith in
-        subst (λ k. (v : ℤ) × Step setting (run.at k) s v (run.at (k + 1))) z (value_of m.1.entry, run.steps m.0 p s m.1)
+use Rattle.gl_raised.proofs.Faulting.{allowed_of}
+use Rattle.gl_causes.proofs.Passing.{some_there}
 
 -- what was rightly raised on a variable is racy there
 racy_of : (R : Lists) (c : Place) (f : Entry) (x : ℕ) → IsRaisedRightly R c f → raised_on f ≡ Some x → IsRacy R c x
@@ -77,11 +57,6 @@ in_list xs x w = (w.0, slice_get-get_or xs w.0 x w.1 ∙ ap Some w.2)
 pub of_list : {A : Type 0} (xs : List A) (i : ℕ) (x : A) → slice_get xs i ≡ Some x → Contains xs x
 of_list xs i x e = (i, slice_get_within xs i x e, get_or_from_slice_get xs i x x e)
 
--- an option that has something is some number
-some_means : (o : Option ℕ) → is_some o ≡ true → (k : ℕ) × (o ≡ Some k)
-some_means None e = absurd (cc)
-some_means (Some k) e = (k, refl)
-
 -- an entry among the races of a refused one stands among the entries and has a race number
 filtered_means : (a : Asked) (xs : List Stand) (j : ℕ) (s : Stand) → slice_get (races_among a xs) j ≡ Some s → (i : ℕ)
     × ((slice_get xs i ≡ Some s) × ((k : ℕ) × (race_number a s ≡ Some k)))
@@ -94,7 +69,7 @@ filtered_means a (x ∷ xs) j s e = by (is_some (race_number a x)) refl j e (λ 
         → (i : ℕ) × ((slice_get (x ∷ xs) i ≡ Some s) × ((k : ℕ) × (race_number a s ≡ Some k)))
     by true is zero e' rec =
         let same : x ≡ s = cc in
-        (zero, (ap Some same, some_means (race_number a s) (ap (λ (z : Stand). is_some (race_number a z)) (sym same) ∙ is)))
+        (zero, (ap Some same, some_there (race_number a s) (ap (λ (z : Stand). is_some (race_number a z)) (sym same) ∙ is)))
     by true is (suc j) e' rec = let w = rec j e' in (suc w.0, w.1)
     by false is j e' rec = let w = rec j e' in (suc w.0, w.1)
 

@@ -1,12 +1,11 @@
 -- What the tests of an entry say of it.
-use Rattle.std.proofs.Common.{◌≡◌, ℕ, zero, suc, ◌<◌, ◌==◌, List, [], ◌∷◌, map, Bool, true, false, refl, ap, sym, ◌∙◌, subst, inl, inr, arith, Some, None, eq-eqb}
-use Rattle.std.specs.Prelude.{◌⊎◌, ◌↔◌, ◌&&◌, Contains, Option, find, is_some, not, nat_lt, option_map, if◌then◌else◌}
+use Rattle.std.proofs.Common.{◌≡◌, ℕ, ◌<◌, ◌==◌, List, [], ◌∷◌, map, Bool, true, false, refl, ap, sym, ◌∙◌, subst, inl, inr, arith, Some, None, eq-eqb}
+use Rattle.std.specs.Prelude.{◌⊎◌, ◌↔◌, ◌&&◌, Contains, Option, find, not, nat_lt, option_map, if◌then◌else◌}
 use Rattle.std.proofs.lemmas.Bool.{eqb-true, ltb-true, lt-ltb}
-use Rattle.std.proofs.lemmas.List.Elements.{Contains-append_left, Contains-append_right, Contains-append_cases}
+use Rattle.std.proofs.lemmas.List.Elements.{Contains-append_right, Contains-append_cases}
 use Rattle.gl_core.proofs.Marking.{or_cases, or_left, or_right}
 use Rattle.gl_draws.proofs.Origins.{number_once}
 use Rattle.gl_model.specs.declared.tx.Number.{Number}
-use Rattle.gl_model.specs.declared.tx.Pair.{Pair}
 use Rattle.gl_model.specs.declared.tx.Tx.{Tx}
 use Rattle.gl_model.specs.declared.tx.Why.TheVariants.{Changed, Raised}
 use Rattle.gl_model.specs.Entries.{Entry, Sync, Commit, Plain, Abort, Trim, Over}
@@ -15,23 +14,15 @@ use Rattle.gl_model.specs.HappensBefore.{IsCommit, IsRefusedCommit}
 use Rattle.gl_model.specs.Kept.{IsEntryKept}
 use Rattle.gl_model.specs.Records.{NumberOn, IsPerformed, IsPlain, Writes}
 use Rattle.gl_model.specs.Rising.{Rises}
-use Rattle.gl_raised.specs.Accesses.{IsAccess, raised_on}
+use Rattle.gl_raised.specs.Accesses.{IsAccess, raised_on, writes_one}
 use Rattle.gl_causes.specs.declared.refusals.Refusal.{Refusal}
-use Rattle.gl_causes.specs.Judging.{attempt_where, is_plain, number_on, own_number, refusal_of, writes_one, writes_to}
+use Rattle.gl_causes.specs.Judging.{attempt_where, is_plain, number_on, own_number, refusal_of, writes_to}
 use Rattle.gl_causes.specs.Learning.{commits_before, is_lower, is_lower_than, refused_numbers}
+use Rattle.gl_raised.proofs.Parts.{contains_first, one_contains, writes_means}
 
 -- a number made of a variable and its place
 abbrev pub named : ℕ → ℕ → Number
 named x k = record { var = x; nth = k }
-
--- the first is in its list
-pub contains_first : {A : Type 0} (x : A) (xs : List A) → Contains (x ∷ xs) x
-contains_first x xs = Contains-append_left (x ∷ []) xs x (zero, omega arith, refl)
-
--- what is in a one-element list is its element
-one_contains : {A : Type 0} (x y : A) → Contains (x ∷ []) y → x ≡ y
-one_contains x y (zero, l, e) = e
-one_contains x y (suc i, l, e) = absurd (omega arith)
 
 -- a number that is found is one of them
 pub number_means : (ns : List Number) (x k : ℕ) → number_on ns x ≡ Some k → Contains ns (named x k)
@@ -63,26 +54,6 @@ number_there (n ∷ ns) rises x k c = by (n.var == x) refl (λ c'. number_there 
           in let z : (n.var == x) ≡ true = eq-eqb n.var x (ap (λ (m : Number). m.var) same) in cc)
       | inr rest ↦ rec rest
     ]
-
--- a transaction writes the variable exactly where one of its writes is of it
-writes_means : (ws : List Pair) (x : ℕ) → (writes_one ws x ≡ true) ↔ Contains (map (λ w. w.var) ws) x
-writes_means [] x = (λ e. absurd (cc), λ c. absurd (let l = c.1 in omega arith))
-writes_means (w ∷ ws) x = by (w.var == x) refl (writes_means ws x)
-  where
-    by : (b : Bool) → (w.var == x) ≡ b → (writes_one ws x ≡ true) ↔ Contains (map (λ w. w.var) ws) x
-        → (is_some (if b then Some w else find (λ p. p.var == x) ws) ≡ true) ↔ Contains (w.var ∷ map (λ w. w.var) ws) x
-    by true same rec = (
-      λ e. subst (Contains (w.var ∷ map (λ w. w.var) ws)) (eqb-true w.var x same)
-          (contains_first w.var (map (λ w. w.var) ws)),
-      λ c. refl,
-    )
-    by false other rec = (
-      λ e. Contains-append_right (w.var ∷ []) (map (λ w. w.var) ws) x (rec.0 e),
-      λ c. elim (Contains-append_cases (w.var ∷ []) (map (λ w. w.var) ws) x c) [
-        | inl first ↦ absurd (let z : (w.var == x) ≡ true = eq-eqb w.var x (one_contains w.var x first) in cc)
-        | inr rest ↦ rec.1 rest
-      ],
-    )
 
 -- a plain entry that tests as having a number of x is an uncached one of x under that number that did not raise
 plain_own : (x var nth k : ℕ) (cached raised : Bool) → (if var == x && (not cached && not raised) then Some nth else None) ≡ Some k

@@ -32,7 +32,8 @@ use Rattle.gl_raised.proofs.Blocks.{goes_on}
 use Rattle.gl_causes.proofs.EntryTests.{none_before}
 use Rattle.gl_causes.proofs.Leaving.{ahead, no_end, prior}
 use Rattle.gl_causes.proofs.Led.{event_before, event_reached, precede_steps, reached_chain, stamp_before, steps_precede}
-use Rattle.gl_causes.proofs.Telling.{Laid, commit_event, commit_goes, edge_in, edge_out, handed_other, handed_own, rise}
+use Rattle.gl_causes.proofs.Telling.{Laid, commit_goes, edge_in, edge_out, handed_other, handed_own, rise}
+use Rattle.gl_raised.proofs.Racing.{commit_event}
 
 module _ (setting : Setting) (R : Lists) (h : List Stamp) (now : State) (rows : List (List ℕ)) (stands : List Stand)
     (L : Laid setting R h now rows stands) where

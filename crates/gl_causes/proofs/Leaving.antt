@@ -13,7 +13,7 @@ use Rattle.gl_model.specs.Form.{ListForm, IsTrim, IsBegin, IsOver}
 use Rattle.gl_model.specs.HappensBefore.{HappensBefore, by_steps, from_commit, through_commit, IsCommit, OrdersDirectly, program_order, synchronizes}
 use Rattle.gl_model.specs.Records.{At, Lists, Place, InProgramOrder, IsEventAt, position_of, event_of}
 use Rattle.gl_raised.proofs.Blocks.{all_trims, end_entry}
-use Rattle.gl_causes.proofs.Telling.{commit_event}
+use Rattle.gl_raised.proofs.Racing.{commit_event}
 
 -- an event is no note of a trim
 event_no_trim : (e : Entry) (p : ℕ) → position_of e ≡ Some p → IsTrim e → ⊥

@@ -8,17 +8,17 @@ use Rattle.gl_draws.specs.Ties.{or_else, last_position}
 use Rattle.gl_model.specs.Entries.{Entry}
 use Rattle.gl_model.specs.Records.{At, position_of}
 use Rattle.gl_causes.specs.Leading.{IsLastPassed, IsPassed, is_passed, passes}
-use Rattle.gl_causes.proofs.Standing.{last_more}
 use Rattle.gl_causes.proofs.Walks.{taken}
+use Rattle.gl_draws.proofs.Pushes.{last_push}
 
 -- the last position up to the entry at i is the entry's own, or else the one before it
 pub block_on : (es : List Entry) (i : ℕ) (e : Entry) (block : Option ℕ) → At es i e → block ≡ last_position (take i es)
     → or_else (position_of e) block ≡ last_position (take (i + 1) es)
 block_on es i e block there is =
-    ap (or_else (position_of e)) is ∙ sym (last_more (take i es) e) ∙ ap last_position (sym (taken es i e there))
+    ap (or_else (position_of e)) is ∙ sym (last_push (take i es) e) ∙ ap last_position (sym (taken es i e there))
 
 -- an option that has something is some number
-some_there : (o : Option ℕ) → is_some o ≡ true → (k : ℕ) × (o ≡ Some k)
+pub some_there : (o : Option ℕ) → is_some o ≡ true → (k : ℕ) × (o ≡ Some k)
 some_there None e = absurd (cc)
 some_there (Some k) e = (k, refl)
 

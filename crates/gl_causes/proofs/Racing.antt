@@ -25,7 +25,8 @@ use Rattle.gl_causes.specs.declared.races.Asked.{Asked}
 use Rattle.gl_causes.specs.declared.refusals.Refusal.{Refusal}
 use Rattle.gl_raised.proofs.Blocks.{goes_on}
 use Rattle.gl_causes.proofs.EntryTests.{IsDone, IsRefused, one_number, own_means, own_there, plain_told', refusal_means, writes_told}
-use Rattle.gl_causes.proofs.Telling.{Laid, block_is, commit_access, commit_place, commit_tick, not_plain_commit, plain_access, plain_stands, plain_tick, stand_of, told_plain, told_refused}
+use Rattle.gl_causes.proofs.Telling.{Laid, block_is, commit_access, commit_place, commit_tick, plain_access, plain_stands, plain_tick, stand_of, told_plain, told_refused}
+use Rattle.gl_raised.proofs.Racing.{not_plain_commit}
 
 -- a test that two numbers are not the same tells that they are not
 other_means : (x y : ℕ) → not (x == y) ≡ true → x ≢ y

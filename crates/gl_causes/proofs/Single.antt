@@ -11,6 +11,7 @@ use Rattle.gl_raised.specs.Accesses.{raised_on}
 use Rattle.gl_causes.specs.Causes.{OneCause, RacesWith}
 use Rattle.gl_causes.specs.Leading.{IsLastLeading, IsLed}
 use Rattle.gl_causes.proofs.Answering.{in_list, of_list}
+use Rattle.gl_raised.proofs.Faulting.{not_before}
 
 -- one of these is at some place
 abbrev pub Has : List Place → Place → Type 0
@@ -19,13 +20,6 @@ Has xs c = (i : ℕ) × (slice_get xs i ≡ Some c)
 -- each place of the list is before those after it
 abbrev pub Rise : List Place → Type 0
 Rise xs = (i j : ℕ) (b c : Place) → slice_get xs i ≡ Some b → slice_get xs j ≡ Some c → i < j → Before b c
-
--- no two places are each before the other
-not_before : (c d : Place) → Before c d → Before d c → ⊥
-not_before c d (inl l) (inl m) = omega arith
-not_before c d (inl l) (inr m) = let z = m.0 in omega arith
-not_before c d (inr l) (inl m) = let z = l.0 in omega arith
-not_before c d (inr l) (inr m) = let z = l.1 in let y = m.1 in omega arith
 
 -- one of a list is its first or one of the rest
 has_cases : (x : Place) (xs : List Place) (c : Place) → Has (x ∷ xs) c → (x ≡ c) ⊎ Has xs c

@@ -1,6 +1,6 @@
 -- What happens before a refused entry, told by what its thread knows.
-use Rattle.std.proofs.Common.{◌≡◌, ◌≢◌, ℕ, suc, ◌+◌, ◌-◌, ◌^◌, ◌<◌, ◌==◌, zero, List, [], ◌∷◌, length, take, drop, Bool, true, false, refl, ap, sym, ◌∙◌, subst, inl, inr, arith, Some, None, eq-eqb, ne_eqb}
-use Rattle.std.specs.Prelude.{◌⊎◌, ◌↔◌, if◌then◌else◌, slice_get, unwrap_or}
+use Rattle.std.proofs.Common.{◌≡◌, ◌≢◌, ℕ, suc, ◌+◌, ◌-◌, ◌^◌, ◌<◌, ◌==◌, List, length, take, drop, Bool, true, false, refl, ap, sym, ◌∙◌, subst, inl, inr, arith, Some, None, eq-eqb, ne_eqb}
+use Rattle.std.specs.Prelude.{◌↔◌, if◌then◌else◌, slice_get, unwrap_or}
 use Rattle.std.proofs.lemmas.Bool.{eqb-true}
 use Rattle.std.proofs.lemmas.List.{length-take-le, take-append-drop}
 use Rattle.std.proofs.lemmas.Option.{slice_get_within}
@@ -18,17 +18,15 @@ use Rattle.gl_model.specs.declared.event.Element.TheVariants.{Thread}
 use Rattle.gl_model.specs.declared.event.Event.TheVariants.{Act as Does, Commit as Commits}
 use Rattle.gl_model.specs.declared.event.Stamp.{Stamp}
 use Rattle.gl_model.specs.declared.limits.TheConstants.{THREADS}
-use Rattle.gl_model.specs.declared.tx.Tx.{Tx}
-use Rattle.gl_model.specs.declared.tx.Why.TheVariants.{Changed, Raised}
 use Rattle.gl_model.specs.Edges.{EventAt}
 use Rattle.gl_model.specs.Entries.{Entry, Sync, Commit, Plain, Abort, Trim, Over}
-use Rattle.gl_model.specs.Form.{Form, Numbered, NumberDraws}
+use Rattle.gl_model.specs.Form.{Form, Numbered}
 use Rattle.gl_model.specs.HappensBefore.{HappensBefore, IsCommit, IsRefusedCommit, RefusedCommitEdge}
 use Rattle.gl_model.specs.Kept.{IsEntryKept}
 use Rattle.gl_model.specs.Locksets.{Access}
 use Rattle.gl_model.specs.Machine.{Setting, State, Allows}
 use Rattle.gl_model.specs.Next.{Reaches}
-use Rattle.gl_model.specs.Records.{Lists, Place, EntryAt, IsEventAt, IsEventList, IsBlockOf, IsPlain, NumberOn, PositionsRise, variables_of}
+use Rattle.gl_model.specs.Records.{Lists, Place, EntryAt, IsEventAt, IsEventList, IsBlockOf, IsPlain, NumberOn, PositionsRise}
 use Rattle.gl_raised.specs.Accesses.{IsAccess}
 use Rattle.gl_causes.specs.Judging.{tick_in}
 use Rattle.gl_causes.specs.Learning.{IsLearned, Knows, commits_before, handed_on, refused_numbers}
@@ -37,24 +35,7 @@ use Rattle.gl_causes.specs.Stands.{AreStands, IsStand, Stand}
 use Rattle.gl_raised.proofs.Blocks.{has_block, goes_on}
 use Rattle.gl_causes.proofs.EntryTests.{IsCommitBefore, before_means, before_there, none_before}
 use Rattle.gl_raised.proofs.Orders.{block_told, plain_told, refused_told, ByCommit, other_reaches, own_reaches}
-
--- a plain entry is no commit
-pub not_plain_commit : (e : Entry) → IsPlain e → IsCommit e → ⊥
-not_plain_commit (Plain var nth cached write value raised) i r = r
-not_plain_commit (Commit at tx) i r = i
-not_plain_commit (Sync at act value) i r = i
-not_plain_commit (Abort tx why) i r = i
-not_plain_commit (Trim low) i r = i
-not_plain_commit (Over ending) i r = i
-
--- a commit that was performed is not a refused one
-no_two : (e : Entry) → IsCommit e → IsRefusedCommit e → ⊥
-no_two (Commit at tx) i r = r
-no_two (Sync at act value) i r = i
-no_two (Plain var nth cached write value raised) i r = i
-no_two (Abort tx why) i r = i
-no_two (Trim low) i r = i
-no_two (Over ending) i r = i
+use Rattle.gl_raised.proofs.Racing.{commit_event, no_two, draws_itself}
 
 -- a plain entry is an access
 pub plain_access : (e : Entry) → IsPlain e → IsAccess e
@@ -74,16 +55,6 @@ commit_access (Abort tx why) i = absurd i
 commit_access (Trim low) i = absurd i
 commit_access (Over ending) i = absurd i
 
--- a commit, or a refused one, drew its numbers itself
-draws_itself : (e : Entry) (x k : ℕ) → IsCommit e ⊎ IsRefusedCommit e → NumberOn e x k → NumberDraws e x k
-draws_itself (Commit at tx) x k w n = n
-draws_itself (Abort tx (Raised var)) x k w n = n
-draws_itself (Abort tx (Changed var read found)) x k w n = absurd n
-draws_itself (Plain var nth cached write value raised) x k w n = absurd (elim w [ inl z ↦ z | inr z ↦ z ])
-draws_itself (Sync at act value) x k w n = absurd n
-draws_itself (Trim low) x k w n = absurd n
-draws_itself (Over ending) x k w n = absurd n
-
 -- the tick of a plain entry is one above its block's
 pub plain_tick : (e : Entry) (b : ℕ) → IsPlain e → b + 1 < 2 ^ 64 → tick_in b e ≡ b + 1
 plain_tick (Plain var nth cached write value raised) b p l = omega arith
@@ -101,29 +72,6 @@ commit_tick (Sync at act value) b p = absurd p
 commit_tick (Abort tx why) b p = absurd p
 commit_tick (Trim low) b p = absurd p
 commit_tick (Over ending) b p = absurd p
-
--- a commit's block is its own position
-commit_block : (es : List Entry) (i : ℕ) (at : ℕ) (tx : Tx) → slice_get es i ≡ Some (Commit at tx) → last_position (take (suc i) es)
-    ≡ Some at
-commit_block [] i at tx e = absurd (cc)
-commit_block (x ∷ es) zero at tx e = let z : x ≡ Commit at tx = cc in rw z refl
-commit_block (x ∷ es) (suc i) at tx e = rw (commit_block es i at tx e) refl
-
--- a commit has an event, that of a commit, which is its own block
-pub commit_event : (R : Lists) (c : Place) (e : Entry) → EntryAt R c e → IsCommit e → (p : ℕ) × (s : Stamp) × IsEventAt R c p s
-    × ((xs : List ℕ) × (s.event ≡ Commits xs)) × BlockAt (R c.thread) c.index p
-commit_event R c (Commit at tx) here is = (
-  at,
-  record { thread = c.thread; event = Commits (variables_of tx) },
-  record { entry = Commit at tx; there = here; position = refl; event = refl; own = refl },
-  (variables_of tx, refl),
-  commit_block (R c.thread) c.index at tx here,
-)
-commit_event R c (Sync at act value) here is = absurd is
-commit_event R c (Plain var nth cached write value raised) here is = absurd is
-commit_event R c (Abort tx why) here is = absurd is
-commit_event R c (Trim low) here is = absurd is
-commit_event R c (Over ending) here is = absurd is
 
 -- what the code has of a record
 pub record Laid (setting : Setting) (R : Lists) (h : List Stamp) (now : State) (rows : List (List ℕ)) (stands : List Stand) : Type 0 where

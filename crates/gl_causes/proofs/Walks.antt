@@ -19,7 +19,8 @@ use Rattle.gl_causes.specs.declared.cause.Cause.{Cause}
 use Rattle.gl_causes.specs.declared.races.Asked.{Asked}
 use Rattle.gl_causes.specs.declared.races.Latest.{Latest}
 use Rattle.gl_causes.specs.declared.refusals.Refusal.{Refusal}
-use Rattle.gl_causes.proofs.Standing.{at_cases, kept_at, new_at}
+use Rattle.gl_raised.proofs.Gathering.{at_cases, kept_at, new_at}
+use Rattle.gl_clocks.proofs.Clocking.{below_max}
 
 -- what stands at i among the seen ones is the element at i as it is seen
 pub at_seen : {A B : Type 0} (f : A → B) (xs : List A) (i : ℕ) (d : A) → i < length xs → slice_get (map f xs) i ≡ Some (f (get_or xs i d))
@@ -47,16 +48,6 @@ lower_one ns (x ∷ ms) zero m e is =
     (ap (λ (z : Number). is_lower_than z.nth (number_on ns z.var)) same ∙ is)
 lower_one ns (x ∷ ms) (suc i) m e is =
     or_right (is_lower_than x.nth (number_on ns x.var)) (is_lower ns ms) (lower_one ns ms i m e is)
-
--- what is below the greater of two is below one of them
-below_max : (k a b : ℕ) → (k < max a b) ↔ ((k < a) ⊎ (k < b))
-below_max k a b = (
-  λ l. elim (cases_lt k a) [ inl x ↦ inl x | inr x ↦ inr (omega arith) ],
-  λ e. elim e [
-    | inl x ↦ omega arith
-    | inr x ↦ omega arith
-  ],
-)
 
 -- one of the first i commits hands on more than n of thread u
 abbrev pub IsLearnedBelow : List (List ℕ) → List Stand → List Number → ℕ → ℕ → ℕ → Type 0

@@ -4,7 +4,6 @@ use Rattle.std.specs.List.{filter}
 use Rattle.gl_core.specs.Cells.{at}
 use Rattle.gl_model.specs.Entries.{Entry, Sync, Commit, Plain, Abort, Trim, Over}
 use Rattle.gl_model.specs.declared.tx.Number.{Number}
-use Rattle.gl_model.specs.declared.tx.Pair.{Pair}
 use Rattle.gl_model.specs.declared.tx.Tx.{Tx}
 use Rattle.gl_model.specs.declared.tx.Why.TheVariants.{Changed, Raised}
 use Rattle.gl_places.specs.Places.{seen}
@@ -12,6 +11,7 @@ use Rattle.gl_causes.specs.declared.races.Asked.{Asked}
 use Rattle.gl_causes.specs.declared.races.Latest.{Latest}
 use Rattle.gl_causes.specs.declared.refusals.Refusal.{Refusal}
 use Rattle.gl_causes.specs.Stands.{Stand}
+use Rattle.gl_raised.specs.Accesses.{writes_one}
 
 -- the number on x, if there is one
 abbrev pub number_on : List Number → ℕ → Option ℕ
@@ -25,10 +25,6 @@ own_number x (Plain var nth cached write value raised) = if var == x && (not cac
 own_number x (Abort tx why) = None
 own_number x (Trim low) = None
 own_number x (Over ending) = None
-
--- a transaction writes the variable
-abbrev pub writes_one : List Pair → ℕ → Bool
-writes_one writes x = is_some (find (λ p. p.var == x) writes)
 
 -- an access of x writes it
 abbrev pub writes_to : ℕ → Entry → Bool

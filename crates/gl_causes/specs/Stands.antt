@@ -1,13 +1,13 @@
 -- The entries of a record, laid out: each with its place and its block.
-use Rattle.std.specs.Prelude.{◌≡◌, ℕ, ◌+◌, ◌<◌, List, slice_get, Some, take, unwrap_or}
+use Rattle.std.specs.Prelude.{◌≡◌, ℕ, ◌+◌, ◌<◌, List, slice_get, Some}
 use Rattle.std.specs.Borrow.{Bor}
-use Rattle.gl_draws.specs.Ties.{last_position}
-use Rattle.gl_model.specs.Entries.{Entry, Sync, Commit, Plain, Abort, Trim, Over, seen as seen_entry}
+use Rattle.gl_model.specs.Entries.{Entry, seen as seen_entry}
 use Rattle.gl_model.specs.declared.record.Entry.{Entry as StoredEntry}
 use Rattle.gl_model.specs.Records.{Lists, Place, EntryAt}
 use Rattle.gl_model.specs.declared.limits.TheConstants.{THREADS}
 use Rattle.gl_places.specs.Places.{Before, seen}
 use Rattle.gl_places.specs.declared.place.Place.{Place as StoredPlace}
+use Rattle.gl_raised.specs.Gathers.{block_before}
 
 -- an entry with its place and its block
 pub record Stand : Type 0 where
@@ -18,19 +18,6 @@ pub record Stand : Type 0 where
 -- one of the program, as definitions see it
 abbrev pub stand_seen : StoredPlace × ℕ × Bor StoredEntry → Stand
 stand_seen s = record { place = seen s.0; block = s.1; entry = seen_entry s.2.now }
-
--- the position of the last of the first n entries of a list that is an event, 0 where none is
-abbrev pub block_before : List Entry → ℕ → ℕ
-block_before es n = unwrap_or (last_position (take n es)) 0
-
--- the block after the entry
-abbrev pub block_after : ℕ → Entry → ℕ
-block_after block (Sync at act value) = at
-block_after block (Commit at tx) = at
-block_after block (Plain var nth cached write value raised) = block
-block_after block (Abort tx why) = block
-block_after block (Trim low) = block
-block_after block (Over ending) = block
 
 -- it stands so in the record
 pub record IsStand (R : Lists) (s : Stand) : Type 0 where

@@ -1,6 +1,7 @@
 // Which entries were refused, and on which variable.
 ghost use Rattle.std.specs.Prelude.{◌≡◌};
-ghost use Rattle.gl_causes.specs.Judging.{attempt_where, number_on, refusal_of, writes_one};
+ghost use Rattle.gl_causes.specs.Judging.{attempt_where, number_on, refusal_of};
+ghost use Rattle.gl_raised.specs.Accesses.{writes_one};
 ghost use Rattle.gl_model.specs.Entries.{seen};
 
 use gl_model::{Entry, Numbers, Pairs, Tx, Why};

@@ -1,6 +1,7 @@
 // The entries of a record, laid out: each with its place and its block.
 ghost use Rattle.std.specs.Prelude.{◌≡◌, ◌+◌, ℕ, List, IfOk, OnOk, map};
-ghost use Rattle.gl_causes.specs.Stands.{AreStands, block_after, stand_seen};
+ghost use Rattle.gl_causes.specs.Stands.{AreStands, stand_seen};
+ghost use Rattle.gl_raised.specs.Accesses.{block_after};
 ghost use Rattle.gl_model.specs.Entries.{Entry as AnEntry, seen};
 ghost use Rattle.gl_model.specs.Lists.{lists_of};
 ghost use Rattle.gl_model.specs.declared.limits.TheConstants.{THREADS};

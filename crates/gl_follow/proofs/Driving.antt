@@ -7,21 +7,16 @@ use Rattle.gl_bytecode.specs.declared.ask.Reply.{Reply}
 use Rattle.gl_bytecode.specs.declared.ask.Reply.TheVariants.{Go as Gone, Value}
 use Rattle.gl_bytecode.specs.Machine.{Attempt, ask_of, next, takes}
 use Rattle.gl_bytecode.specs.Programs.{Bytecode}
-use Rattle.gl_bytecode.specs.Runs.{Quiet, Progress, is_quiet, is_word, known_word, knows, replied, told_one, touched, when, word_of}
+use Rattle.gl_bytecode.specs.Runs.{Quiet, Progress, is_quiet, is_word, knows, replied, told_one, touched, when, word_of}
 use Rattle.gl_vm.specs.Orderly.{IsOrderly}
 use Rattle.gl_vm.proofs.Work.{step_falls}
 use Rattle.gl_follow.specs.Steps.{HasRoomFor}
+use Rattle.gl_follow.proofs.Quiet.{not_known}
 
 -- a reply that is quiet is told as it is
 pub told_quietly : (P : Bytecode) (p q : Progress) (reply : Reply) → is_quiet p.config.attempt p (ask_of p.config.stage) reply ≡ true
     → replied P p (Some reply) ≡ Some q → told_one P (Quiet reply) p ≡ Some q
 told_quietly P p q reply quiet told = ap (λ b. replied P p (when b reply)) quiet ∙ told
-
--- a word that is neither written nor looked at is not known
-unknown : (w l : Option ℤ) → (is_some w || is_some l) ≡ false → known_word w l ≡ None
-unknown (Some a) l is = cc
-unknown None (Some b) is = cc
-unknown None None is = refl
 
 -- a number that passes the test for room is below TX_VARIABLES
 below : (n : ℕ) → nat_lt n TX_VARIABLES ≡ true → n < TX_VARIABLES
@@ -38,7 +33,7 @@ quiet_room p ask reply quiet = record { look = look; write = write } where
         let same : is_quiet p.config.attempt p ask reply ≡ is_quiet (Some b) p (Read x) (Value a) =
         ap (λ o. is_quiet o p ask reply) some ∙ ap (λ k. is_quiet (Some b) p k reply) asks ∙ ap (is_quiet (Some b) p (Read x)) is in
         let word : is_word None (nat_lt (touched p) TX_VARIABLES) a ≡ true =
-        ap (λ k. is_word k (nat_lt (touched p) TX_VARIABLES) a) (sym (unknown (word_of p.writes x) (word_of p.looks x) not)) ∙ sym same
+        ap (λ k. is_word k (nat_lt (touched p) TX_VARIABLES) a) (sym (not_known (word_of p.writes x) (word_of p.looks x) not)) ∙ sym same
         ∙ quiet in
         below (touched p) word
 

@@ -148,7 +148,7 @@ module _ (P : Bytecode) where
   some_not (Some a) is = cc
 
   -- no attempt runs after an exchange with an entry
-  made_over : (e : Entry) (p q : Progress) → Fits P p.config → told_one P (Made e) p ≡ Some q → q.config.attempt ≡ None
+  pub made_over : (e : Entry) (p q : Progress) → Fits P p.config → told_one P (Made e) p ≡ Some q → q.config.attempt ≡ None
   made_over e p q fits is =
       let t = told_of P (Made e) p q is in
       let on = attends_on P p.config t.reply fits t.fits in

@@ -16,7 +16,7 @@ use Rattle.gl_bytecode.specs.Forced.{word_ahead}
 use Rattle.gl_bytecode.specs.Machine.{Attempt, answers, ask_of, refusal_in, takes, takes_at}
 use Rattle.gl_bytecode.specs.Programs.{Bytecode}
 use Rattle.gl_bytecode.specs.Runs.{Progress, is_quiet, is_quiet_within, is_word, known_word, knows, touched, word_of}
-use Rattle.gl_bytecode.proofs.AttemptWords.{none_known}
+use Rattle.gl_bytecode.proofs.AttemptWords.{none_known, same_int as int_same}
 use Rattle.gl_vm.specs.Orderly.{IsOrderly, StageIsOrderly, WaitsRightly}
 use Rattle.gl_follow.specs.Following.{quiet_at, quiet_for, quiet_inside, quiet_outside, quiet_read, quiet_write}
 
@@ -25,11 +25,6 @@ use Rattle.gl_follow.specs.Following.{quiet_at, quiet_for, quiet_inside, quiet_o
 -- an integer is equal to itself
 same_int : (v : ℤ) → int_eq v v ≡ true
 same_int v = search rules
-
--- where not one of two holds, neither does
-either_none : (a b : Bool) → (a || b) ≡ false → (a ≡ false) × (b ≡ false)
-either_none true b is = cc
-either_none false b is = (refl, is)
 
 -- where there is no room, there are just as many as there may be
 full : (n : ℕ) → n ≤ TX_VARIABLES → nat_lt n TX_VARIABLES ≡ false → (n == TX_VARIABLES) ≡ true
@@ -87,14 +82,10 @@ module _ (p : Progress) where
 -- ## There is no other
 
 -- a word that is among neither the writes nor the looks is not known
-not_known : (w l : Option ℤ) → (is_some w || is_some l) ≡ false → known_word w l ≡ None
+pub not_known : (w l : Option ℤ) → (is_some w || is_some l) ≡ false → known_word w l ≡ None
 not_known (Some a) l is = cc
 not_known None (Some b) is = cc
 not_known None None is = refl
-
--- integers that pass the test for equality are equal
-int_same : (a b : ℤ) → int_eq a b ≡ true → a ≡ b
-int_same a b is = search (rules, is)
 
 -- where an attempt has as many variables as it may, there is no room for another
 no_room : (n : ℕ) → (n == TX_VARIABLES) ≡ true → nat_lt n TX_VARIABLES ≡ false

@@ -1,8 +1,8 @@
 -- How far a list has come goes on from one entry to the next.
 use Rattle.std.proofs.Common.{◌≡◌, ℕ, ◌+◌, ◌<◌, List, refl, sym, arith, inl, inr}
 use Rattle.std.specs.Prelude.{◌⊎◌}
-use Rattle.gl_model.specs.Entries.{Entry, Sync, Commit, Plain, Abort, Trim, Over}
-use Rattle.gl_model.specs.declared.event.Act.TheVariants.{Begin, End, Acq, Rel, VRead, VWrite, Fork, Join, Alloc, Print, Input, Fail}
+use Rattle.gl_model.specs.Entries.{Entry, Sync, Trim, Over}
+use Rattle.gl_model.specs.declared.event.Act.TheVariants.{Begin}
 use Rattle.gl_model.specs.Form.{IsBegin, IsEnd, IsOver, IsTrim}
 use Rattle.gl_model.specs.Records.{At}
 use Rattle.gl_form.specs.Passed.{Follows, IsAtStage}
@@ -12,67 +12,32 @@ use Rattle.gl_form.proofs.Lasts.{before_next, same_entry}
 -- a Trim is no End
 trim_no_end : (e : Entry) → IsTrim e → IsEnd e → ⊥
 trim_no_end (Trim low) trim ends = ends
-trim_no_end (Sync at act value) trim ends = trim
-trim_no_end (Commit at tx) trim ends = trim
-trim_no_end (Plain var nth cached write value raised) trim ends = trim
-trim_no_end (Abort tx why) trim ends = trim
-trim_no_end (Over ending) trim ends = trim
+trim_no_end _ trim ends = trim
 
 -- a Trim is no Over
 trim_no_over : (e : Entry) → IsTrim e → IsOver e → ⊥
 trim_no_over (Trim low) trim over = over
-trim_no_over (Sync at act value) trim over = trim
-trim_no_over (Commit at tx) trim over = trim
-trim_no_over (Plain var nth cached write value raised) trim over = trim
-trim_no_over (Abort tx why) trim over = trim
-trim_no_over (Over ending) trim over = trim
+trim_no_over _ trim over = trim
 
 -- a Begin is no Over
 begin_no_over : (e : Entry) → IsBegin e → IsOver e → ⊥
 begin_no_over (Over ending) begins over = begins
-begin_no_over (Sync at act value) begins over = over
-begin_no_over (Commit at tx) begins over = over
-begin_no_over (Plain var nth cached write value raised) begins over = over
-begin_no_over (Abort tx why) begins over = over
-begin_no_over (Trim low) begins over = over
+begin_no_over _ begins over = over
 
 -- an End is no Over
 end_no_over : (e : Entry) → IsEnd e → IsOver e → ⊥
 end_no_over (Over ending) ends over = ends
-end_no_over (Sync at act value) ends over = over
-end_no_over (Commit at tx) ends over = over
-end_no_over (Plain var nth cached write value raised) ends over = over
-end_no_over (Abort tx why) ends over = over
-end_no_over (Trim low) ends over = over
+end_no_over _ ends over = over
 
 -- a Begin is no Trim
 begin_no_trim : (e : Entry) → IsBegin e → IsTrim e → ⊥
 begin_no_trim (Trim low) begins trim = begins
-begin_no_trim (Sync at act value) begins trim = trim
-begin_no_trim (Commit at tx) begins trim = trim
-begin_no_trim (Plain var nth cached write value raised) begins trim = trim
-begin_no_trim (Abort tx why) begins trim = trim
-begin_no_trim (Over ending) begins trim = trim
+begin_no_trim _ begins trim = trim
 
 -- a Begin is no End
 begin_no_end : (e : Entry) → IsBegin e → IsEnd e → ⊥
 begin_no_end (Sync at (Begin f) value) begins ends = ends
-begin_no_end (Sync at End value) begins ends = begins
-begin_no_end (Sync at (Acq o) value) begins ends = begins
-begin_no_end (Sync at (Rel o) value) begins ends = begins
-begin_no_end (Sync at (VRead v) value) begins ends = begins
-begin_no_end (Sync at (VWrite v) value) begins ends = begins
-begin_no_end (Sync at (Fork u f) value) begins ends = begins
-begin_no_end (Sync at (Join u) value) begins ends = begins
-begin_no_end (Sync at (Alloc c) value) begins ends = begins
-begin_no_end (Sync at Print value) begins ends = begins
-begin_no_end (Sync at Input value) begins ends = begins
-begin_no_end (Sync at (Fail code) value) begins ends = begins
-begin_no_end (Trim low) begins ends = begins
-begin_no_end (Commit at tx) begins ends = begins
-begin_no_end (Plain var nth cached write value raised) begins ends = begins
-begin_no_end (Abort tx why) begins ends = begins
-begin_no_end (Over ending) begins ends = begins
+begin_no_end _ begins ends = begins
 
 module _ (es : List Entry) (i : ℕ) (e : Entry) (at : At es i e) where
   -- what holds of the entry there holds of each entry that stands there

@@ -6,24 +6,17 @@ use Rattle.std.specs.Str.Lines.{lines}
 use Rattle.std.proofs.lemmas.Bool.Decides.{nat_tests}
 use Rattle.std.proofs.lemmas.Fmt.{length-decimal-le}
 use Rattle.std.proofs.lemmas.Int.{ints}
+use Rattle.std.proofs.lemmas.Bool.{and_parts, leb-true}
 use Rattle.gl_asm.specs.declared.limits.TheConstants.{LONGEST}
 use Rattle.gl_asm.specs.Listable.{IsValue}
-use Rattle.gl_asm.specs.Texts.{IsText, lines_read, text_read}
+use Rattle.gl_asm.specs.Texts.{IsText, lines_read}
 use Rattle.gl_text.proofs.WordLines.{AreWords, IsPlain, IsWordByte, all_append, all_map, ended, lines_of_ended, not_bad, plain_indented, words_indented}
 use Rattle.gl_asm.proofs.ListedNumbers.{value_decimal, word_decimal}
 use Rattle.gl_gen.specs.Bank.{bank_program}
 use Rattle.gl_gen.specs.BankText.{Line, bank_lines, bank_text, main_lines, transfer_lines}
 use Rattle.gl_gen.proofs.BankIsRight.{bank_is_faultless}
 use Rattle.gl_gen.proofs.BankReads.{SaysPush, lines_say}
-
--- where two hold, each does
-both : (a b : Bool) → (a && b) ≡ true → (a ≡ true) × (b ≡ true)
-both true b is = (refl, is)
-both false b is = cc
-
--- what passes the test for at most is at most as great
-at_most : (a b : ℕ) → nat_le a b ≡ true → a ≤ b
-at_most a b is = grind (arith, nat_tests)
+use Rattle.gl_asm.proofs.ListedProgram.{read_short}
 
 -- ## Lines that are plain and short
 
@@ -39,16 +32,18 @@ is_fine line = list_all (λ b. nat_le 32 b && nat_le b 126) line && nat_le (leng
 plain_bytes : (bytes : List ℕ) → list_all (λ b. nat_le 32 b && nat_le b 126) bytes ≡ true → IsPlain bytes
 plain_bytes [] is = tt
 plain_bytes (b ∷ bytes) is =
-    (let here = both _ _ (both _ _ is).0 in ((at_most 32 b here.0, at_most b 126 here.1), plain_bytes bytes (both _ _ is).1))
+    (let parts = and_parts _ _ is in
+    let here = and_parts _ _ parts.0 in
+    ((leb-true 32 b here.0, leb-true b 126 here.1), plain_bytes bytes parts.1))
 
 -- a line that passes the test is fine
 fine : (line : Line) → is_fine line ≡ true → IsFine line
-fine line is = (plain_bytes line (both _ _ is).0, at_most (length line) 20 (both _ _ is).1)
+fine line is = (plain_bytes line (and_parts _ _ is).0, leb-true (length line) 20 (and_parts _ _ is).1)
 
 -- lines that all pass the test are fine
 all_fine : (ls : List Line) → list_all is_fine ls ≡ true → AllByRecursion IsFine ls
 all_fine [] is = tt
-all_fine (line ∷ ls) is = (fine line (both _ _ is).0, all_fine ls (both _ _ is).1)
+all_fine (line ∷ ls) is = (fine line (and_parts _ _ is).0, all_fine ls (and_parts _ _ is).1)
 
 -- fine lines take 21 bytes each at most, with their line feeds
 length_of_fine : (ls : List Line) → AllByRecursion IsFine ls → length (flat_map ended ls) ≤ 21 * length ls
@@ -153,11 +148,6 @@ lines_fine n small =
 -- what is at most as great does not pass the test for greater
 not_over : (a b : ℕ) → b ≤ a → nat_lt a b ≡ false
 not_over a b most = grind (arith, nat_tests)
-
--- a text that is not too long is read by its lines
-read_short : (text : List ℕ) → length text ≤ LONGEST → text_read text ≡ lines_read (lines text)
-unfolding text_read
-read_short text short = rw (not_over LONGEST (length text) short) refl
 
 -- the bank's text is a text of the bank, with no inputs, up to the greatest number of transfers
 pub bank_is_text : (n : ℕ) → n ≤ 65535 → IsText (bank_text n) (bank_program n) []

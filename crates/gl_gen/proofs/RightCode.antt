@@ -1,21 +1,17 @@
 -- Tests of a function's code that compute: where they pass, nothing is wrong with the function. For its depths a list is given, with the
 -- depth at each place.
-use Rattle.std.proofs.Common.{◌≡◌, ℕ, zero, suc, ◌+◌, ◌-◌, ◌≤◌, nat_lt, nat_le, ◌==◌, Bool, true, false, ◌&&◌, List, [], ◌∷◌, length, Option, Some, None, refl, ap, subst, arith, zero-add}
+use Rattle.std.proofs.Common.{◌≡◌, ℕ, zero, suc, ◌+◌, ◌-◌, nat_lt, nat_le, ◌==◌, Bool, true, false, ◌&&◌, List, [], ◌∷◌, length, Option, Some, None, refl, ap, subst, arith, zero-add}
 use Rattle.std.specs.Prelude.{slice_get, if◌then◌else◌}
 use Rattle.std.specs.List.{AllByRecursion, list_all}
 use Rattle.std.specs.Option.{option_and_then}
 use Rattle.std.proofs.lemmas.Bool.Decides.{nat_tests}
+use Rattle.std.proofs.lemmas.Bool.{and_parts, leb-true}
 use Rattle.gl_bytecode.specs.declared.instr.Instr.{Instr}
 use Rattle.gl_bytecode.specs.declared.limits.TheConstants.{OPERANDS}
 use Rattle.gl_bytecode.specs.Faults.{AreDepths, IsRight, LeadsOn, catch_fault, falls_off, fault_at, instr_fault}
 use Rattle.gl_bytecode.specs.Instructions.{gives, needs, successors}
 use Rattle.gl_bytecode.specs.Programs.{Bytecode}
 use Rattle.gl_gen.specs.Bank.{plain_function}
-
--- where two hold, each does
-both : (a b : Bool) → (a && b) ≡ true → (a ≡ true) × (b ≡ true)
-both true b is = (refl, is)
-both false b is = cc
 
 -- ## What is named
 
@@ -33,8 +29,8 @@ of_none (Some kind) is = cc
 each_none : {X : Type 0} (f : X → Option ℕ) (xs : List X) (k : ℕ) → list_all (λ x. is_none (f x)) xs ≡ true
     → option_and_then f (slice_get xs k) ≡ None
 each_none f [] k is = refl
-each_none f (x ∷ xs) zero is = of_none (f x) (both _ _ is).0
-each_none f (x ∷ xs) (suc k) is = each_none f xs k (both _ _ is).1
+each_none f (x ∷ xs) zero is = of_none (f x) (and_parts _ _ is).0
+each_none f (x ∷ xs) (suc k) is = each_none f xs k (and_parts _ _ is).1
 
 -- where each instruction passes the test, nothing that a function without catches names is wrong
 named_right : (P : Bytecode) (args locals : ℕ) (code : List Instr)
@@ -81,21 +77,17 @@ of_depth n (Some m) is = (let same : m ≡ n = grind (arith, nat_tests) in ap So
 onward : (depths : List ℕ) (n : ℕ) (tos : List ℕ) → list_all (λ to. is_depth n (slice_get depths to)) tos ≡ true
     → AllByRecursion (λ to. slice_get depths to ≡ Some n) tos
 onward depths n [] is = tt
-onward depths n (to ∷ tos) is = (of_depth n (slice_get depths to) (both _ _ is).0, onward depths n tos (both _ _ is).1)
-
--- what passes the test for at most is at most as great
-at_most : (a b : ℕ) → nat_le a b ≡ true → a ≤ b
-at_most a b is = grind (arith, nat_tests)
+onward depths n (to ∷ tos) is = (of_depth n (slice_get depths to) (and_parts _ _ is).0, onward depths n tos (and_parts _ _ is).1)
 
 -- an instruction that passes the test leads on with the depths of the list
 leads : (P : Bytecode) (depths : List ℕ) (at : ℕ) (i : Instr) (n : ℕ) → leads_on P depths at i n ≡ true
     → LeadsOn P (slice_get depths) i at n
 leads P depths at i n is =
-    let all = both _ _ is in
-    let room = both _ _ all.0 in
+    let all = and_parts _ _ is in
+    let room = and_parts _ _ all.0 in
     record {
-      within = at_most n OPERANDS room.0;
-      operands = at_most (needs P i) n room.1;
+      within = leb-true n OPERANDS room.0;
+      operands = leb-true (needs P i) n room.1;
       onward = onward depths ((n - needs P i) + gives i) (successors i at) all.1;
     }
 
@@ -117,11 +109,11 @@ lead_from P depths at (j ∷ more) is zero n i there =
     let Q : ℕ → Type 0 = λ p. slice_get depths p ≡ Some n → LeadsOn P (slice_get depths) i p n in
     subst Q here
     (λ depth. leads P depths at i n (at_depth P depths at i (slice_get depths at) n
-    (subst (λ x. leads_from P depths at x (slice_get depths at) ≡ true) same (both _ _ is).0) depth))
+    (subst (λ x. leads_from P depths at x (slice_get depths at) ≡ true) same (and_parts _ _ is).0) depth))
 lead_from P depths at (j ∷ more) is (suc k) n i there =
     let further : (at + 1) + k ≡ at + suc k = omega arith in
     let Q : ℕ → Type 0 = λ p. slice_get depths p ≡ Some n → LeadsOn P (slice_get depths) i p n in
-    subst Q further (lead_from P depths (at + 1) more (both _ _ is).1 k n i there)
+    subst Q further (lead_from P depths (at + 1) more (and_parts _ _ is).1 k n i there)
 
 -- where a function's code passes the test and starts with an empty stack, the listed depths are its depths
 are_depths : (P : Bytecode) (args locals : ℕ) (code : List Instr) (depths : List ℕ) → slice_get depths 0 ≡ Some 0 → lead_on P depths 0 code

@@ -1,7 +1,8 @@
 -- Some lines of a program text before others.
-use Rattle.std.proofs.Common.{◌≡◌, ℕ, ℤ, ◌+◌, Bool, true, false, ◌&&◌, List, [], ◌∷◌, ◌++◌, Ok, Err, length, fold, refl, ap, sym, ◌∙◌, arith, append_assoc, subst}
+use Rattle.std.proofs.Common.{◌≡◌, ℕ, ℤ, ◌+◌, Bool, true, false, List, [], ◌∷◌, ◌++◌, Ok, Err, length, fold, refl, ap, sym, ◌∙◌, arith, append_assoc, subst}
 use Rattle.std.specs.Prelude.{Result, option_to_list}
 use Rattle.std.specs.List.{list_all}
+use Rattle.std.proofs.lemmas.Bool.{and_parts}
 use Rattle.gl_text.specs.Text.{words}
 use Rattle.gl_bytecode.specs.Programs.{Draft}
 use Rattle.gl_asm.specs.declared.additions.Addition.{Addition}
@@ -53,11 +54,6 @@ no_inputs (AddsInstruction i) is = refl
 no_inputs (AddsCatch c) is = refl
 no_inputs (AddsInputs values) is = cc
 
--- where two hold, each does
-both : (a b : Bool) → (a && b) ≡ true → (a ≡ true) × (b ≡ true)
-both true b is = (refl, is)
-both false b is = cc
-
 -- what is added first, and what the others add
 record Splits (r : Result Addition ℕ) (more : Addition → Result (List Addition) LineFault) (bs : List Addition) : Type 0 where
   first : Addition
@@ -92,7 +88,7 @@ lines_more T D c line (text ∷ ls) rest bs is none =
     let c' = counted c (form_of (words text)) in
     let s = splits (said T c line 0 text) line (λ a. read_from T c' (line + 1) (0 + length (inputs_in a)) ls) bs is in
     let a = s.first in
-    let right = both _ _ (subst (λ cs. list_all adds_no_inputs cs ≡ true) s.whole none) in
+    let right = and_parts _ _ (subst (λ cs. list_all adds_no_inputs cs ≡ true) s.whole none) in
     let empty : inputs_in a ≡ [] = no_inputs a right.0 in
     let others : read_from T c' (line + 1) 0 ls
     ≡ Ok s.others = subst (λ (zs : List ℤ). read_from T c' (line + 1) (0 + length zs) ls ≡ Ok s.others) empty s.go_on in

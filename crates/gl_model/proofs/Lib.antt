@@ -1,8 +1,10 @@
 pub mod Bits
 pub mod Variables
 pub mod Rules
+pub mod ThreadLists
 pub mod Rooms
 pub mod RisingLists
+pub mod RisingPushes
 pub mod ListsOf
 pub mod Pushed
 pub mod Parts

@@ -14,6 +14,7 @@ use Rattle.gl_model.specs.Entries.{Entry, seen, list_seen}
 use Rattle.gl_model.specs.Lists.{with_last}
 use Rattle.gl_model.specs.Rising.{Rises}
 use Rattle.gl_model.specs.Kept.{IsEntryKept, IsListKept, IsRecord}
+use Rattle.gl_model.proofs.RisingLists.{weaker}
 
 module _ (t : ℕ) (e : Entry) where
   -- where the first list is thread t's, the entry comes behind its entries
@@ -70,11 +71,6 @@ All-with_last P t e (l ∷ ls) p all = elim (cases_lt t l.0) [
     | inr below ↦ rw (with_last-below t e l ls below) (all.0, All-with_last P t e ls p all.1)
   ]
 ]
-
--- what holds of all holds of all in a weaker form
-weaker : (P Q : ℕ → Type 0) → ((y : ℕ) → P y → Q y) → (xs : List ℕ) → AllByRecursion P xs → AllByRecursion Q xs
-weaker P Q f [] all = tt
-weaker P Q f (x ∷ xs) all = (f x all.0, weaker P Q f xs all.1)
 
 -- the threads of a record rise with one entry more
 Rises-with_last : (t : ℕ) (e : Entry) (ls : List (ℕ × List Entry)) → Rises (map (λ l. l.0) ls) → Rises (map (λ l. l.0) (with_last t e ls))

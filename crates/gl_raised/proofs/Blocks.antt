@@ -1,5 +1,5 @@
 -- Each access of a well-formed record has a block, whose event is not the end of its thread.
-use Rattle.std.proofs.Common.{◌≡◌, ◌≢◌, ℕ, zero, suc, ◌+◌, ◌<◌, List, [], ◌∷◌, take, refl, ap, ◌∙◌, subst, inl, inr, arith, Some, None}
+use Rattle.std.proofs.Common.{◌≡◌, ◌≢◌, ℕ, zero, suc, ◌+◌, ◌<◌, List, take, refl, ap, ◌∙◌, subst, inl, inr, arith, Some, None}
 use Rattle.std.specs.Prelude.{◌⊎◌, Option}
 use Rattle.std.proofs.lemmas.Option.{slice_get_within, slice_get_cases}
 use Rattle.std.proofs.Math.Nat.{eq-or-lt_of_le}
@@ -8,21 +8,9 @@ use Rattle.gl_model.specs.declared.event.Event.TheVariants.{Act as Does}
 use Rattle.gl_model.specs.Entries.{Entry, Sync, Commit, Plain, Abort, Trim, Over}
 use Rattle.gl_model.specs.Form.{At, Form, ListForm, IsTrim, IsBegin, IsEnd, IsOver}
 use Rattle.gl_model.specs.Records.{Lists, Place, EntryAt, IsBlockOf, position_of, event_of}
-use Rattle.gl_draws.specs.Ties.{or_else, last_position, BlockAt}
+use Rattle.gl_draws.specs.Ties.{last_position, BlockAt}
 use Rattle.gl_raised.specs.Accesses.{IsAccess}
-
--- where no position was found before a place, no entry before it has one
-no_event : (es : List Entry) (n : ℕ) → last_position (take n es) ≡ None → (j q : ℕ) (f : Entry) → At es j f → j < n → position_of f
-    ≡ Some q → ⊥
-no_event [] n none j q f a near i = cc
-no_event (e ∷ es) zero none j q f a near i = omega arith
-no_event (e ∷ es) (suc n) none j q f a near i = cases (last_position (take n es)) refl none j a near (no_event es n)
-  where
-    cases : (o : Option ℕ) → last_position (take n es) ≡ o → or_else o (position_of e) ≡ None → (j : ℕ) → At (e ∷ es) j f → j < suc n
-        → (last_position (take n es) ≡ None → (j q : ℕ) (f : Entry) → At es j f → j < n → position_of f ≡ Some q → ⊥) → ⊥
-    cases (Some p) eq none' j a' near' rec = cc
-    cases None eq none' zero a' near' rec = let same : e ≡ f = cc in let k : position_of e ≡ Some q = rw same i in cc
-    cases None eq none' (suc j) a' near' rec = rec eq j q f a' (omega arith) i
+use Rattle.gl_draws.proofs.DrawPlaces.{no_event}
 
 -- an entry is a trim or none
 pub trim_or_none : (e : Entry) → IsTrim e ⊎ (IsTrim e → ⊥)

@@ -108,7 +108,7 @@ least_as P Q same None l = λ x q. l x ((same x).1 q)
 least_as P Q same (Some x) l = ((same x).0 l.0, λ y lt q. l.1 y lt ((same y).1 q))
 
 -- no two places are each before the other
-not_before : (c d : Place) → Before c d → Before d c → ⊥
+pub not_before : (c d : Place) → Before c d → Before d c → ⊥
 not_before c d (inl l) (inl m) = omega arith
 not_before c d (inl l) (inr m) = let z = m.0 in omega arith
 not_before c d (inr l) (inl m) = let z = l.0 in omega arith

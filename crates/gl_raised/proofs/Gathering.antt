@@ -1,5 +1,5 @@
 -- The claims and the accesses of a record, with one entry more.
-use Rattle.std.proofs.Common.{◌≡◌, ℕ, zero, suc, ◌+◌, ◌<◌, ◌≤◌, List, [], ◌∷◌, ◌++◌, length, map, take, get_or, refl, ap, sym, ◌∙◌, subst, inl, inr, arith, Some, None, append-nil}
+use Rattle.std.proofs.Common.{◌≡◌, ℕ, zero, suc, ◌+◌, ◌<◌, ◌≤◌, List, [], ◌∷◌, ◌++◌, length, map, take, get_or, refl, ap, sym, ◌∙◌, subst, inl, inr, arith, Some, append-nil}
 use Rattle.std.specs.Prelude.{◌⊎◌, Contains, Option, option_map, slice_get, unwrap_or}
 use Rattle.std.proofs.lemmas.Bool.{cases_lt}
 use Rattle.std.proofs.lemmas.List.{take_more}
@@ -17,40 +17,26 @@ use Rattle.gl_raised.specs.Accesses.{IsAccess, accesses_of, block_after, claims_
 use Rattle.gl_raised.specs.Gathers.{AreGathered, IsClaimOf, block_before}
 use Rattle.gl_raised.specs.declared.access.Access.{Access}
 use Rattle.gl_raised.specs.declared.access.Claim.{Claim}
+use Rattle.gl_draws.proofs.Pushes.{last_push}
 
--- a claim stands where it stood when more claims are put after
-claim_kept : (ls more : List Claim) (k : ℕ) (l : Claim) → slice_get ls k ≡ Some l → slice_get (ls ++ more) k ≡ Some l
-claim_kept [] more k l a = cc
-claim_kept (x ∷ ls) more zero l a = a
-claim_kept (x ∷ ls) more (suc k) l a = claim_kept ls more k l a
+-- what stood at a place stands there with more put after
+pub kept_at : {A : Type 0} (xs more : List A) (k : ℕ) (x : A) → slice_get xs k ≡ Some x → slice_get (xs ++ more) k ≡ Some x
+kept_at [] more k x a = cc
+kept_at (y ∷ xs) more zero x a = a
+kept_at (y ∷ xs) more (suc k) x a = kept_at xs more k x a
 
--- a claim that is put last stands at the old length
-claim_new : (ls : List Claim) (l : Claim) → slice_get (ls ++ l ∷ []) (length ls) ≡ Some l
-claim_new [] l = refl
-claim_new (x ∷ ls) l = claim_new ls l
+-- what is put last stands at the old length
+pub new_at : {A : Type 0} (xs : List A) (x : A) → slice_get (xs ++ x ∷ []) (length xs) ≡ Some x
+new_at [] x = refl
+new_at (y ∷ xs) x = new_at xs x
 
--- a claim among those with one put last stood before, or is that one at the old length
-claim_cases : (ls : List Claim) (l m : Claim) (k : ℕ) → slice_get (ls ++ l ∷ []) k ≡ Some m → (slice_get ls k ≡ Some m)
-    ⊎ ((k ≡ length ls) × (m ≡ l))
-claim_cases [] l m zero a = inr (refl, let s : l ≡ m = cc in sym s)
-claim_cases [] l m (suc k) a = absurd (cc)
-claim_cases (x ∷ ls) l m zero a = inl a
-claim_cases (x ∷ ls) l m (suc k) a = elim (claim_cases ls l m k a) [ inl s ↦ inl s | inr n ↦ inr (ap suc n.0, n.1) ]
-
--- the first that is there of three options is the same, however they are grouped
-or_nested : (o p q : Option ℕ) → or_else (or_else o p) q ≡ or_else o (or_else p q)
-or_nested (Some x) p q = refl
-or_nested None p q = refl
-
--- something, or else nothing, is that something
-or_none : (o : Option ℕ) → or_else o None ≡ o
-or_none (Some x) = refl
-or_none None = refl
-
--- the last position of a list with an entry more is that of the entry, or else of the list
-last_more : (es : List Entry) (e : Entry) → last_position (es ++ e ∷ []) ≡ or_else (position_of e) (last_position es)
-last_more [] e = sym (or_none (position_of e))
-last_more (x ∷ es) e = ap (λ o. or_else o (position_of x)) (last_more es e) ∙ or_nested (position_of e) (last_position es) (position_of x)
+-- what stands in a list with one put last stood there before, or is that one at the old length
+pub at_cases : {A : Type 0} (xs : List A) (x y : A) (k : ℕ) → slice_get (xs ++ x ∷ []) k ≡ Some y → (slice_get xs k ≡ Some y)
+    ⊎ ((k ≡ length xs) × (y ≡ x))
+at_cases [] x y zero a = inr (refl, let s : x ≡ y = cc in sym s)
+at_cases [] x y (suc k) a = absurd (cc)
+at_cases (z ∷ xs) x y zero a = inl a
+at_cases (z ∷ xs) x y (suc k) a = elim (at_cases xs x y k a) [ inl s ↦ inl s | inr n ↦ inr (ap suc n.0, n.1) ]
 
 -- the block after an entry is its position, or else the block before it
 after_means : (o : Option ℕ) (e : Entry) → unwrap_or (or_else (position_of e) o) 0 ≡ block_after (unwrap_or o 0) e
@@ -68,7 +54,7 @@ block_more es i b e there is =
     let more : take (i + 1) es ≡ take i es ++ e ∷ [] = take_more es i e (slice_get_within es i e there)
     ∙ ap (λ z. take i es ++ z ∷ []) (get_or_from_slice_get es i e e there) in
     ap (λ z. block_after z e) is ∙ sym (after_means (last_position (take i es)) e)
-    ∙ ap (λ o. unwrap_or o 0) (sym (last_more (take i es) e)) ∙ ap (λ l. unwrap_or (last_position l) 0) (sym more)
+    ∙ ap (λ o. unwrap_or o 0) (sym (last_push (take i es) e)) ∙ ap (λ l. unwrap_or (last_position l) 0) (sym more)
 
 -- an entry is no access, or has one claim
 pub data ClaimKind (e : Entry) : Type 0 where
@@ -87,7 +73,7 @@ kind_of (Trim low) = no_access (λ a. a) (λ p b. refl) (λ k t b. refl)
 kind_of (Over ending) = no_access (λ a. a) (λ p b. refl) (λ k t b. refl)
 
 -- what is before the next place of a list is before this one, or is it
-next_cases : (c : Place) (t i : ℕ) → Before c (record { thread = t; index = i + 1 }) → Before c (record { thread = t; index = i })
+pub next_cases : (c : Place) (t i : ℕ) → Before c (record { thread = t; index = i + 1 }) → Before c (record { thread = t; index = i })
     ⊎ (c ≡ record { thread = t; index = i })
 next_cases c t i (inl lt) = inl (inl lt)
 next_cases c t i (inr s) = elim (cases_lt c.index i) [
@@ -96,7 +82,7 @@ next_cases c t i (inr s) = elim (cases_lt c.index i) [
 ]
 
 -- a place before one entry of a thread is before the next
-next_before : (c : Place) (t i : ℕ) → Before c (record { thread = t; index = i }) → Before c (record { thread = t; index = i + 1 })
+pub next_before : (c : Place) (t i : ℕ) → Before c (record { thread = t; index = i }) → Before c (record { thread = t; index = i + 1 })
 next_before c t i (inl lt) = inl lt
 next_before c t i (inr s) = inr (s.0, let w = s.1 in omega arith)
 
@@ -152,21 +138,21 @@ module _ (R : Lists) (t i b : ℕ) (p : StoredPlace) (is_place : seen p ≡ reco
   with_one : IsAccess e → AreGathered R (record { thread = t; index = i + 1 }) (claims ++ its ∷ []) (accesses
       ++ accesses_of (length claims) t b e)
   with_one is = record {
-    claim = λ k l a. elim (claim_cases claims its l k a) [
+    claim = λ k l a. elim (at_cases claims its l k a) [
       | inl old ↦ (next_before (seen l.place) t i (so_far.claim k l old).0, (so_far.claim k l old).1)
       | inr now ↦ subst (λ (m : Claim). Before (seen m.place) (record { thread = t; index = i + 1 }) × ((f : Entry) × IsClaimOf R m f))
           (sym now.1) (inr (of_thread, omega (arith, of_index)), (e, its_claim is))
     ];
     all = λ c f a ac before. elim (next_cases c t i before) [
-      | inl old ↦ (let w = so_far.all c f a ac old in (w.0, (w.1.0, claim_kept claims (its ∷ []) w.0 w.1.0 w.1.1, w.1.2)))
-      | inr now ↦ (length claims, (its, claim_new claims its, is_place ∙ sym now))
+      | inl old ↦ (let w = so_far.all c f a ac old in (w.0, (w.1.0, kept_at claims (its ∷ []) w.0 w.1.0 w.1.1, w.1.2)))
+      | inr now ↦ (length claims, (its, new_at claims its, is_place ∙ sym now))
     ];
-    rising = λ j k l m al am lt. elim (claim_cases claims its m k am) [
-      | inl old ↦ elim (claim_cases claims its l j al) [
+    rising = λ j k l m al am lt. elim (at_cases claims its m k am) [
+      | inl old ↦ elim (at_cases claims its l j al) [
         | inl first ↦ so_far.rising j k l m first old lt
         | inr last ↦ absurd (let w = slice_get_within claims k m old in let z = last.0 in omega arith)
       ]
-      | inr now ↦ elim (claim_cases claims its l j al) [
+      | inr now ↦ elim (at_cases claims its l j al) [
         | inl first ↦ subst (λ (n : Claim). Before (seen l.place) (seen n.place)) (sym now.1)
             (subst (λ c. Before (seen l.place) c) (sym is_place) (so_far.claim j l first).0)
         | inr last ↦ absurd (let z = last.0 in let y = now.0 in omega arith)
@@ -175,14 +161,14 @@ module _ (R : Lists) (t i b : ℕ) (p : StoredPlace) (is_place : seen p ≡ reco
     parts = λ a. (
       λ c. elim (Contains-append_cases accesses (accesses_of (length claims) t b e) a c) [
         | inl old ↦ (let w = (so_far.parts a).0 old
-            in (w.0, (w.1.0, (w.1.1.0, claim_kept claims (its ∷ []) w.0 w.1.0 w.1.1.1, w.1.1.2, w.1.1.3))))
+            in (w.0, (w.1.0, (w.1.1.0, kept_at claims (its ∷ []) w.0 w.1.0 w.1.1.1, w.1.1.2, w.1.1.3))))
         | inr new ↦ (
           length claims,
           (
             its,
             (
               e,
-              claim_new claims its,
+              new_at claims its,
               here,
               subst (λ u. Contains (accesses_of (length claims) u b e) a)
                   (sym of_thread) new,
@@ -190,7 +176,7 @@ module _ (R : Lists) (t i b : ℕ) (p : StoredPlace) (is_place : seen p ≡ reco
           ),
         )
       ],
-      λ w. elim (claim_cases claims its w.1.0 w.0 w.1.1.1) [
+      λ w. elim (at_cases claims its w.1.0 w.0 w.1.1.1) [
         | inl old ↦ Contains-append_left accesses (accesses_of (length claims) t b e) a
             ((so_far.parts a).1 (w.0, (w.1.0, (w.1.1.0, old, w.1.1.2, w.1.1.3))))
         | inr now ↦ Contains-append_right accesses (accesses_of (length claims) t b e) a

@@ -1,12 +1,12 @@
 mod BlockRows
 pub mod Blocks
 mod Cells
-mod Faulting
-mod Gathering
+pub mod Faulting
+pub mod Gathering
 pub mod Kept
 mod Lasting
 mod Numbered
 pub mod Orders
-mod Parts
-mod Racing
+pub mod Parts
+pub mod Racing
 mod Walked

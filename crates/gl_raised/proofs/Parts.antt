@@ -26,16 +26,16 @@ pub record IsPart (k t b : ℕ) (e : Entry) (a : Access) : Type 0 where
       ⊎ (IsRefusedCommit e × (a.commit ≡ true) × (a.performed ≡ false) × (a.tick ≡ b)))
 
 -- the first is in its list
-contains_first : {A : Type 0} (x : A) (xs : List A) → Contains (x ∷ xs) x
+pub contains_first : {A : Type 0} (x : A) (xs : List A) → Contains (x ∷ xs) x
 contains_first x xs = Contains-append_left (x ∷ []) xs x (zero, omega arith, refl)
 
 -- what is in a one-element list is its element
-one_contains : {A : Type 0} (x y : A) → Contains (x ∷ []) y → x ≡ y
+pub one_contains : {A : Type 0} (x y : A) → Contains (x ∷ []) y → x ≡ y
 one_contains x y (zero, l, e) = e
 one_contains x y (suc i, l, e) = absurd (omega arith)
 
 -- a transaction writes the variable exactly where one of its writes is of it
-writes_means : (ws : List Pair) (x : ℕ) → (writes_one ws x ≡ true) ↔ Contains (map (λ w. w.var) ws) x
+pub writes_means : (ws : List Pair) (x : ℕ) → (writes_one ws x ≡ true) ↔ Contains (map (λ w. w.var) ws) x
 writes_means [] x = (λ e. absurd (cc), λ c. absurd (let l = c.1 in omega arith))
 writes_means (w ∷ ws) x = by (w.var == x) refl (writes_means ws x)
   where

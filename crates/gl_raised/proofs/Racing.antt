@@ -80,7 +80,7 @@ commit_block (x ∷ es) zero at tx e = let z : x ≡ Commit at tx = cc in rw z r
 commit_block (x ∷ es) (suc i) at tx e = rw (commit_block es i at tx e) refl
 
 -- a commit has an event, that of a commit, which is its own block
-commit_event : (R : Lists) (c : Place) (e : Entry) → EntryAt R c e → IsCommit e → (p : ℕ) × (s : Stamp) × IsEventAt R c p s
+pub commit_event : (R : Lists) (c : Place) (e : Entry) → EntryAt R c e → IsCommit e → (p : ℕ) × (s : Stamp) × IsEventAt R c p s
     × ((xs : List ℕ) × (s.event ≡ Commits xs)) × BlockAt (R c.thread) c.index p
 commit_event R c (Commit at tx) here is = (
   at,
@@ -89,11 +89,7 @@ commit_event R c (Commit at tx) here is = (
   (variables_of tx, refl),
   commit_block (R c.thread) c.index at tx here,
 )
-commit_event R c (Sync at act value) here is = absurd is
-commit_event R c (Plain var nth cached write value raised) here is = absurd is
-commit_event R c (Abort tx why) here is = absurd is
-commit_event R c (Trim low) here is = absurd is
-commit_event R c (Over ending) here is = absurd is
+commit_event R c _ here is = absurd is
 
 -- an entry that has a number is an access
 number_access : (e : Entry) (x k : ℕ) → NumberOn e x k → IsAccess e
@@ -106,34 +102,22 @@ number_access (Trim low) x k n = absurd n
 number_access (Over ending) x k n = absurd n
 
 -- a commit that was performed is not a refused one
-no_two : (e : Entry) → IsCommit e → IsRefusedCommit e → ⊥
+pub no_two : (e : Entry) → IsCommit e → IsRefusedCommit e → ⊥
 no_two (Commit at tx) i r = r
-no_two (Sync at act value) i r = i
-no_two (Plain var nth cached write value raised) i r = i
-no_two (Abort tx why) i r = i
-no_two (Trim low) i r = i
-no_two (Over ending) i r = i
+no_two _ i r = i
 
 -- a plain entry is no commit
-not_plain_commit : (e : Entry) → IsPlain e → IsCommit e → ⊥
+pub not_plain_commit : (e : Entry) → IsPlain e → IsCommit e → ⊥
 not_plain_commit (Plain var nth cached write value raised) i r = r
-not_plain_commit (Commit at tx) i r = i
-not_plain_commit (Sync at act value) i r = i
-not_plain_commit (Abort tx why) i r = i
-not_plain_commit (Trim low) i r = i
-not_plain_commit (Over ending) i r = i
+not_plain_commit _ i r = i
 
 -- a plain entry is no refused commit
 not_plain_refused : (e : Entry) → IsPlain e → IsRefusedCommit e → ⊥
 not_plain_refused (Plain var nth cached write value raised) i r = r
-not_plain_refused (Commit at tx) i r = i
-not_plain_refused (Sync at act value) i r = i
-not_plain_refused (Abort tx why) i r = i
-not_plain_refused (Trim low) i r = i
-not_plain_refused (Over ending) i r = i
+not_plain_refused _ i r = i
 
 -- a commit, or a refused one, drew its numbers itself
-draws_itself : (e : Entry) (x k : ℕ) → IsCommit e ⊎ IsRefusedCommit e → NumberOn e x k → NumberDraws e x k
+pub draws_itself : (e : Entry) (x k : ℕ) → IsCommit e ⊎ IsRefusedCommit e → NumberOn e x k → NumberDraws e x k
 draws_itself (Commit at tx) x k w n = n
 draws_itself (Abort tx (Raised var)) x k w n = n
 draws_itself (Abort tx (Changed var read found)) x k w n = absurd n

@@ -5,16 +5,7 @@ use Rattle.std.proofs.lemmas.Bool.{cases_lt, eqb-true}
 use Rattle.gl_core.specs.Cells.{at, cell}
 use Rattle.gl_raised.specs.declared.access.Access.{Access}
 use Rattle.gl_raised.specs.Earlier.{Earlier, handed_on, IsHandedOn, IsLearned, VariablesKnow, ClaimsKnow}
-
--- what is below the greater of two is below one of them
-below_max : (k a b : ℕ) → (k < max a b) ↔ ((k < a) ⊎ (k < b))
-below_max k a b = (
-  λ l. elim (cases_lt k a) [ inl x ↦ inl x | inr x ↦ inr (omega arith) ],
-  λ e. elim e [
-    | inl x ↦ omega arith
-    | inr x ↦ omega arith
-  ],
-)
+use Rattle.gl_clocks.proofs.Clocking.{below_max}
 
 -- what comes earlier than the place after is earlier than the place, or stands at it
 pub earlier_cases : (us : List Access) (i : ℕ) (v : Access) → Earlier us (i + 1) v → Earlier us i v ⊎ (slice_get us i ≡ Some v)

@@ -1,76 +1,27 @@
--- The lists of a record, gathered thread by thread from 0 up.
-use Rattle.std.proofs.Common.{◌≡◌, ◌⊎◌, ℕ, ◌+◌, ◌<◌, ◌≤◌, ◌==◌, true, false, List, [], ◌∷◌, ◌++◌, map, refl, ap, sym, ◌∙◌, arith, inl, inr, append_assoc, eq-eqb}
-use Rattle.std.specs.Prelude.{nat_lt}
-use Rattle.std.specs.List.{AllByRecursion, filter}
-use Rattle.std.proofs.lemmas.Bool.Decides.{nat_tests}
-use Rattle.std.proofs.lemmas.Bool.{cases_order}
+-- The entries of a record, gathered thread by thread from 0 up.
+use Rattle.std.proofs.Common.{◌≡◌, ℕ, ◌+◌, List, [], ◌∷◌, ◌++◌, Option, Some, None, map, refl, ap, sym, ◌∙◌, append_assoc}
+use Rattle.std.specs.Prelude.{unwrap_or}
 use Rattle.std.proofs.lemmas.List.{append-nil}
 use Rattle.gl_model.specs.Entries.{Entry}
-use Rattle.gl_model.specs.Kept.{IsListKept}
-use Rattle.gl_model.specs.Lists.{lists_of}
+use Rattle.gl_model.specs.Lists.{list_of, lists_of}
 use Rattle.gl_model.specs.Rising.{Rises}
-use Rattle.gl_model.specs.declared.limits.TheConstants.{THREADS}
+use Rattle.gl_model.proofs.ThreadLists.{below, one_of, gathers_next as lists_next}
 use Rattle.gl_report.specs.ByThread.{by_thread, with_thread}
 
--- the lists of the threads below this one
-abbrev pub below : ℕ → List (ℕ × List Entry) → List (ℕ × List Entry)
-below t ls = filter (λ l. nat_lt l.0 t) ls
+-- what is gathered of two lists of lists is what is gathered of the one, and then of the other
+gathered_of_both : (ls ms : List (ℕ × List Entry)) → by_thread (ls ++ ms) ≡ by_thread ls ++ by_thread ms
+gathered_of_both [] ms = refl
+gathered_of_both (l ∷ ls) ms =
+    ap (λ rest. with_thread l ++ rest) (gathered_of_both ls ms) ∙ sym (append_assoc (with_thread l) (by_thread ls) (by_thread ms))
 
--- no thread is below 0
-pub below_none : (ls : List (ℕ × List Entry)) → below 0 ls ≡ []
-below_none [] = refl
-below_none (l ∷ ls) = (let no : nat_lt l.0 0 ≡ false = grind (arith, nat_tests) in rw no (below_none ls))
+-- what is gathered of a thread's list, if it has one, are its entries
+of_one : (t : ℕ) (list : Option (List Entry)) → by_thread (one_of t list) ≡ with_thread (t, unwrap_or list [])
+of_one t None = refl
+of_one t (Some es) = append-nil (with_thread (t, es))
 
--- none is below n where all are above a thread that is at n - 1 or further
-none_below : (t n : ℕ) (ls : List (ℕ × List Entry)) → n ≤ t + 1 → AllByRecursion (λ s. t < s) (map (λ l. l.0) ls) → below n ls ≡ []
-none_below t n [] le above = refl
-none_below t n (l ∷ ls) le above =
-    let first : t < l.0 = above.0 in
-    let out : nat_lt l.0 n ≡ false = grind (arith, nat_tests) in
-    rw out (none_below t n ls le above.1)
-
--- what is gathered of the threads below the next one
-abbrev pub GathersNext : ℕ → List (ℕ × List Entry) → Type 0
-GathersNext t ls = by_thread (below (t + 1) ls) ≡ by_thread (below t ls) ++ with_thread (t, lists_of ls t)
-
--- where the next thread's list is the first, gathering it adds that list to those of the threads below
-next_is_first : (t : ℕ) (l : ℕ × List Entry) (ls : List (ℕ × List Entry)) → l.0 ≡ t → AllByRecursion (λ s. l.0 < s) (map (λ l. l.0) ls)
-    → GathersNext t (l ∷ ls)
-next_is_first t l ls same above =
-    let within : nat_lt l.0 (t + 1) ≡ true = grind (arith, nat_tests) in
-    let out : nat_lt l.0 t ≡ false = grind (arith, nat_tests) in
-    let here : (l.0 == t) ≡ true = eq-eqb l.0 t same in
-    rw (within, out, here, none_below l.0 (t + 1) ls (omega arith) above, none_below l.0 t ls (omega arith) above)
-    (append-nil (with_thread l) ∙ ap (λ s. with_thread (s, l.1)) same)
-
--- where the first list is not the next thread's, gathering that one is the same with it as without it
-next_is_later : (t : ℕ) (l : ℕ × List Entry) (ls : List (ℕ × List Entry)) → (l.0 < t) ⊎ (t < l.0) → GathersNext t ls
-    → GathersNext t (l ∷ ls)
-next_is_later t l ls (inl lt) more =
-    let within_next : nat_lt l.0 (t + 1) ≡ true = grind (arith, nat_tests) in
-    let within : nat_lt l.0 t ≡ true = grind (arith, nat_tests) in
-    let other : (l.0 == t) ≡ false = grind (arith, nat_tests) in
-    rw (within_next, within, other)
-    (ap (λ rest. with_thread l ++ rest) more ∙ sym (append_assoc (with_thread l) (by_thread (below t ls)) (with_thread (t, lists_of ls t))))
-next_is_later t l ls (inr lt) more =
-    let out_next : nat_lt l.0 (t + 1) ≡ false = grind (arith, nat_tests) in
-    let out : nat_lt l.0 t ≡ false = grind (arith, nat_tests) in
-    let other : (l.0 == t) ≡ false = grind (arith, nat_tests) in
-    rw (out_next, out, other) more
-
--- where the threads rise, gathering one thread more puts its list behind those of the threads below
-pub gathers_next : (t : ℕ) (ls : List (ℕ × List Entry)) → Rises (map (λ l. l.0) ls) → GathersNext t ls
-gathers_next t [] rises = refl
-gathers_next t (l ∷ ls) rises =
-    elim (cases_order l.0 t) [
-      | inl same ↦ next_is_first t l ls same rises.0
-      | inr other ↦ next_is_later t l ls other (gathers_next t ls rises.1)
-    ]
-
--- all threads are below their limit
-pub all_below : (ls : List (ℕ × List Entry)) → AllByRecursion IsListKept ls → below THREADS ls ≡ ls
-all_below [] kept = refl
-all_below (l ∷ ls) kept =
-    let first : l.0 < THREADS = kept.0.0 in
-    let within : nat_lt l.0 THREADS ≡ true = grind (arith, nat_tests) in
-    rw within (ap (λ rest. l ∷ rest) (all_below ls kept.1))
+-- the next thread's entries come last
+pub gathers_next : (t : ℕ) (ls : List (ℕ × List Entry)) → Rises (map (λ l. l.0) ls)
+    → by_thread (below (t + 1) ls) ≡ by_thread (below t ls) ++ with_thread (t, lists_of ls t)
+gathers_next t ls rises =
+    ap by_thread (lists_next t ls rises) ∙ gathered_of_both (below t ls) (one_of t (list_of ls t))
+    ∙ ap (λ rest. by_thread (below t ls) ++ rest) (of_one t (list_of ls t))

@@ -1,19 +1,13 @@
 -- Exchanges of a thread's machine, and the entry that answers it next.
-use Rattle.std.proofs.Common.{◌≡◌, ℕ, false, List, [], ◌∷◌, ◌++◌, Option, Some, None, is_some, refl, ◌∙◌, ap}
+use Rattle.std.proofs.Common.{◌≡◌, ℕ, List, [], ◌∷◌, ◌++◌, Some, refl, ◌∙◌, ap}
 use Rattle.gl_model.specs.Entries.{Entry}
-use Rattle.gl_bytecode.specs.declared.ask.Ask.{Ask}
-use Rattle.gl_bytecode.specs.declared.ask.Ask.TheVariants.{Go, Read, Write, TxBegin, TxEnd}
-use Rattle.gl_bytecode.specs.declared.ask.Reply.{Reply}
-use Rattle.gl_bytecode.specs.Attending.{Attends, runs_after}
 use Rattle.gl_bytecode.specs.Fits.{Fits}
 use Rattle.gl_bytecode.specs.Forced.{EndsMade}
-use Rattle.gl_bytecode.specs.Machine.{Attempt, ask_of, fresh, next}
+use Rattle.gl_bytecode.specs.Machine.{fresh}
 use Rattle.gl_bytecode.specs.Programs.{Bytecode}
-use Rattle.gl_bytecode.specs.Runs.{Exchange, Made, Quiet, Progress, entries_of, reply_in, told, told_one}
+use Rattle.gl_bytecode.specs.Runs.{Exchange, Made, Quiet, Progress, entries_of, told, told_one}
 use Rattle.gl_bytecode.specs.Validity.{IsValid}
-use Rattle.gl_bytecode.proofs.Answers.{no_entry}
-use Rattle.gl_bytecode.proofs.Attending.{attends_on}
-use Rattle.gl_bytecode.proofs.Exchanges.{told_of, told_cons, told_none}
+use Rattle.gl_bytecode.proofs.Exchanges.{told_cons, told_none}
 use Rattle.gl_follow.proofs.Peeling.{told_more}
 
 -- a new machine of a valid program fits it
@@ -62,28 +56,3 @@ same_front (y ∷ xs) (z ∷ ys) x is =
     ap (λ zs. y ∷ zs) (same_front xs ys x tails) ∙ ap (λ a. a ∷ ys) heads
 
 -- ## Behind an entry
-
--- where an entry answers, no attempt runs afterwards
-ends_by : (p : Progress) (o : Option Attempt) (ask : Ask) (e : Entry) (r : Reply) → p.config.attempt ≡ o → Attends o ask
-    → reply_in p ask e ≡ Some r → runs_after ask (is_some o) ≡ false
-ends_by p None TxBegin e r is attends gives = (let none = no_entry p None TxBegin e is tt in cc)
-ends_by p None ask e r is attends gives = refl
-ends_by p (Some a) (TxEnd keep) e r is attends gives = refl
-ends_by p (Some a) Go e r is attends gives = (let none = no_entry p (Some a) Go e is tt in cc)
-ends_by p (Some a) (Read x) e r is attends gives = (let none = no_entry p (Some a) (Read x) e is tt in cc)
-ends_by p (Some a) (Write x v) e r is attends gives = (let none = no_entry p (Some a) (Write x v) e is tt in cc)
-ends_by p (Some a) ask e r is attends gives = absurd attends
-
--- an option that is not there is none
-some_not : (o : Option Attempt) → is_some o ≡ false → o ≡ None
-some_not None is = refl
-some_not (Some a) is = cc
-
--- no attempt runs after an exchange with an entry
-pub made_over : (P : Bytecode) (e : Entry) (p q : Progress) → Fits P p.config → told_one P (Made e) p ≡ Some q → q.config.attempt ≡ None
-made_over P e p q fits is =
-    let t = told_of P (Made e) p q is in
-    let on = attends_on P p.config t.reply fits t.fits in
-    let ends = ends_by p p.config.attempt (ask_of p.config.stage) e t.reply refl fits.attends t.gives in
-    let same : is_some q.config.attempt ≡ is_some (next P p.config t.reply).attempt = ap (λ c. is_some c.attempt) t.config in
-    some_not q.config.attempt (same ∙ on.runs ∙ ends)

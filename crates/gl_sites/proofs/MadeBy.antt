@@ -1,5 +1,5 @@
 -- A machine that is driven along a list makes its entries, each by the instruction that it stands at.
-use Rattle.std.proofs.Common.{◌≡◌, ℕ, zero, suc, ◌+◌, ◌≤◌, List, [], ◌∷◌, ◌++◌, Option, Some, None, length, map, drop, refl, sym, ◌∙◌, ap, subst, inl, inr, arith}
+use Rattle.std.proofs.Common.{◌≡◌, ℕ, zero, suc, ◌+◌, ◌≤◌, List, [], ◌∷◌, ◌++◌, Option, Some, None, length, map, drop, refl, sym, ◌∙◌, ap, subst, inl, inr, arith, length-append}
 use Rattle.std.specs.Prelude.{◌⊎◌, slice_get}
 use Rattle.gl_model.specs.Entries.{Entry, Sync, Commit, Plain, Abort, Trim, Over, seen}
 use Rattle.gl_model.specs.declared.record.Entry.{Entry as StoredEntry}
@@ -38,11 +38,6 @@ more_at (a ∷ xs) x y (suc n) there = elim (more_at xs x y n there) [
   | inl before ↦ inl before
   | inr last ↦ inr (ap suc last.0, last.1)
 ]
-
--- a list with one more at its end is one longer
-pub one_longer : {A : Type 0} (xs : List A) (x : A) → length (xs ++ x ∷ []) ≡ length xs + 1
-one_longer [] x = refl
-one_longer (a ∷ xs) x = (let more = one_longer xs x in omega arith)
 
 -- ## The maker of one entry
 
@@ -164,7 +159,7 @@ module _ (P : Bytecode) (steps t : ℕ) (es : List Entry) where
       of_entry p q (length makers) first.entry (at_by es (length makers) first.entry first.later first.same) so_far.at first.passes in
       record {
         at =
-            subst (IsAt P steps t es q) (sym (one_longer makers m))
+            subst (IsAt P steps t es q) (sym (length-append makers (m ∷ [])))
             (turned P steps t es p q (length makers) 1 so_far.at few (inr (refl, first)) can);
         made = one_more makers m so_far.made (subst (IsMaker P steps t es (length makers)) (sym passes.by) here);
       }
@@ -195,4 +190,4 @@ module _ (P : Bytecode) (steps t : ℕ) (es : List Entry) where
   all_made p makers so_far few stops over runs =
       let last = left_over p (length makers) (record { at = so_far.at; few = few; stops = stops }) over runs
       (drop (length makers) es) refl in
-      record { all = one_longer makers Note ∙ sym last.1; each = one_more makers Note so_far.made last.0 }
+      record { all = length-append makers (Note ∷ []) ∙ sym last.1; each = one_more makers Note so_far.made last.0 }

@@ -8,9 +8,9 @@ use Rattle.gl_bytecode.specs.Runs.{Made, Progress, entries_of, outset, told, tol
 use Rattle.gl_bytecode.specs.Validity.{IsValid}
 use Rattle.gl_bytecode.proofs.Exchanges.{forced}
 use Rattle.gl_follow.specs.Following.{EachBeginsRight}
-use Rattle.gl_follow.proofs.Peeling.{all_fit}
+use Rattle.gl_follow.proofs.Peeling.{all_fit, made_over}
 use Rattle.gl_sites.specs.Sites.{IsAnswered, IsMadeAt, IsMadeByNone, IsNote, IsOfInstruction}
-use Rattle.gl_sites.proofs.Asking.{ends_made, entries_on, fits_fresh, made_over, same_front, told_on}
+use Rattle.gl_sites.proofs.Asking.{ends_made, entries_on, fits_fresh, same_front, told_on}
 
 -- each of the first entries begins right
 front_right : (P : Bytecode) (es : List Entry) (n : ℕ) → EachBeginsRight P es → EachBeginsRight P (without_trims (take n es))

@@ -4,7 +4,7 @@ use Rattle.std.specs.Prelude.{Result, ◌⊎◌, codes, option_map, slice_get}
 use Rattle.std.specs.List.{before_first}
 use Rattle.std.specs.Str.{IsTrimAscii}
 use Rattle.std.specs.Str.Lines.{lines}
-use Rattle.std.proofs.lemmas.Bool.{eqb-true}
+use Rattle.std.proofs.lemmas.Bool.{eqb-true, and_parts}
 use Rattle.std.proofs.lemmas.Option.{slice_get_past}
 use Rattle.std.proofs.lemmas.List.Sums.{fold-append}
 use Rattle.gl_text.specs.Numbered.{LinesLeft}
@@ -290,17 +290,12 @@ pub record Found (kind : Adds) (functions instructions f i : ℕ) : Type 0 where
   pub functions_are : functions ≡ f + 1
   pub instructions_are : instructions ≡ i
 
--- both of two tests
-both_of : (a b : Bool) → (a && b) ≡ true → (a ≡ true) × (b ≡ true)
-both_of true b is = (refl, is)
-both_of false b is = cc
-
 -- what is found by the test is an instruction of that function, in that place
 pub found : (kind : Adds) (functions instructions f i : ℕ) → finds kind functions instructions f i ≡ true
     → Found kind functions instructions f i
 found adds.Function n k f i is = cc
 found adds.Instruction n k f i is =
-    let tests = both_of (n == f + 1) (k == i) is in
+    let tests = and_parts (n == f + 1) (k == i) is in
     record { kind_is = refl; functions_are = eqb-true n (f + 1) tests.0; instructions_are = eqb-true k i tests.1 }
 found adds.Neither n k f i is = cc
 

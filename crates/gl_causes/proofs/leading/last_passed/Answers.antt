@@ -3,9 +3,9 @@ use Rattle.std.specs.Prelude.{slice_get}
 use Rattle.std.proofs.lemmas.List.{length-map}
 use Rattle.gl_model.specs.Entries.{seen}
 use Rattle.gl_causes.proofs.Passing.{block_on, last_all, last_new, last_on, passed_not, passed_there}
-use Rattle.gl_causes.proofs.Standing.{seen_at}
 use Rattle.gl_causes.proofs.leading.last_passed.Goals as goal
 use Rattle.gl_causes.proofs.leading.last_passed.Goals.{then-is_passed, else-is_passed}
+use Rattle.gl_raised.proofs.Gathering.{seen_at}
 
 pub loop-index-preserved : goal.loop-index-preserved
 loop-index-preserved c =

@@ -6,9 +6,9 @@ use Rattle.gl_model.specs.declared.limits.TheConstants.{MONITORS}
 use Rattle.gl_causes.specs.Owned.{AreDepths}
 use Rattle.gl_raised.proofs.Kept.{at_kept}
 use Rattle.gl_causes.proofs.Owning.{none_entered}
-use Rattle.gl_causes.proofs.Standing.{seen_at}
 use Rattle.gl_causes.proofs.Walks.{taken}
 use Rattle.gl_causes.proofs.owned.depths_after.Goals as goal
+use Rattle.gl_raised.proofs.Gathering.{seen_at}
 
 pub loop-i-init : goal.loop-i-init
 loop-i-init c = record {

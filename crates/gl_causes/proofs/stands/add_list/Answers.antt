@@ -2,8 +2,10 @@ use Rattle.std.proofs.Common.{◌≡◌, ◌≤◌, ◌+◌, ◌++◌, ◌∷◌
 use Rattle.std.specs.Prelude.{slice_get}
 use Rattle.std.proofs.lemmas.List.{length-map, map-append}
 use Rattle.gl_model.specs.Entries.{seen}
-use Rattle.gl_causes.specs.Stands.{AreStands, block_before, stand_seen}
-use Rattle.gl_causes.proofs.Standing.{block_more, next_thread, seen_at, stands_more}
+use Rattle.gl_causes.specs.Stands.{AreStands, stand_seen}
+use Rattle.gl_raised.specs.Gathers.{block_before}
+use Rattle.gl_causes.proofs.Standing.{next_thread, stands_more}
+use Rattle.gl_raised.proofs.Gathering.{block_more, seen_at}
 use Rattle.gl_causes.proofs.stands.add_list.Goals as goal
 
 pub loop-index-preserved : goal.loop-index-preserved

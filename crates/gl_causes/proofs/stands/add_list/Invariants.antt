@@ -1,6 +1,7 @@
 use Rattle.std.proofs.Common.{◌≡◌, ℕ, List, map}
 use Rattle.gl_model.specs.Entries.{Entry, seen}
-use Rattle.gl_causes.specs.Stands.{AreStands, block_before, stand_seen}
+use Rattle.gl_causes.specs.Stands.{AreStands, stand_seen}
+use Rattle.gl_raised.specs.Gathers.{block_before}
 use Rattle.gl_causes.proofs.stands.add_list.Given as goal
 
 abbrev pub invariant-loop-index : goal.invariant-loop-index

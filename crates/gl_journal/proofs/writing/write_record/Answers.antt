@@ -4,7 +4,8 @@ use Rattle.gl_journal.specs.Meaning.{IsRecordText}
 use Rattle.gl_journal.specs.Rows.{header_row, row_text}
 use Rattle.gl_journal.specs.Written.{AllEntries, IsEntryTyped}
 use Rattle.gl_journal.proofs.BackRecord.{text_means}
-use Rattle.gl_journal.proofs.WrittenLists.{all_below, below, below_none, lists_text, text_is, thread_with, thread_without, typed_with, typed_without}
+use Rattle.gl_model.proofs.ThreadLists.{all_below, below, below_none}
+use Rattle.gl_journal.proofs.WrittenLists.{lists_text, text_is, thread_with, thread_without, typed_with, typed_without}
 use Rattle.gl_journal.proofs.writing.write_record.Goals.{in-Some+in_ok-push_list, in_default}
 use Rattle.gl_journal.proofs.writing.write_record.Goals as goal
 

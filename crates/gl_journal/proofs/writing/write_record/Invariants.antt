@@ -1,7 +1,8 @@
 use Rattle.std.proofs.Common.{◌≡◌, ◌++◌, string_bytes}
 use Rattle.gl_journal.specs.Rows.{header_row, row_text}
 use Rattle.gl_journal.specs.Written.{AllEntries, IsEntryTyped}
-use Rattle.gl_journal.proofs.WrittenLists.{below, lists_text}
+use Rattle.gl_model.proofs.ThreadLists.{below}
+use Rattle.gl_journal.proofs.WrittenLists.{lists_text}
 use Rattle.gl_journal.proofs.writing.write_record.Given as goal
 
 -- the lists of the threads so far

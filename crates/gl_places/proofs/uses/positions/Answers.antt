@@ -3,7 +3,8 @@ use Rattle.std.specs.Prelude.{unwrap_or}
 use Rattle.std.proofs.lemmas.List.{append-nil}
 use Rattle.gl_model.specs.Entries.{seen}
 use Rattle.gl_places.specs.Uses.{positions_on, uses_from, uses_of}
-use Rattle.gl_places.proofs.Gathered.{all_below, below, below_none, gathers_next}
+use Rattle.gl_model.proofs.ThreadLists.{all_below, below, below_none}
+use Rattle.gl_places.proofs.Gathered.{gathers_next}
 use Rattle.gl_places.proofs.uses.positions.Goals as goal
 use Rattle.gl_places.proofs.uses.positions.Goals.{in-Some+in_ok-add_positions, in_default}
 

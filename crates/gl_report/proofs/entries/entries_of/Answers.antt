@@ -4,7 +4,8 @@ use Rattle.std.proofs.lemmas.List.{append-nil}
 use Rattle.gl_model.specs.Entries.{Entry, seen}
 use Rattle.gl_model.specs.declared.record.Entry.{Entry as StoredEntry}
 use Rattle.gl_report.specs.ByThread.{by_thread, with_thread}
-use Rattle.gl_report.proofs.ByThread.{all_below, below, below_none, gathers_next}
+use Rattle.gl_model.proofs.ThreadLists.{all_below, below, below_none}
+use Rattle.gl_report.proofs.ByThread.{gathers_next}
 use Rattle.gl_report.proofs.Reporting.{all_are}
 use Rattle.gl_report.proofs.entries.entries_of.Goals as goal
 use Rattle.gl_report.proofs.entries.entries_of.Goals.{in-Some+in_ok-add_list, in_default}

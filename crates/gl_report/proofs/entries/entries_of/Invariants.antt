@@ -1,7 +1,7 @@
 use Rattle.std.proofs.Common.{◌≡◌, map}
 use Rattle.gl_model.specs.Entries.{seen}
 use Rattle.gl_report.specs.ByThread.{by_thread}
-use Rattle.gl_report.proofs.ByThread.{below}
+use Rattle.gl_model.proofs.ThreadLists.{below}
 use Rattle.gl_report.proofs.entries.entries_of.Given as goal
 
 abbrev pub invariant-loop-thread : goal.invariant-loop-thread

@@ -1,4 +1,4 @@
-use Rattle.std.proofs.Common.{◌≡◌, ◌+◌, length, drop, map, refl, sym, ap, ◌∙◌, subst, arith, inl, inr, rules}
+use Rattle.std.proofs.Common.{◌≡◌, ◌+◌, length, drop, map, refl, sym, ap, ◌∙◌, subst, arith, inl, inr, rules, length-append, ◌∷◌, []}
 use Rattle.gl_model.specs.Entries.{seen}
 use Rattle.gl_bytecode.specs.Fits.{Fits}
 use Rattle.gl_bytecode.specs.Machine.{fresh}
@@ -7,7 +7,7 @@ use Rattle.gl_follow.specs.Following.{Stops}
 use Rattle.gl_follow.specs.Steps.{GoesQuietly}
 use Rattle.gl_follow.proofs.Turning.{turn_falls}
 use Rattle.gl_sites.specs.Makers.{AreMakers, PassesBy}
-use Rattle.gl_sites.proofs.MadeBy.{AreMadeTo, all_made, goes_by, goes_quietly, none_made, one_longer, rest_is}
+use Rattle.gl_sites.proofs.MadeBy.{AreMadeTo, all_made, goes_by, goes_quietly, none_made, rest_is}
 use Rattle.gl_sites.proofs.making.makers.Goals as goal
 
 pub loop-maker-init : goal.loop-maker-init
@@ -68,7 +68,7 @@ loop-maker-smaller c =
     let falls = turn_falls P c.args.steps c.args.thread es c.loop-maker.replay c.go_on.new.replay n 1 c.loop-maker.invariant.at
     (inr (refl, passes.first)) in
     let longer : length c.push.new.self.items ≡ n + 1 = ap length c.in_ok-push-in-By.ensures.items
-    ∙ one_longer c.loop-maker.makers.items c.in-By.maker in
+    ∙ length-append c.loop-maker.makers.items (c.in-By.maker ∷ []) in
     omega (arith, falls, longer)
 
 pub returns-in-NoFurther : goal.returns-in-NoFurther

@@ -3,7 +3,8 @@ use Rattle.std.specs.Prelude.{unwrap_or}
 use Rattle.std.proofs.lemmas.List.{append-nil}
 use Rattle.gl_model.specs.Entries.{seen}
 use Rattle.gl_places.specs.Uses.{uses_from, uses_of}
-use Rattle.gl_places.proofs.Gathered.{all_below, below, below_none, gathers_next}
+use Rattle.gl_model.proofs.ThreadLists.{all_below, below, below_none}
+use Rattle.gl_places.proofs.Gathered.{gathers_next}
 use Rattle.gl_listing.specs.Numbering.{draws_on}
 use Rattle.gl_listing.proofs.Adding.{list_kept}
 use Rattle.gl_listing.proofs.draws.Draws.of.Goals as goal

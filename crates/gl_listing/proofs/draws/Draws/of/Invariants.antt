@@ -1,7 +1,7 @@
 use Rattle.std.proofs.Common.{◌≡◌, [], ℕ}
 use Rattle.std.specs.Prelude.{slice_index_or}
 use Rattle.gl_places.specs.Uses.{uses_of}
-use Rattle.gl_places.proofs.Gathered.{below}
+use Rattle.gl_model.proofs.ThreadLists.{below}
 use Rattle.gl_listing.specs.Numbering.{draws_on}
 use Rattle.gl_listing.proofs.draws.Draws.of.Given as goal
 
