@@ -1,2 +1,6 @@
 pub mod Agreement
+pub mod Holding
+pub mod OwnRows
+pub mod RowSets
+pub mod RowSteps
 pub mod Within

@@ -4,7 +4,7 @@ ghost use Rattle.gl_model.specs.declared.limits.TheConstants.{THREADS as ALL_THR
 ghost use Rattle.gl_model.specs.TraceSteps.{IsLineItem, IsStep};
 
 use crate::compare::{Line, Outcome, Tally};
-use crate::rows::all_agree;
+use crate::all::all_agree;
 use crate::soundness::is_sound;
 use gl_model::{Act, Item, VarSet};
 use std::alloc::{AllocError, Global};
