@@ -1,4 +1,5 @@
 pub mod Agreement
+pub mod Asking
 pub mod Holding
 pub mod OwnRows
 pub mod RowSets

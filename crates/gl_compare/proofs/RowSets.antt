@@ -1,9 +1,9 @@
 -- The rows of all variables, one of them changed.
 use Rattle.std.proofs.Common.{◌≡◌, ℕ, zero, suc, ◌+◌, ◌<◌, ◌≤◌, List, [], ◌∷◌, ◌++◌, length, take, get_or, set, refl, sym, ◌∙◌, ap, subst, inl, inr, arith, Some, None, true, false, Bool}
-use Rattle.std.specs.Prelude.{Option, ◌⊎◌, ◌↔◌, Contains, IsTrue, slice_get}
+use Rattle.std.specs.Prelude.{Option, ◌⊎◌, ◌↔◌, Contains, IsTrue, nat_lt, slice_get}
 use Rattle.std.proofs.lemmas.List.{get_or_default, get_or_past, get_or-set_same, get_or-set_other, take_more, take_all, set-set}
 use Rattle.std.proofs.lemmas.List.Elements.{Contains-push_cases, Contains-push, Contains-append_left}
-use Rattle.std.proofs.lemmas.Bool.{cases_lt}
+use Rattle.std.proofs.lemmas.Bool.{cases_lt, ltb-true, ltb-false}
 use Rattle.std.proofs.lemmas.Option.{slice_get_within}
 use native.Mathlib.Decide.{ℕ_discrete}
 use Rattle.gl_model.specs.declared.event.Stamp.{Stamp}
@@ -14,7 +14,7 @@ use Rattle.gl_model.specs.declared.row.Question.{Question}
 use Rattle.gl_draws.specs.RowFacts.{read_of, Fails, SomeFails}
 use Rattle.gl_judge.specs.Noted.{IsNoted}
 use Rattle.gl_compare.specs.Rows.{untouched, row_of, Tells, TellsFirst, AreNoted}
-use Rattle.gl_compare.proofs.RowSteps.{no_read}
+use Rattle.gl_compare.proofs.Within.{none_at}
 
 -- an untouched row more is none
 pub row_push : (rows : List Row) (r : Row) (y : ℕ) → r ≡ untouched → row_of (rows ++ r ∷ []) y ≡ row_of rows y
@@ -33,13 +33,23 @@ row_else rows x y r other = get_or-set_other rows x y r untouched other
 -- no Info of an untouched row fails
 none_fails : (h : List Stamp) (q : Question) → SomeFails h untouched q → ⊥
 none_fails h q (inl w) = let e = w.1 in cc
-none_fails h q (inr w) = let none = no_read THREADS w.1.0 in let e = w.1.2 in cc
+none_fails h q (inr w) = let none = none_at THREADS w.1.0 in let e = w.1.2 in cc
 
 -- of a variable that has no row nothing fails
 pub none_told : (h : List Stamp) (rows : List Row) (x : ℕ) (q : Question) → length rows ≤ x → Tells h (row_of rows x) q false
 none_told h rows x q past next stand =
     let e : row_of rows x ≡ untouched = get_or_past rows x untouched past in
     (λ t. absurd (cc), λ fails. absurd (none_fails h q (subst (λ r. SomeFails h r q) e fails)))
+
+-- a row that is there, and none that is not
+pub none_there : (h : List Stamp) (rows : List Row) (x : ℕ) (q : Question) → false ≡ nat_lt x (length rows) → Tells h (row_of rows x) q false
+none_there h rows x q no = none_told h rows x q (ltb-false x (length rows) (sym no))
+
+pub row_there : (h : List Stamp) (rows : List Row) (x : ℕ) (r : Row) (q : Question) (b : Bool) → true ≡ nat_lt x (length rows)
+    → r ≡ get_or rows x r → Tells h r q b → Tells h (row_of rows x) q b
+row_there h rows x r q b yes is tells =
+    let near : x < length rows = ltb-true x (length rows) (sym yes) in
+    subst (λ z. Tells h z q b) (is ∙ sym (get_or_default rows x untouched r near)) tells
 
 -- noted twice is noted once
 note_twice : (old mid new : Row) (q : Question) (at : ℕ) → IsNoted old q at mid → IsNoted mid q at new → IsNoted old q at new

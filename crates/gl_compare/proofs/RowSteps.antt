@@ -20,9 +20,8 @@ use Rattle.gl_model.specs.Machine.{State, Running, trace_setting}
 use Rattle.gl_model.specs.Rising.{Rises, with_all}
 use Rattle.gl_model.specs.Trace.{Line, AreVerdicts, is_in}
 use Rattle.gl_model.specs.TraceSteps.{Step, item_joins, item_leaves, act_joins, is_ended, is_running, is_too_wide, item_fault, holder}
-use Rattle.gl_draws.specs.RowFacts.{RowStands, SomeFails, InfoOf, read_of}
+use Rattle.gl_draws.specs.RowFacts.{RowStands, SomeFails, InfoOf}
 use Rattle.gl_draws.proofs.EntryKinds.{is_in-contains, contains-is_in}
-use Rattle.gl_draws.proofs.RowGrowth.{none_at}
 use Rattle.gl_judge.specs.Noted.{IsNewInfo, IsNoted}
 use Rattle.gl_judge.proofs.RowTests.{rows_stand}
 use Rattle.gl_lines.specs.TraceLaws.{Accesses, WritesTo, IsJudgedBy}
@@ -41,11 +40,17 @@ use Rattle.gl_compare.specs.Rows.{untouched, row_of, asked_plain, asked_commit, 
 use Rattle.gl_compare.specs.RowsFollow.{AreFollowed}
 use Rattle.gl_compare.proofs.Holding.{hold_push, act_holds, owned_held}
 use Rattle.gl_compare.proofs.OwnRows.{plain_info, commit_info}
+use Rattle.gl_compare.proofs.Within.{none_at}
 
 -- what follows from what holds of a success holds of it
 pub if_ok_map : {A B : Type 0} (r : Result A B) (P Q : A → Type 0) → IfOk r P → ((a : A) → P a → Q a) → IfOk r Q
 if_ok_map (Ok a) P Q k f = f a k
 if_ok_map (Err e) P Q k f = tt
+
+-- what follows from two things that hold of a success holds of it
+pub if_ok_both : {A B : Type 0} (r : Result A B) (P Q R : A → Type 0) → IfOk r P → IfOk r Q → ((a : A) → P a → Q a → R a) → IfOk r R
+if_ok_both (Ok a) P Q R k l f = f a k l
+if_ok_both (Err e) P Q R k l f = tt
 
 -- a line, by thread, item and what was said of it
 abbrev pub line : ℕ → Item → Judged → Line
@@ -79,12 +84,6 @@ none_ended zero u = refl
 none_ended (suc n) zero = refl
 none_ended (suc n) (suc u) = none_ended n u
 
--- no read is kept where none is
-no_read : (n u : ℕ) → read_of (replicate n None) u ≡ None
-no_read zero u = refl
-no_read (suc n) zero = refl
-no_read (suc n) (suc u) = no_read n u
-
 -- before the first line what the judge keeps follows
 pub followed_first : (h : List Stamp) (kept : List Row) → h ≡ with_stamp [] 0 (Does (Begin 0)) → kept ≡ []
     → AreFollowed [] h kept (replicate 16 false)
@@ -95,7 +94,7 @@ followed_first h kept is none = record {
     word = refl;
     last_write = tt;
     threads = refl;
-    reads = λ t. subst (λ o. InfoOf trace_setting (history []) false o None) (sym (no_read THREADS t)) tt;
+    reads = λ t. subst (λ o. InfoOf trace_setting (history []) false o None) (sym (none_at THREADS t)) tt;
   });
   ended = none_ended 16;
 }
@@ -269,33 +268,27 @@ commit_rows lines t reads writes (Raised var) sound kept kept' stands held own h
     (stay_law lines l sound y (row_of kept y) (stands y) (λ a. tt))
 commit_rows lines t reads writes Performed sound kept kept' stands held own h' d y = by (is_in y (with_all writes reads)) refl
   where
-    abbrev l : Line
-    l = line t (CommitsOn reads writes) Performed
+    log_is : history (lines ++ line t (CommitsOn reads writes) Performed ∷ []) ≡ with_stamp (history lines) t (CommitsEvent (with_all writes reads))
+    log_is = ap (λ (s : Traced). s.history) (traced_push lines (line t (CommitsOn reads writes) Performed))
 
-    abbrev log : List Stamp
-    log = history (lines ++ line t (CommitsOn reads writes) Performed ∷ [])
-
-    log_is : log ≡ with_stamp (history lines) t (CommitsEvent (with_all writes reads))
-    log_is = ap (λ (s : Traced). s.history) (traced_push lines l)
-
-    same : h' ≡ log
+    same : h' ≡ history (lines ++ line t (CommitsOn reads writes) Performed ∷ [])
     same = d.1 ∙ sym log_is
 
-    noted : AreNoted (with_all writes reads) (asked_part (asked_commit t (with_all writes reads) held) writes) (length log) kept kept'
+    noted : AreNoted (with_all writes reads) (asked_part (asked_commit t (with_all writes reads) held) writes) (length (history (lines ++ line t (CommitsOn reads writes) Performed ∷ []))) kept kept'
     noted = subst (λ (z : List Stamp). AreNoted (with_all writes reads) (asked_part (asked_commit t (with_all writes reads) held) writes)
         (length z) kept kept') same d.2
 
-    by : (b : Bool) → is_in y (with_all writes reads) ≡ b → RowStands trace_setting log y (draws_of (lines ++ l ∷ []) y) (row_of kept' y)
+    by : (b : Bool) → is_in y (with_all writes reads) ≡ b → RowStands trace_setting (history (lines ++ line t (CommitsOn reads writes) Performed ∷ [])) y (draws_of (lines ++ line t (CommitsOn reads writes) Performed ∷ []) y) (row_of kept' y)
     by false e =
         let out : Contains (with_all writes reads) y → ⊥ = (λ c. let z = contains-is_in y (with_all writes reads) c in cc) in
-        subst (RowStands trace_setting log y (draws_of (lines ++ l ∷ []) y)) (sym (noted.others y out))
-        (stay_law lines l sound y (row_of kept y) (stands y) (λ a. absurd (out a)))
+        subst (RowStands trace_setting (history (lines ++ line t (CommitsOn reads writes) Performed ∷ [])) y (draws_of (lines ++ line t (CommitsOn reads writes) Performed ∷ []) y)) (sym (noted.others y out))
+        (stay_law lines (line t (CommitsOn reads writes) Performed) sound y (row_of kept y) (stands y) (λ a. absurd (out a)))
     by true e =
         let c = is_in-contains y (with_all writes reads) e in
         let n = noted.noted y c in
-        let k = sound_traced (lines ++ l ∷ []) sound in
-        follow_law lines l sound y (row_of kept y) (row_of kept' y) n.info (stands y) c (λ z. z)
-        (commit_info (history lines) log k.0 k.1.recorded.allowed t (with_all writes reads) log_is held (own k.0 k.1.state) writes y n.info
+        let k = sound_traced (lines ++ line t (CommitsOn reads writes) Performed ∷ []) sound in
+        follow_law lines (line t (CommitsOn reads writes) Performed) sound y (row_of kept y) (row_of kept' y) n.info (stands y) c (λ z. z)
+        (commit_info (history lines) (history (lines ++ line t (CommitsOn reads writes) Performed ∷ [])) k.0 k.1.recorded.allowed t (with_all writes reads) log_is held (own k.0 k.1.state) writes y n.info
         n.is)
         (λ i. is_in-contains y writes (sym n.is.write ∙ i), λ w. n.is.write ∙ contains-is_in y writes w)
         (record {

@@ -23,12 +23,7 @@ pub fn push(events: &mut Vec<Stamp>, thread: u8, event: Event) -> Result<(), All
 }
 
 /// The events of an act: who is joined ends first, where it has not ended, and who is forked begins.
-pub fn push_act(
-    events: &mut Vec<Stamp>,
-    thread: u8,
-    act: Act,
-    over: bool,
-) -> Result<(), AllocError>
+pub fn push_act(events: &mut Vec<Stamp>, thread: u8, act: Act, over: bool) -> Result<(), AllocError>
     requires range { All IsStampInRange events.old.items }
     requires thread { thread < THREADS }
     requires act { IsActInRange act }

@@ -28,12 +28,7 @@ fn left_once(hold: Option<(u8, u64)>) -> Option<(u8, u64)>
 }
 
 // What the act of a thread leaves of the monitor.
-fn after_act(
-    hold: Option<(u8, u64)>,
-    thread: u8,
-    act: Act,
-    monitor: u16,
-) -> Option<(u8, u64)>
+fn after_act(hold: Option<(u8, u64)>, thread: u8, act: Act, monitor: u16) -> Option<(u8, u64)>
     requires { IfSome hold (λ h. h.1 + 1 < 2 ^ 64) }
     ensures { result ≡ act_leaves monitor thread act hold }
 {

@@ -59,8 +59,10 @@ fn is_race(row: &Row, q: &Question, events: &[Stamp]) -> bool
     ensures { Tells events.now row.now q.now result }
 {
     let from = lower(&row.last_write, least_read(&row.reads, events.len()));
-    let verdict = judge(row, q, from as u64, &events[from..], &Cuts::none());
-    verdict == Verdict::Race
+    match judge(row, q, from as u64, &events[from..], &Cuts::none()) {
+        Verdict::Race => true,
+        Verdict::Ordered => false,
+    }
 }
 
 /// Whether a next access of the variable completes a race. Of a variable that has no row no access was performed.
