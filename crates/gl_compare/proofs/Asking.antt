@@ -1,9 +1,9 @@
 -- What the judge by rows does with an access, and with a commit, over what it was lent.
-use Rattle.std.proofs.Common.{◌≡◌, ℕ, List, length, refl, sym, ◌∙◌, ap, subst, Some, None, true, false, Bool}
+use Rattle.std.proofs.Common.{◌≡◌, ℕ, List, length, refl, subst, Some, None, true, false, Bool}
 use Rattle.std.specs.Prelude.{Option}
 use Rattle.gl_model.specs.declared.event.Event.TheVariants.{Commit as CommitsEvent}
 use Rattle.gl_model.specs.declared.event.Stamp.{Stamp}
-use Rattle.gl_model.specs.declared.row.Judged.TheVariants.{NoAccess, Performed, Raised}
+use Rattle.gl_model.specs.declared.row.Judged.TheVariants.{Performed, Raised}
 use Rattle.gl_model.specs.declared.row.Question.{Question}
 use Rattle.gl_model.specs.declared.row.Row.{Row}
 use Rattle.gl_judge.specs.Noted.{IsNoted}

@@ -1,25 +1,23 @@
 -- Who owns monitors along a list of events.
-use Rattle.std.proofs.Common.{◌≡◌, ℕ, zero, suc, ◌+◌, ◌-◌, ◌<◌, ◌≤◌, ◌==◌, List, [], ◌∷◌, ◌++◌, length, take, get_or, refl, sym, ◌∙◌, ap, subst, inl, inr, arith, Some, None, true, false, Bool, ne_eqb, eq-eqb}
-use Rattle.std.specs.Prelude.{◌⊎◌, Contains, IfSome, if◌then◌else◌, nat_lt}
-use Rattle.std.specs.List.{fold}
+use Rattle.std.proofs.Common.{◌≡◌, ℕ, ◌+◌, ◌-◌, ◌<◌, ◌≤◌, ◌==◌, List, [], ◌∷◌, ◌++◌, length, take, get_or, refl, sym, ◌∙◌, ap, subst, inl, inr, arith, Some, None, true, false, Bool, ne_eqb, eq-eqb}
+use Rattle.std.specs.Prelude.{◌⊎◌, Contains, if◌then◌else◌, nat_lt}
 use Rattle.std.specs.List.Sorted.{IsStrictlyIncreasing}
 use Rattle.std.proofs.lemmas.Bool.{cases_lt, le-ltb, eqb-true}
-use Rattle.std.proofs.lemmas.List.{take_all, take_more, take-append-le, length_push, get_or_append_left, get_or_push}
+use Rattle.std.proofs.lemmas.List.{take_all, take-append-le, length_push, get_or_append_left, get_or_push}
 use Rattle.std.proofs.lemmas.List.Elements.{Contains-push_cases, Contains-push, Contains-append_left, Contains-append_right, Contains-get_or}
 use Rattle.std.proofs.lemmas.List.Sums.{fold-append}
 use Rattle.gl_model.specs.declared.event.Act.{Act}
 use Rattle.gl_model.specs.declared.event.Act.TheVariants.{Begin, End, Acq, Rel, VRead, VWrite, Fork, Join, Alloc, Print, Input, Fail}
-use Rattle.gl_model.specs.declared.event.Event.{Event}
-use Rattle.gl_model.specs.declared.event.Event.TheVariants.{Act as Does, Commit as Commits}
+use Rattle.gl_model.specs.declared.event.Event.TheVariants.{Act as Does}
 use Rattle.gl_model.specs.declared.event.Stamp.{Stamp}
 use Rattle.gl_model.specs.declared.limits.TheConstants.{HELD}
 use Rattle.gl_model.specs.Infos.{AreLeastOwned}
 use Rattle.gl_model.specs.Machine.{State, Free, Owned}
 use Rattle.gl_model.specs.Rising.{with_one}
-use Rattle.gl_model.specs.TraceSteps.{Step, Hold, entered, left, act_leaves, holder, is_held_by}
+use Rattle.gl_model.specs.TraceSteps.{Step, Hold, act_leaves, holder, is_held_by}
 use Rattle.gl_lines.specs.Traced.{Traced, with_event, with_last, after_act, with_stamp}
 use Rattle.gl_lines.specs.TraceStates.{IsStateOf, monitor_of}
-use Rattle.gl_compare.specs.Held.{happens, event_leaves, hold_of, AreLeastHeld}
+use Rattle.gl_compare.specs.Held.{event_leaves, hold_of, AreLeastHeld}
 
 -- with an event more a monitor is held as the event leaves it
 pub hold_push : (m : ℕ) (h : List Stamp) (s : Stamp) → hold_of m (h ++ s ∷ []) ≡ event_leaves m s (hold_of m h)

@@ -1,11 +1,10 @@
 -- What an Info that is noted for a line's access stands for.
-use Rattle.std.proofs.Common.{◌≡◌, ℕ, ◌+◌, ◌-◌, ◌<◌, ◌≤◌, List, [], ◌∷◌, ◌++◌, length, take, drop, refl, sym, ◌∙◌, ap, subst, arith, Some, None, true, Bool}
-use Rattle.std.specs.Prelude.{◌↔◌, IsTrue, IsSome, slice_range}
+use Rattle.std.proofs.Common.{◌≡◌, ℕ, ◌+◌, ◌-◌, ◌<◌, List, [], length, take, drop, refl, sym, ◌∙◌, ap, subst, arith, Some, None, Bool}
+use Rattle.std.specs.Prelude.{◌↔◌, slice_range}
 use Rattle.std.proofs.lemmas.List.{take_all, length_push}
 use Rattle.std.proofs.lemmas.Option.{slice_get_within}
 use Rattle.gl_model.specs.declared.event.Event.TheVariants.{Commit as Commits}
 use Rattle.gl_model.specs.declared.event.Stamp.{Stamp}
-use Rattle.gl_model.specs.declared.event.Element.{Element}
 use Rattle.gl_model.specs.declared.row.Info.{Info}
 use Rattle.gl_model.specs.Edges.{EventAt}
 use Rattle.gl_model.specs.Infos.{InfoFor, AreLeastOwned}
@@ -33,8 +32,8 @@ plain_info s now r t running held own write i n =
     (λ p e here mine. let u = b.upto p e here mine in omega arith) in
     own_info trace_setting s.history now r.allowed (record { thread = t; block = block_of t s; variables = None })
     (record { event = b.event; here = b.here; own = b.own; goes_on = block_goes_on s now r t running }) refl b.upto i i.write n.thread refl
-    n.commit k.state k.run (least_owned k.state now t i.held k.owns (subst (AreLeastOwned now t) (sym n.held) own)) (omega arith) (omega arith)
-    n.set
+    n.commit k.state k.run (least_owned k.state now t i.held k.owns (subst (AreLeastOwned now t) (sym n.held) own)) (omega arith)
+    (omega arith) n.set
 
 -- the Info of a commit that is the last event
 module _ (h log : List Stamp) (now : State) (allowed : Allows trace_setting log now) (t : ℕ) (xs : List ℕ) (is : log

@@ -1,6 +1,6 @@
 -- The rows of all variables, one of them changed.
 use Rattle.std.proofs.Common.{◌≡◌, ℕ, zero, suc, ◌+◌, ◌<◌, ◌≤◌, List, [], ◌∷◌, ◌++◌, length, take, get_or, set, refl, sym, ◌∙◌, ap, subst, inl, inr, arith, Some, None, true, false, Bool}
-use Rattle.std.specs.Prelude.{Option, ◌⊎◌, ◌↔◌, Contains, IsTrue, nat_lt, slice_get}
+use Rattle.std.specs.Prelude.{◌⊎◌, Contains, nat_lt, slice_get}
 use Rattle.std.proofs.lemmas.List.{get_or_default, get_or_past, get_or-set_same, get_or-set_other, take_more, take_all, set-set}
 use Rattle.std.proofs.lemmas.List.Elements.{Contains-push_cases, Contains-push, Contains-append_left}
 use Rattle.std.proofs.lemmas.Bool.{cases_lt, ltb-true, ltb-false}
@@ -11,7 +11,7 @@ use Rattle.gl_model.specs.declared.limits.TheConstants.{THREADS}
 use Rattle.gl_model.specs.declared.row.Info.{Info}
 use Rattle.gl_model.specs.declared.row.Row.{Row}
 use Rattle.gl_model.specs.declared.row.Question.{Question}
-use Rattle.gl_draws.specs.RowFacts.{read_of, Fails, SomeFails}
+use Rattle.gl_draws.specs.RowFacts.{SomeFails}
 use Rattle.gl_judge.specs.Noted.{IsNoted}
 use Rattle.gl_compare.specs.Rows.{untouched, row_of, Tells, TellsFirst, AreNoted}
 use Rattle.gl_compare.proofs.Within.{none_at}
@@ -23,10 +23,11 @@ row_push [] r (suc y) e = refl
 row_push (x ∷ rows) r zero e = refl
 row_push (x ∷ rows) r (suc y) e = row_push rows r y e
 
--- the row that was changed, and the others
+-- the row that was changed is the new one
 pub row_here : (rows : List Row) (x : ℕ) (r : Row) → x < length rows → row_of (set rows x r) x ≡ r
 row_here rows x r n = get_or-set_same rows x r untouched n
 
+-- the others are as they were
 pub row_else : (rows : List Row) (x y : ℕ) (r : Row) → (y ≡ x → ⊥) → row_of (set rows x r) y ≡ row_of rows y
 row_else rows x y r other = get_or-set_other rows x y r untouched other
 
@@ -41,14 +42,16 @@ none_told h rows x q past next stand =
     let e : row_of rows x ≡ untouched = get_or_past rows x untouched past in
     (λ t. absurd (cc), λ fails. absurd (none_fails h q (subst (λ r. SomeFails h r q) e fails)))
 
--- a row that is there, and none that is not
-pub none_there : (h : List Stamp) (rows : List Row) (x : ℕ) (q : Question) → false ≡ nat_lt x (length rows) → Tells h (row_of rows x) q false
-none_there h rows x q no = none_told h rows x q (ltb-false x (length rows) (sym no))
+-- of a variable that was found to have no row the answer is no
+pub none_there : (h : List Stamp) (rows : List Row) (x : ℕ) (q : Question) → false ≡ nat_lt x (length rows)
+    → Tells h (row_of rows x) q false
+none_there h rows x q past = none_told h rows x q (ltb-false x (length rows) (sym past))
 
+-- of a variable that was found to have a row the answer is the row's
 pub row_there : (h : List Stamp) (rows : List Row) (x : ℕ) (r : Row) (q : Question) (b : Bool) → true ≡ nat_lt x (length rows)
     → r ≡ get_or rows x r → Tells h r q b → Tells h (row_of rows x) q b
-row_there h rows x r q b yes is tells =
-    let near : x < length rows = ltb-true x (length rows) (sym yes) in
+row_there h rows x r q b inside is tells =
+    let near : x < length rows = ltb-true x (length rows) (sym inside) in
     subst (λ z. Tells h z q b) (is ∙ sym (get_or_default rows x untouched r near)) tells
 
 -- noted twice is noted once

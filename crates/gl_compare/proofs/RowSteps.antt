@@ -1,6 +1,6 @@
 -- A line more: what the judge by rows keeps follows it, and what it said of it is right.
-use Rattle.std.proofs.Common.{◌≡◌, ℕ, ◌+◌, ◌<◌, ◌≤◌, List, [], ◌∷◌, ◌++◌, length, replicate, zero, suc, refl, sym, ◌∙◌, ap, subst, arith, Ok, Err, Some, None, true, false, Bool}
-use Rattle.std.specs.Prelude.{Result, ◌||◌, ◌↔◌, IfOk, IsTrue, Contains, pos, slice_index_or}
+use Rattle.std.proofs.Common.{◌≡◌, ℕ, ◌+◌, ◌≤◌, List, [], ◌∷◌, ◌++◌, length, replicate, zero, suc, refl, sym, ◌∙◌, ap, subst, arith, Ok, Err, None, true, false, Bool}
+use Rattle.std.specs.Prelude.{Result, ◌||◌, ◌↔◌, IfOk, IsTrue, Contains, slice_index_or}
 use Rattle.std.proofs.lemmas.Bool.{ltb-false}
 use native.Mathlib.Decide.{ℕ_discrete}
 use Rattle.gl_model.specs.declared.event.Act.{Act}
@@ -19,13 +19,11 @@ use Rattle.gl_model.specs.Infos.{InfoFor, AreLeastOwned}
 use Rattle.gl_model.specs.Machine.{State, Running, trace_setting}
 use Rattle.gl_model.specs.Rising.{Rises, with_all}
 use Rattle.gl_model.specs.Trace.{Line, AreVerdicts, is_in}
-use Rattle.gl_model.specs.TraceSteps.{Step, item_joins, item_leaves, act_joins, is_ended, is_running, is_too_wide, item_fault, holder}
+use Rattle.gl_model.specs.TraceSteps.{item_joins, item_leaves, act_joins, is_ended, is_running, is_too_wide, item_fault, holder}
 use Rattle.gl_draws.specs.RowFacts.{RowStands, SomeFails, InfoOf}
 use Rattle.gl_draws.proofs.EntryKinds.{is_in-contains, contains-is_in}
-use Rattle.gl_judge.specs.Noted.{IsNewInfo, IsNoted}
 use Rattle.gl_judge.proofs.RowTests.{rows_stand}
-use Rattle.gl_lines.specs.TraceLaws.{Accesses, WritesTo, IsJudgedBy}
-use Rattle.gl_lines.specs.TraceRows.{IsRaised, IsNotedBy}
+use Rattle.gl_lines.specs.TraceLaws.{IsJudgedBy}
 use Rattle.gl_lines.specs.Traced.{Traced, block_of, after_act as traced_act, after_item, traced, history, draws_of, with_stamp}
 use Rattle.gl_lines.specs.TraceStates.{steps_of, AreSound}
 use Rattle.gl_lines.proofs.RowNotes.{stay_law, follow_law}
@@ -36,7 +34,7 @@ use Rattle.gl_lines.proofs.VerdictLaw.{grow_law}
 use Rattle.gl_reference.proofs.Places.{place_of, contains_at, less_before}
 use Rattle.gl_shortcut.specs.Ordering.{IsOfNext}
 use Rattle.gl_compare.specs.Held.{hold_of, AreLeastHeld}
-use Rattle.gl_compare.specs.Rows.{untouched, row_of, asked_plain, asked_commit, asked_part, Tells, TellsFirst, AreNoted, PlainDone, CommitDone}
+use Rattle.gl_compare.specs.Rows.{untouched, row_of, asked_plain, asked_commit, asked_part, Tells, AreNoted, PlainDone, CommitDone}
 use Rattle.gl_compare.specs.RowsFollow.{AreFollowed}
 use Rattle.gl_compare.proofs.Holding.{hold_push, act_holds, owned_held}
 use Rattle.gl_compare.proofs.OwnRows.{plain_info, commit_info}
@@ -161,11 +159,11 @@ plain_row lines t x write NoAccess sound old new stands held now running r own d
 plain_row lines t x write Performed sound old new stands held now running r own d =
     let l = line t (Access x write) Performed in
     let n = d.1 in
-    let info : InfoFor trace_setting (traced lines).history n.info (record { thread = t; block = block_of t (traced lines); variables = None })
-    n.info.write = plain_info (traced lines) now r t running held own write n.info n.is in
+    let info : InfoFor trace_setting (traced lines).history n.info
+    (record { thread = t; block = block_of t (traced lines); variables = None }) n.info.write = plain_info (traced lines) now r t running held own write n.info n.is in
     follow_law lines l sound x old new n.info stands refl (λ z. z)
-    (subst (λ (s : Traced). InfoFor trace_setting s.history n.info (record { thread = t; block = block_of t (traced lines); variables = None })
-    n.info.write) (sym (traced_push lines l)) info)
+    (subst (λ (s : Traced). InfoFor trace_setting s.history n.info
+    (record { thread = t; block = block_of t (traced lines); variables = None }) n.info.write) (sym (traced_push lines l)) info)
     (λ e. sym n.is.write ∙ e, λ e. n.is.write ∙ e)
     (record { value = n.value; write = n.write; read = λ none. n.read (not_true write none) })
 plain_row lines t x write (Raised var) sound old new stands held now running r own d =
@@ -233,7 +231,8 @@ module _ (lines : List Line) (t : ℕ) (reads writes : List ℕ) (kept kept' : L
         contains_at (with_all writes reads) first.0 var first.1,
         (says_part var true first.2).0 refl,
         λ y less c. let place = place_of (with_all writes reads) y c
-            in says_no y (first.3 place.0 y (less_before (with_all writes reads) first.0 place.0 var y rising first.1 place.1 less) place.1),
+            in says_no y
+            (first.3 place.0 y (less_before (with_all writes reads) first.0 place.0 var y rising first.1 place.1 less) place.1),
       )
 
 -- the events behind a commit line
@@ -252,6 +251,10 @@ commit_holds m h t variables Performed kept kept' asked h' d = ap (hold_of m) d.
     ∙ hold_push m h (record { thread = t; event = CommitsEvent variables })
 commit_holds m h t variables (Raised var) kept kept' asked h' d = ap (hold_of m) d.1
 
+-- the lines with a performed commit
+abbrev with_performed : List Line → ℕ → List ℕ → List ℕ → List Line
+with_performed lines t reads writes = lines ++ line t (CommitsOn reads writes) Performed ∷ []
+
 -- each row stands behind a commit line
 commit_rows : (lines : List Line) (t : ℕ) (reads writes : List ℕ) (judged : Judged)
     → AreSound (lines ++ line t (CommitsOn reads writes) judged ∷ []) → (kept kept' : List Row)
@@ -268,28 +271,31 @@ commit_rows lines t reads writes (Raised var) sound kept kept' stands held own h
     (stay_law lines l sound y (row_of kept y) (stands y) (λ a. tt))
 commit_rows lines t reads writes Performed sound kept kept' stands held own h' d y = by (is_in y (with_all writes reads)) refl
   where
-    log_is : history (lines ++ line t (CommitsOn reads writes) Performed ∷ []) ≡ with_stamp (history lines) t (CommitsEvent (with_all writes reads))
+    log_is : history (with_performed lines t reads writes) ≡ with_stamp (history lines) t (CommitsEvent (with_all writes reads))
     log_is = ap (λ (s : Traced). s.history) (traced_push lines (line t (CommitsOn reads writes) Performed))
 
-    same : h' ≡ history (lines ++ line t (CommitsOn reads writes) Performed ∷ [])
+    same : h' ≡ history (with_performed lines t reads writes)
     same = d.1 ∙ sym log_is
 
-    noted : AreNoted (with_all writes reads) (asked_part (asked_commit t (with_all writes reads) held) writes) (length (history (lines ++ line t (CommitsOn reads writes) Performed ∷ []))) kept kept'
+    noted : AreNoted (with_all writes reads) (asked_part (asked_commit t (with_all writes reads) held) writes)
+        (length (history (with_performed lines t reads writes))) kept kept'
     noted = subst (λ (z : List Stamp). AreNoted (with_all writes reads) (asked_part (asked_commit t (with_all writes reads) held) writes)
         (length z) kept kept') same d.2
 
-    by : (b : Bool) → is_in y (with_all writes reads) ≡ b → RowStands trace_setting (history (lines ++ line t (CommitsOn reads writes) Performed ∷ [])) y (draws_of (lines ++ line t (CommitsOn reads writes) Performed ∷ []) y) (row_of kept' y)
+    by : (b : Bool) → is_in y (with_all writes reads) ≡ b → RowStands trace_setting (history (with_performed lines t reads writes)) y
+        (draws_of (with_performed lines t reads writes) y) (row_of kept' y)
     by false e =
         let out : Contains (with_all writes reads) y → ⊥ = (λ c. let z = contains-is_in y (with_all writes reads) c in cc) in
-        subst (RowStands trace_setting (history (lines ++ line t (CommitsOn reads writes) Performed ∷ [])) y (draws_of (lines ++ line t (CommitsOn reads writes) Performed ∷ []) y)) (sym (noted.others y out))
+        subst (RowStands trace_setting (history (with_performed lines t reads writes)) y (draws_of (with_performed lines t reads writes) y))
+        (sym (noted.others y out))
         (stay_law lines (line t (CommitsOn reads writes) Performed) sound y (row_of kept y) (stands y) (λ a. absurd (out a)))
     by true e =
         let c = is_in-contains y (with_all writes reads) e in
         let n = noted.noted y c in
-        let k = sound_traced (lines ++ line t (CommitsOn reads writes) Performed ∷ []) sound in
+        let k = sound_traced (with_performed lines t reads writes) sound in
         follow_law lines (line t (CommitsOn reads writes) Performed) sound y (row_of kept y) (row_of kept' y) n.info (stands y) c (λ z. z)
-        (commit_info (history lines) (history (lines ++ line t (CommitsOn reads writes) Performed ∷ [])) k.0 k.1.recorded.allowed t (with_all writes reads) log_is held (own k.0 k.1.state) writes y n.info
-        n.is)
+        (commit_info (history lines) (history (with_performed lines t reads writes)) k.0 k.1.recorded.allowed t (with_all writes reads)
+        log_is held (own k.0 k.1.state) writes y n.info n.is)
         (λ i. is_in-contains y writes (sym n.is.write ∙ i), λ w. n.is.write ∙ contains-is_in y writes w)
         (record {
           value = n.value;

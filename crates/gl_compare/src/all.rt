@@ -40,7 +40,8 @@ pub fn all_agree(
 ) -> Result<bool, AllocError>
     requires { All IsStep trace.now }
     ensures same { AreClean trace.now → IfOk result IsTrue }
-    ensures counted { AreClean trace.now → IfOk result (λ same. (judged : List AJudged) × AreJudged trace.now judged × (rows.new ≡ counted rows.old judged)) }
+    ensures counted { AreClean trace.now → IfOk result (λ same. (judged : List AJudged) × AreJudged trace.now judged × (tally.new ≡ counted tally.old judged)) }
+    ensures rows { AreClean trace.now → IfOk result (λ same. (judged : List AJudged) × AreJudged trace.now judged × (rows.new ≡ counted rows.old judged)) }
 {
     Ok(agree(alloc, trace, tally)? && rows_agree(alloc, trace, rows)?)
 }

@@ -1,6 +1,6 @@
 use Rattle.std.proofs.Common.{ℕ, ◌+◌, List, sym, ◌∙◌, subst}
 use Rattle.gl_compare.specs.Held.{hold_of}
-use Rattle.gl_compare.proofs.Holding.{AreLeastBelow, none_below, next, not_next, least_of_all}
+use Rattle.gl_compare.proofs.Holding.{AreLeastBelow, next, not_next}
 use Rattle.gl_compare.proofs.owned.held.Goals.{then-holds, else-holds}
 use Rattle.gl_compare.proofs.owned.held.Goals as goal
 

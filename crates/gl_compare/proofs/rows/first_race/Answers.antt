@@ -1,4 +1,4 @@
-use Rattle.std.proofs.Common.{get_or, sym, subst, false}
+use Rattle.std.proofs.Common.{get_or, subst, false}
 use Rattle.std.proofs.lemmas.Option.{slice_get-get_or}
 use Rattle.gl_model.specs.declared.row.Question.{Question}
 use Rattle.gl_compare.specs.Rows.{row_of, asked_part, Tells}

@@ -1,4 +1,4 @@
-use Rattle.std.proofs.Common.{get_or, refl, inl}
+use Rattle.std.proofs.Common.{refl, inl}
 use Rattle.gl_compare.specs.Rows.{asked_part}
 use Rattle.gl_compare.proofs.RowSets.{noted_more, each_more, none_noted, all_noted}
 use Rattle.gl_compare.proofs.rows.note_each.Goals as goal

@@ -1,4 +1,4 @@
-use Rattle.std.proofs.Common.{◌<◌, ◌≡◌, ◌∙◌, ap, sym, subst, length, get_or, rules, arith}
+use Rattle.std.proofs.Common.{◌<◌, ◌≡◌, ◌∙◌, sym, subst, length, get_or, rules, arith}
 use Rattle.std.proofs.lemmas.List.{get_or_default}
 use Rattle.gl_model.specs.declared.row.Row.{Row}
 use Rattle.gl_judge.specs.Noted.{IsNoted}
