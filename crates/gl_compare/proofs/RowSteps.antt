@@ -160,7 +160,8 @@ plain_row lines t x write Performed sound old new stands held now running r own 
     let l = line t (Access x write) Performed in
     let n = d.1 in
     let info : InfoFor trace_setting (traced lines).history n.info
-    (record { thread = t; block = block_of t (traced lines); variables = None }) n.info.write = plain_info (traced lines) now r t running held own write n.info n.is in
+    (record { thread = t; block = block_of t (traced lines); variables = None }) n.info.write =
+    plain_info (traced lines) now r t running held own write n.info n.is in
     follow_law lines l sound x old new n.info stands refl (λ z. z)
     (subst (λ (s : Traced). InfoFor trace_setting s.history n.info
     (record { thread = t; block = block_of t (traced lines); variables = None }) n.info.write) (sym (traced_push lines l)) info)

@@ -8,7 +8,8 @@ pub returns-then-ne-clause-same : goal.returns-then-ne-clause-same
 returns-then-ne-clause-same c clean =
     let same : c.in_ok-judged.judged ≡ c.in_ok-step.field-0 =
     same_said FollowsRows Follows c.args.trace.now c.requires clean c.loop-thread.thread-index c.loop-thread-item.result
-    c.loop-thread-test.true c.loop-thread-item.is c.loop-thread.rows c.step.new.self c.loop-thread.detector c.step-in-loop-thread.new.self c.args.tally.now
+    c.loop-thread-test.true c.loop-thread-item.is c.loop-thread.rows c.step.new.self c.loop-thread.detector
+    c.step-in-loop-thread.new.self c.args.tally.now
     c.loop-thread.tally c.loop-thread.tally (c.loop-thread.invariant.given clean) c.in_ok-judged.judged c.in_ok-step.field-0
     c.in_ok-judged.ensures.right c.in_ok-step.ensures.right in
     search (rules, same)
@@ -17,7 +18,8 @@ pub returns-then-ne-clause-counted : goal.returns-then-ne-clause-counted
 returns-then-ne-clause-counted c clean =
     let same : c.in_ok-judged.judged ≡ c.in_ok-step.field-0 =
     same_said FollowsRows Follows c.args.trace.now c.requires clean c.loop-thread.thread-index c.loop-thread-item.result
-    c.loop-thread-test.true c.loop-thread-item.is c.loop-thread.rows c.step.new.self c.loop-thread.detector c.step-in-loop-thread.new.self c.args.tally.now
+    c.loop-thread-test.true c.loop-thread-item.is c.loop-thread.rows c.step.new.self c.loop-thread.detector
+    c.step-in-loop-thread.new.self c.args.tally.now
     c.loop-thread.tally c.loop-thread.tally (c.loop-thread.invariant.given clean) c.in_ok-judged.judged c.in_ok-step.field-0
     c.in_ok-judged.ensures.right c.in_ok-step.ensures.right in
     search (rules, same)
