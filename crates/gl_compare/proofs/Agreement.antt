@@ -1,4 +1,4 @@
--- Over a clean trace the detector and the plain judge say the same, since what is rightly said is settled.
+-- Over a clean trace two judges say the same, since what is rightly said is settled.
 use Rattle.std.proofs.Common.{◌≡◌, ℕ, ◌+◌, ◌<◌, ◌≤◌, List, [], ◌∷◌, ◌++◌, length, take, drop, get_or, refl, ap, subst, sym, ◌∙◌, arith, Some, None}
 use Rattle.std.specs.Prelude.{All, slice_get, option_map, map, fold}
 use Rattle.std.proofs.lemmas.List.{map-append}
@@ -11,22 +11,26 @@ use Rattle.gl_model.specs.TraceSteps.{Step, IsStep, AreClean, step_fault}
 use Rattle.gl_lines.specs.TraceStates.{steps_of, AreSound}
 use Rattle.gl_lines.proofs.TraceSound.{steps_push}
 use Rattle.gl_lines.proofs.VerdictLaw.{settled_law}
-use Rattle.gl_core.specs.Follows.{Follows, IsStepped}
-use Rattle.gl_core.specs.declared.detector.Detector.{Detector}
 use Rattle.gl_compare.specs.declared.compare.Tally.{Tally}
 use Rattle.gl_compare.specs.Counted.{AreJudged, one_trace, one_line, counted}
-use Rattle.gl_reference.specs.Follows.{Follows as FollowsPlainly, IsStepped as IsPlainlyStepped}
-use Rattle.gl_reference.specs.declared.judge.SlowJudge.{SlowJudge}
 use Rattle.gl_reference.proofs.Places.{get_kept}
 
--- both were given these steps, with right verdicts, and they were counted
-pub record AreGiven (steps : List Step) (d : Detector) (j : SlowJudge) (old new : Tally) : Type 0 where
+-- two judges, of each of which a relation says which lines it was given, were given these steps, with right verdicts, and they were counted
+pub record AreGiven {D J : Type 0} (F : List Line → D → Type 0) (G : List Line → J → Type 0) (steps : List Step) (d : D) (j : J)
+    (old new : Tally) : Type 0 where
   pub lines : List Line
   pub count : new ≡ counted old (map (λ l. l.judged) lines)
   pub said : steps_of lines ≡ steps
   pub right : AreVerdicts lines
-  pub fast : Follows lines d
-  pub plain : FollowsPlainly lines j
+  pub first : F lines d
+  pub second : G lines j
+
+-- what is said of a next line is right, and the judge was given it, wherever it was given sound lines of which this is so
+abbrev pub IsStepped : {J : Type 0} → (List Line → J → Type 0) → Step → Judged → J → J → Type 0
+IsStepped G r judged old new =
+    (lines : List Line) → AreSound (lines ++ record { thread = r.0; item = r.1; judged = judged } ∷ []) → AreVerdicts lines → G lines old →
+    AreVerdicts (lines ++ record { thread = r.0; item = r.1; judged = judged } ∷ []) ×
+    G (lines ++ record { thread = r.0; item = r.1; judged = judged } ∷ []) new
 
 -- one line more is counted
 pub count_more : (t : Tally) (xs : List Judged) (x : Judged) → fold one_line t (xs ++ x ∷ []) ≡ one_line (fold one_line t xs) x
@@ -55,9 +59,10 @@ front_sound lines trace more whole all clean = record {
         let at = there k s e in
         subst IsStep (get_or_from_slice_get trace k s s at) (All-get_or IsStep trace k s (slice_get_within trace k s at) all)
 
-module _ (trace : List Step) (all : All IsStep trace) (clean : AreClean trace) (k : ℕ) (r : Step) (less : k < length trace) (is : r
-    ≡ get_or trace k r) (d d' : Detector) (j j' : SlowJudge) (t now now' : Tally) (given : AreGiven (take k trace) d j t now) (a b : Judged)
-    (fast : IsStepped r.0 r.1 a d d') (plain : IsPlainlyStepped r.0 r.1 b j j') where
+module _ {D J : Type 0} (F : List Line → D → Type 0) (G : List Line → J → Type 0) (trace : List Step) (all : All IsStep trace)
+    (clean : AreClean trace) (k : ℕ) (r : Step) (less : k < length trace) (is : r ≡ get_or trace k r) (d d' : D) (j j' : J)
+    (t now now' : Tally) (given : AreGiven F G (take k trace) d j t now) (a b : Judged) (one : IsStepped F r a d d')
+    (other : IsStepped G r b j j') where
   abbrev line : Judged → Line
   line judged = record { thread = r.0; item = r.1; judged = judged }
 
@@ -73,23 +78,26 @@ module _ (trace : List Step) (all : All IsStep trace) (clean : AreClean trace) (
 
   -- the detector and the plain judge say the same of the line
   pub same_said : a ≡ b
-  same_said = settled_law given.lines r.0 r.1 a b (sound a) (fast given.lines (sound a) given.right given.fast).0
-      (plain given.lines (sound b) given.right given.plain).0
+  same_said = settled_law given.lines r.0 r.1 a b (sound a) (one given.lines (sound a) given.right given.first).0
+      (other given.lines (sound b) given.right given.second).0
 
-  -- with the line counted, both were given one step more
-  pub given_more : now' ≡ one_line now a → AreGiven (take (k + 1) trace) d' j' t now'
+  pub given_more : now' ≡ one_line now a → AreGiven F G (take (k + 1) trace) d' j' t now'
   given_more more' = record {
     lines = given.lines ++ line a ∷ [];
     count = more' ∙ ap (λ z. one_line z a) given.count ∙ sym (count_more (one_trace t) (map (λ l. l.judged) given.lines) a)
         ∙ sym (ap (fold one_line (one_trace t)) (map-append (λ (l : Line). l.judged) given.lines (line a ∷ [])));
     said = said_more a;
-    right = (fast given.lines (sound a) given.right given.fast).0;
-    fast = (fast given.lines (sound a) given.right given.fast).1;
-    plain = subst (λ c. FollowsPlainly (given.lines ++ line c ∷ []) j') (sym same_said)
-        (plain given.lines (sound b) given.right given.plain).1;
+    right = (one given.lines (sound a) given.right given.first).0;
+    first = (one given.lines (sound a) given.right given.first).1;
+    second = subst (λ c. G (given.lines ++ line c ∷ []) j') (sym same_said) (other given.lines (sound b) given.right given.second).1;
   }
 
 -- all of a trace was given
-pub all_given : (trace : List Step) (k : ℕ) (d : Detector) (j : SlowJudge) (t now : Tally) → length trace ≤ k
-    → AreGiven (take k trace) d j t now → (judged : List Judged) × AreJudged trace judged × (now ≡ counted t judged)
-all_given trace k d j t now past g = (map (λ l. l.judged) g.lines, (g.lines, g.said ∙ take_all k trace past, refl, g.right), g.count)
+pub all_given : {D J : Type 0} (F : List Line → D → Type 0) (G : List Line → J → Type 0) (trace : List Step) (k : ℕ) (d : D) (j : J)
+    (t now : Tally) → length trace ≤ k → AreGiven F G (take k trace) d j t now → (judged : List Judged) × AreJudged trace judged
+    × (now ≡ counted t judged)
+all_given F G trace k d j t now past g = (
+  map (λ l. l.judged) g.lines,
+  (g.lines, g.said ∙ take_all k trace past, refl, g.right),
+  g.count,
+)

@@ -12,8 +12,8 @@ use Rattle.gl_draws.specs.RowFacts.{read_of, IsWithin}
 use Rattle.gl_judge.specs.Noted.{IsNoted}
 use Rattle.gl_compare.specs.Kept.{AreWithin}
 
--- a row's reads of no access have no Info of any thread
-none_at : (n t : ℕ) → read_of (replicate n None) t ≡ None
+-- no place of a list of none has an Info
+pub none_at : (n t : ℕ) → read_of (replicate n None) t ≡ None
 none_at zero t = refl
 none_at (suc n) zero = refl
 none_at (suc n) (suc t) = none_at n t

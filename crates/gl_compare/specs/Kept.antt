@@ -4,7 +4,7 @@ use Rattle.gl_model.specs.declared.event.Stamp.{Stamp}
 use Rattle.gl_model.specs.declared.row.Row.{Row}
 use Rattle.gl_model.specs.Elements.{IsStampInRange}
 use Rattle.gl_draws.specs.RowFacts.{IsWithin}
-use Rattle.gl_compare.specs.declared.rows.RowJudge.{RowJudge}
+use Rattle.gl_compare.specs.declared.row_judge.RowJudge.{RowJudge}
 
 -- no Info of the rows stands behind the first n events
 abbrev pub AreWithin : ℕ → List Row → Type 0

@@ -1,2 +1,5 @@
 pub mod Counted
+pub mod Held
 pub mod Kept
+pub mod Rows
+pub mod RowsFollow

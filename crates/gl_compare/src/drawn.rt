@@ -1,7 +1,7 @@
 // Longer traces, drawn by a generator with a fixed seed.
 
+use crate::all::all_agree;
 use crate::compare::{Line, Outcome, Tally};
-use crate::rows::all_agree;
 use crate::small::variables;
 use crate::soundness::is_sound;
 use gl_model::{Act, Item};

@@ -6,8 +6,12 @@
 //! `checks/compared.py` works out, apart from this program, what it has to print.
 #![tactic(auto)]
 
+mod all;
 mod compare;
 mod drawn;
+mod events;
+mod owned;
+mod row_judge;
 mod rows;
 mod shown;
 mod small;

@@ -3,8 +3,8 @@ ghost use Rattle.std.specs.Prelude.{◌<◌, ◌≤◌, All};
 ghost use Rattle.gl_model.specs.declared.limits.TheConstants.{THREADS as ALL_THREADS, TX_VARIABLES};
 ghost use Rattle.gl_model.specs.TraceSteps.{IsLineItem, IsStep};
 
+use crate::all::all_agree;
 use crate::compare::{Line, Outcome, Tally};
-use crate::rows::all_agree;
 use crate::soundness::is_sound;
 use gl_model::{Act, Item, VarSet};
 use std::alloc::{AllocError, Global};

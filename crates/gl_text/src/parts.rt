@@ -1,8 +1,8 @@
 // Words of a line.
-ghost use Rattle.std.specs.Prelude.{◌≡◌, ◌<◌, ◌≤◌, ◌+◌, ◌^◌, not, drop, IfSome, length, MatchOption, [], ◌∷◌, ℕ, List};
+ghost use Rattle.std.specs.Prelude.{◌≡◌, ◌<◌, ◌≤◌, ◌+◌, ◌^◌, drop, IfSome, length, MatchOption, [], ◌∷◌, ℕ, List};
 ghost use Rattle.std.specs.List.{position, position_or_len, slice_split};
 ghost use Rattle.std.specs.Iterator.{YieldsFirstBy, item_count};
-ghost use Rattle.gl_text.specs.Text.{is_blank, is_hash, words, parts};
+ghost use Rattle.gl_text.specs.Text.{is_blank, words, parts};
 ghost use Rattle.gl_text.specs.Spans.{spans_at, spans_from, AreSlices, IsPart, Rise};
 
 use crate::wide::{hash_at, word_at};
