@@ -49,20 +49,12 @@ use Rattle.gl_rule.proofs.Loading.{all_at}
 -- an entry that ends a list is not one that a trim makes
 over_trim : (e : Entry) → IsOver e → IsTrim e → ⊥
 over_trim (Over a) o t = t
-over_trim (Sync a b c) o t = t
-over_trim (Commit a b) o t = t
-over_trim (Plain a b c d e f) o t = t
-over_trim (Abort a b) o t = t
-over_trim (Trim a) o t = o
+over_trim _ o t = o
 
 -- an entry that ends a list is not that of a begin
 over_begin : (e : Entry) → IsOver e → IsBegin e → ⊥
 over_begin (Over a) o t = t
-over_begin (Sync a b c) o t = o
-over_begin (Commit a b) o t = o
-over_begin (Plain a b c d e f) o t = o
-over_begin (Abort a b) o t = o
-over_begin (Trim a) o t = o
+over_begin _ o t = o
 
 -- an entry that ends a list has no position
 over_place : (e : Entry) → IsOver e → position_of e ≡ None

@@ -25,7 +25,7 @@ use Rattle.gl_rule.specs.Machine.{ShelfCarries}
 use Rattle.gl_rule.specs.Refusals.{ShelfRefusals}
 use Rattle.gl_rule.specs.Ring.{ShelfTrims}
 use Rattle.gl_state.specs.Starting.{empty_row}
-use Rattle.gl_rule.specs.Opened.{first_slots, shelves_from, sixteen}
+use Rattle.gl_rule.specs.Opened.{first_slots, shelves_from, empty_shelves}
 use Rattle.gl_rule.specs.Rule.{Fits, Rule}
 use Rattle.gl_rule.proofs.Seats.{blank_fits}
 use Rattle.gl_rule.specs.Tries.{TellsTaken}
@@ -131,14 +131,14 @@ all_from P t (suc n) f = All-cons P (shelf t []) (shelves_from (suc t) n) (f t (
 
 -- a table begins with the rule
 pub begins : (key : Key) (l : ListView) → IsStateOf l (start key.setting)
-    → Rule key (table.opening (zero_list (word_count (capacity key))) (first_slots l) (blank sixteen))
+    → Rule key (table.opening (zero_list (word_count (capacity key))) (first_slots l) (blank empty_shelves))
 begins key l state =
     let w = first_world key.setting in
     let cap = capacity key in
     let words : List ℕ = zero_list (word_count cap) in
     let b = board cap words in
-    let fits : Fits key b w 0 (blank sixteen) =
-    blank_fits key b w 0 sixteen (all_from (ShelfFits [] (λ _. 0) 0) 0 16 (λ u a c. shelf_fits u (omega arith)))
+    let fits : Fits key b w 0 (blank empty_shelves) =
+    blank_fits key b w 0 empty_shelves (all_from (ShelfFits [] (λ _. 0) 0) 0 16 (λ u a c. shelf_fits u (omega arith)))
     (all_from (ShelfDraws (λ _. []) []) 0 16 (λ u a c. shelf_draws u))
     (all_from (AreBelow 0) 0 16 (λ u a c i p e at q. absurd (cc)))
     (all_from (ShelfTrims []) 0 16 (λ u a c. record {
@@ -200,9 +200,9 @@ begins key l state =
       (row_stands key.setting x, subst (IsAbove empty_row) (sym (zeros (word_count (capacity key)) (3 * suc x + 2))) row_above),
     )
 
-    only : (j : ℕ) (v : View) → get_elem? (blank sixteen ∷ []) j ≡ some v
-        → Fits key (board (capacity key) (zero_list (word_count (capacity key)))) (first_world key.setting) 0 (blank sixteen)
+    only : (j : ℕ) (v : View) → get_elem? (blank empty_shelves ∷ []) j ≡ some v
+        → Fits key (board (capacity key) (zero_list (word_count (capacity key)))) (first_world key.setting) 0 (blank empty_shelves)
         → Fits key (board (capacity key) (zero_list (word_count (capacity key)))) (first_world key.setting) j v
     only zero v e f = subst (Fits key (board (capacity key) (zero_list (word_count (capacity key)))) (first_world key.setting) 0)
-        (some-injective (blank sixteen) v e) f
+        (some-injective (blank empty_shelves) v e) f
     only (suc j) v e f = absurd (some-ne-none v (sym e))

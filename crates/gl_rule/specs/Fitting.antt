@@ -1,6 +1,6 @@
 -- What a pass has to show. Where it is about the list of events, it is over each list that the pass cannot tell from the one in the table:
 -- a list of as many events as it has seen, that the machine allows, with its own events and those that it knows in their places.
-use Rattle.std.specs.Prelude.{◌≡◌, ℕ, ℤ, zero, suc, Bool, true, false, ◌+◌, ◌*◌, ◌<◌, ◌≤◌, ◌^◌, List, [], length, slice_get, Contains, Option, Some, None, ◌↔◌, ◌⊎◌, pos}
+use Rattle.std.specs.Prelude.{◌≡◌, ℕ, ℤ, zero, suc, Bool, true, false, ◌+◌, ◌*◌, ◌<◌, ◌≤◌, List, [], length, slice_get, Contains, Option, Some, None, ◌↔◌, ◌⊎◌, pos}
 use Rattle.std.specs.List.{All}
 use Rattle.gl_model.specs.declared.event.Stamp.{Stamp}
 use Rattle.gl_model.specs.declared.limits.TheConstants.{VARIABLES}
@@ -28,6 +28,7 @@ use Rattle.gl_rule.specs.Objects.{Key, capacity}
 use Rattle.gl_model.specs.Elements.{IsEventInRange}
 use Rattle.gl_draws.specs.Forming.{MayStore}
 use Rattle.gl_rule.specs.View.{View, Held, Shelf, Hold}
+use Rattle.gl_rule.specs.Bounded.{most_entries}
 
 -- the list may be, up to what was seen, the one in the table
 pub record IsFitting (setting : Setting) (s : Shelf) (seen : ℕ) (known : List (ℕ × Stamp)) (l : List Stamp) : Type 0 where
@@ -116,7 +117,7 @@ pub record MayPublish (key : Key) (s : Shelf) (v : View) (h : Held) (l l' : List
     pub step : (now : State) → IsStateOf l now → (new : State) × Step key.setting now x value new × IsStateOf l' new
     pub form : MayStore s.thread s.marked (entry tail)
     pub paid : v.owed ≡ []
-    pub few : counted s.marked < 2 ^ 50
+    pub few : counted s.marked < most_entries
 
 -- what is asked of a word that is stored in the cell of the tail
 pub record MayStoreWord (key : Key) (v : View) (h : Held) (tail : ℕ) : Type 0 where
@@ -156,7 +157,7 @@ pub record MayDraw (s : Shelf) (v : View) (h : Held) (x : ℕ) (taken : Row) (p 
   -- the thread runs: it has an event, and has not ended
   pub block : last_position s.marked ≡ Some p
   pub goes_on : IsNotOver s.marked
-  pub few : counted s.marked < 2 ^ 50
+  pub few : counted s.marked < most_entries
   pub paid : (o : ℕ × ℤ) → Contains v.owed o → o.0 ≡ x → ⊥
 
 -- what is asked of a plain access, beside that

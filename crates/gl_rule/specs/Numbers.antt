@@ -1,5 +1,5 @@
 -- Numbers: those that were drawn on each variable are counted by its word, and each has its entry or waits for it.
-use Rattle.std.specs.Prelude.{◌≡◌, ℕ, suc, ◌+◌, ◌*◌, ◌^◌, ◌<◌, ◌≤◌, ◌==◌, if◌then◌else◌, List, [], ◌∷◌, length, Contains, Option, Some}
+use Rattle.std.specs.Prelude.{◌≡◌, ℕ, suc, ◌+◌, ◌*◌, ◌<◌, ◌≤◌, ◌==◌, if◌then◌else◌, List, [], ◌∷◌, length, Contains, Option, Some}
 use Rattle.std.specs.List.{All}
 use Rattle.gl_model.specs.declared.limits.TheConstants.{THREADS, VARIABLES}
 use Rattle.gl_model.specs.Entries.{Entry}
@@ -7,12 +7,13 @@ use Rattle.gl_model.specs.Form.{At, Draws, IsEnd}
 use Rattle.gl_draws.specs.Draws.{Draw, Among}
 use Rattle.gl_draws.specs.Ties.{Drawn, AreDrawn, count_by, counted, last_position}
 use Rattle.gl_rule.specs.View.{View, Shelf}
+use Rattle.gl_rule.specs.Bounded.{most_entries}
 
 -- a row's counter is the number of draws; a thread of each draw is one that there is, and drew so few that no counter wraps
 pub record NumbersHold (count : ℕ → ℕ) (draws : ℕ → List Draw) : Type 0 where
   pub counts : (x : ℕ) → x < VARIABLES → count (suc x) ≡ length (draws x)
   pub threads : (x : ℕ) (d : Draw) → Among (draws x) d → d.thread < THREADS
-  pub few : (x t : ℕ) → count_by t (draws x) ≤ 2 ^ 51 + 2
+  pub few : (x t : ℕ) → count_by t (draws x) ≤ 2 * most_entries + 2
 
 -- how many of these numbers are of x
 abbrev pub count_on : ℕ → List Drawn → ℕ

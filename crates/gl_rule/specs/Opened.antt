@@ -6,6 +6,7 @@ use Rattle.gl_state.specs.ListView.{ListView}
 use Rattle.gl_state.specs.Starting.{empty_row}
 use Rattle.gl_rule.specs.Objects.{Key, capacity, word_count}
 use Rattle.gl_rule.specs.View.{Shelf, shelf}
+use Rattle.gl_model.specs.declared.limits.TheConstants.{THREADS, VARIABLES}
 
 -- the words: all turns are free, no event was made, no number drawn, and no hold raised
 abbrev pub first_words : Key → List ℕ
@@ -13,7 +14,7 @@ first_words key = replicate (word_count (capacity key)) 0
 
 -- the slots: the list's state, and a row for each variable
 abbrev pub first_slots : ListView → List Slot
-first_slots l = slot.List l ∷ replicate 1024 (slot.Row empty_row)
+first_slots l = slot.List l ∷ replicate VARIABLES (slot.Row empty_row)
 
 -- the empty shelves of the threads t to t + n - 1
 abbrev pub shelves_from : ℕ → ℕ → List Shelf
@@ -21,5 +22,5 @@ shelves_from t zero = []
 shelves_from t (suc n) = shelf t [] ∷ shelves_from (suc t) n
 
 -- an empty shelf for each thread
-abbrev pub sixteen : List Shelf
-sixteen = shelves_from 0 16
+abbrev pub empty_shelves : List Shelf
+empty_shelves = shelves_from 0 THREADS

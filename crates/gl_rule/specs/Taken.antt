@@ -1,5 +1,5 @@
 -- What is told of an object that was taken.
-use Rattle.std.specs.Prelude.{◌≡◌, ℕ, zero, suc, ◌<◌, ◌≤◌, ◌^◌, List, [], ◌∷◌, length, Some, slice_get}
+use Rattle.std.specs.Prelude.{◌≡◌, ℕ, zero, suc, ◌<◌, ◌≤◌, List, [], ◌∷◌, length, Some, slice_get}
 use Rattle.std.specs.List.{All}
 use Rattle.gl_model.specs.declared.event.Stamp.{Stamp}
 use Rattle.gl_model.specs.declared.limits.TheConstants.{THREADS}
@@ -11,6 +11,7 @@ use Rattle.gl_state.specs.ListView.{ListView}
 use Rattle.gl_draws.specs.Forming.{events_by}
 use Rattle.gl_state.specs.States.{IsStateOf}
 use Rattle.gl_rule.specs.View.{View, Shelf}
+use Rattle.gl_rule.specs.Bounded.{most_entries}
 
 -- the list's state is that after some list of events, which the pass can not tell from the one in the table
 pub record StateTold (setting : Setting) (v : View) (l : ListView) : Type 0 where
@@ -25,7 +26,7 @@ pub record StateTold (setting : Setting) (v : View) (l : ListView) : Type 0 wher
   pub later : v.seen ≤ length log
   -- the events that the pass knows stand in their places
   pub known : All (λ (k : ℕ × Stamp). slice_get log k.0 ≡ Some k.1) v.known
-  pub few : (t : ℕ) → events_by t log ≤ 2 ^ 50
+  pub few : (t : ℕ) → events_by t log ≤ most_entries
 
 -- the list's slot has a list's state, and a row's slot a row
 abbrev pub TakenTold : Setting → View → ℕ → Slot → Type 0

@@ -1,5 +1,5 @@
 -- What is asked of a pass that makes an event, and what the event is.
-use Rattle.std.specs.Prelude.{◌≡◌, ℕ, ℤ, false, ◌<◌, ◌^◌, List, [], ◌∷◌, ◌++◌}
+use Rattle.std.specs.Prelude.{◌≡◌, ℕ, ℤ, false, ◌<◌, List, [], ◌∷◌, ◌++◌}
 use Rattle.gl_model.specs.declared.event.Act.{Act}
 use Rattle.gl_model.specs.declared.event.Event.TheVariants.{Act as Does}
 use Rattle.gl_model.specs.declared.event.Stamp.{Stamp}
@@ -13,6 +13,7 @@ use Rattle.gl_table.specs.PassView.{PassView, Own, view_of, after_storing, after
 use Rattle.gl_table.specs.TableView.{TableView}
 use Rattle.gl_rule.specs.declared.slot.Slot.{Slot}
 use Rattle.gl_rule.specs.View.{filled, published, left}
+use Rattle.gl_rule.specs.Bounded.{most_entries}
 
 -- the pass is of this table, holds and owes nothing, has room for an entry, and its thread runs
 pub record MayAct (z : TableView) (p : PassView) : Type 0 where
@@ -21,7 +22,7 @@ pub record MayAct (z : TableView) (p : PassView) : Type 0 where
   pub drawn : p.own.drawn ≡ []
   pub owed : p.own.owed ≡ []
   pub spare : 0 < p.spare
-  pub few : counted p.own.mine < 2 ^ 50
+  pub few : counted p.own.mine < most_entries
   pub runs : life_of p.own.mine ≡ Running
 
 -- an entry more, of an event

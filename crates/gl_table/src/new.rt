@@ -3,7 +3,7 @@ ghost use Rattle.std.specs.Prelude.{◌≡◌, ◌+◌, ◌-◌, ◌*◌, ◌<�
 ghost use Rattle.std.specs.List.{All};
 ghost use Rattle.gl_model.specs.declared.limits.TheConstants.{THREADS, FUNCTIONS};
 ghost use Rattle.gl_rule.specs.Objects.{word_count};
-ghost use Rattle.gl_rule.specs.Opened.{first_slots, shelves_from, sixteen};
+ghost use Rattle.gl_rule.specs.Opened.{first_slots, shelves_from, empty_shelves};
 ghost use Rattle.gl_rule.specs.View.{blank};
 ghost use Rattle.gl_segments.specs.Rings.{IsRing};
 ghost use Rattle.gl_state.specs.Starting.{first_state};
@@ -61,7 +61,7 @@ fn slots_of(alloc: Global, main: u16) -> Result<Vec<Slot>, AllocError>
 fn lay(alloc: Global, layout: &Layout) -> Result<(Owned, Seat), AllocError>
     requires ring { IsRing layout.now.ring }
     ensures table { IfOk result (λ r. IsTable r.0.shared.table_id (key_of layout.now) × (r.0.shared.key ≡ layout.now)) }
-    ensures seat { IfOk result (λ r. (r.1.table_id ≡ r.0.shared.table_id) × (r.1.me ≡ (blank sixteen, []))) }
+    ensures seat { IfOk result (λ r. (r.1.table_id ≡ r.0.shared.table_id) × (r.1.me ≡ (blank empty_shelves, []))) }
 {
     let words = words_of(alloc, layout.ring)?;
     let slots = slots_of(alloc, layout.main)?;

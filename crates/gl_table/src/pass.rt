@@ -164,7 +164,7 @@ pub(crate) fn take_object(board: &Board, pass: &mut Pass, k: u16) -> Result<Slot
     requires free { DoesNotHold pass.old.own.held k }
     ensures ok { IfOk result (λ y. pass.new ≡ after pass.old (took (view_of pass.old) k y)) }
     ensures told { IfOk result (λ y. TakenTold (key_of board.now.key).setting (view_of pass.old) k y) }
-    ensures busy { IfErr result (λ by. (by < 16) × (pass.new ≡ after pass.old (refused (view_of pass.old) k by))) }
+    ensures busy { IfErr result (λ by. (by < THREADS) × (pass.new ≡ after pass.old (refused (view_of pass.old) k by))) }
     ensures other { IfErr result (λ by. by ≢ pass.old.own.id) }
 {
     let found = take_turn::<Brand>(board, &mut pass.seat, pass.id, &pass.mine, k);

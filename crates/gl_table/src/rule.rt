@@ -10,11 +10,11 @@ impl TableRule<Slot, Know, Layout> for Order {
     ghost use Rattle.gl_rule.specs.Rule.{Rule};
     ghost use Rattle.gl_table.specs.KeyOf.{key_of};
     ghost use Rattle.gl_rule.specs.View.{blank};
-    ghost use Rattle.gl_rule.specs.Opened.{sixteen};
+    ghost use Rattle.gl_rule.specs.Opened.{empty_shelves};
 
     ghost holds = { λ k. Rule (key_of k) };
 
-    ghost first = { λ _. blank sixteen };
+    ghost first = { λ _. blank empty_shelves };
 }
 
 /// What a call says of its step: its view, with all that it has stored recorded, and what it does.

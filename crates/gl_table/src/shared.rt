@@ -1,6 +1,6 @@
 // The table that threads share.
 ghost use Rattle.std.specs.Prelude.{◌≡◌, ◌≢◌, max, Contains, ℕ, ◌+◌, ◌<◌, ◌≤◌, IsTrue, ◌↔◌, IfOk, IfErr, [], pos, suc, false, List, Some};
-ghost use Rattle.gl_model.specs.declared.limits.TheConstants.{VARIABLES};
+ghost use Rattle.gl_model.specs.declared.limits.TheConstants.{THREADS, VARIABLES};
 ghost use Rattle.gl_segments.specs.Rings.{IsRing};
 ghost use Rattle.gl_rule.specs.Objects.{capacity};
 ghost use Rattle.gl_model.specs.declared.row.Row.{Row as ARow};
@@ -66,7 +66,7 @@ impl Shared {
         requires free { DoesNotHold pass.old.own.held 0 }
         ensures ok { IfOk result (λ l. pass.new ≡ after pass.old (took (view_of pass.old) 0 (slot.List l))) }
         ensures told { IfOk result (λ l. StateTold self.now.key.setting (view_of pass.old) l) }
-        ensures busy { IfErr result (λ b. (b.by < 16) × (pass.new ≡ after pass.old (refused (view_of pass.old) 0 b.by))) }
+        ensures busy { IfErr result (λ b. (b.by < THREADS) × (pass.new ≡ after pass.old (refused (view_of pass.old) 0 b.by))) }
         ensures other { IfErr result (λ b. b.by ≢ pass.old.own.id) }
     {
         match take_object(&self.table.shared, pass, 0) {
@@ -176,7 +176,7 @@ impl Shared {
         requires near { var < VARIABLES }
         requires free { DoesNotHold pass.old.own.held (suc var) }
         ensures ok { IfOk result (λ r. pass.new ≡ after pass.old (took (view_of pass.old) (suc var) (slot.Row r))) }
-        ensures busy { IfErr result (λ b. (b.by < 16) × (pass.new ≡ after pass.old (refused (view_of pass.old) (suc var) b.by))) }
+        ensures busy { IfErr result (λ b. (b.by < THREADS) × (pass.new ≡ after pass.old (refused (view_of pass.old) (suc var) b.by))) }
         ensures other { IfErr result (λ b. b.by ≢ pass.old.own.id) }
     {
         match take_object(&self.table.shared, pass, var + 1) {
