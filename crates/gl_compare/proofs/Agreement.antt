@@ -76,11 +76,12 @@ module _ {D J : Type 0} (F : List Line → D → Type 0) (G : List Line → J �
   sound judged = front_sound (given.lines ++ line judged ∷ []) trace (drop (k + 1) trace)
       (ap (λ ss. ss ++ drop (k + 1) trace) (said_more judged) ∙ take-append-drop (k + 1) trace) all clean
 
-  -- the detector and the plain judge say the same of the line
+  -- the two judges say the same of the line
   pub same_said : a ≡ b
   same_said = settled_law given.lines r.0 r.1 a b (sound a) (one given.lines (sound a) given.right given.first).0
       (other given.lines (sound b) given.right given.second).0
 
+  -- with the line counted, both judges were given the steps up to it
   pub given_more : now' ≡ one_line now a → AreGiven F G (take (k + 1) trace) d' j' t now'
   given_more more' = record {
     lines = given.lines ++ line a ∷ [];

@@ -18,6 +18,7 @@ lent_held h h1 t held same least = subst (λ (z : List Stamp). AreLeastHeld (λ 
 
 module _ (h h1 : List Stamp) (rows rows1 : List Row) (t x : ℕ) (write : Bool) (held : List ℕ) (q : Question) (b : Bool) (events : h1 ≡ h)
     (kept : rows1 ≡ rows) (is : q ≡ asked_plain t write held) (tells : Tells h1 (row_of rows1 x) q b) where
+  -- what the row tells of the question that was asked is told of a plain access over the events and rows before they were lent
   answer : (a : Bool) → b ≡ a → Tells h (row_of rows x) (asked_plain t write held) a
   answer a e = subst (λ z. Tells z (row_of rows x) (asked_plain t write held) a) events
       (subst (λ z. Tells h1 (row_of z x) (asked_plain t write held) a) kept
@@ -42,6 +43,7 @@ module _ (h h1 : List Stamp) (rows rows1 : List Row) (t : ℕ) (variables writes
   abbrev asked : ℕ → Question
   asked = asked_part (asked_commit t variables held) writes
 
+  -- so is the first variable for which a row tells of the commit that it fails
   first : TellsFirst h rows variables (asked_part (asked_commit t variables held) writes) o
   first = subst (λ z. TellsFirst z rows variables (asked_part (asked_commit t variables held) writes) o) events
       (subst (λ z. TellsFirst h1 z variables (asked_part (asked_commit t variables held) writes) o) kept

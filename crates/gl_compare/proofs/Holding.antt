@@ -91,6 +91,7 @@ none_below holds t = record {
 }
 
 module _ (holds : ℕ → Hold) (t n : ℕ) (held : List ℕ) (l : AreLeastBelow holds t n held) where
+  -- what is below the next number is below n, or is n
   split_last : (m : ℕ) → m < n + 1 → (m < n) ⊎ (m ≡ n)
   split_last m less = elim (cases_lt m n) [ inl below ↦ inl below | inr over ↦ inr (omega arith) ]
 
@@ -107,6 +108,7 @@ module _ (holds : ℕ → Hold) (t n : ℕ) (held : List ℕ) (l : AreLeastBelow
     ];
   }
 
+  -- where the thread holds n and there is room, n put last gives the least that it holds below the next
   pushed : is_held_by t (holds n) ≡ true → length held < HELD → AreLeastBelow holds t (n + 1) (held ++ n ∷ [])
   pushed has room = record {
     rising = increasing_push n held l.rising l.below;
@@ -125,6 +127,7 @@ module _ (holds : ℕ → Hold) (t n : ℕ) (held : List ℕ) (l : AreLeastBelow
     ];
   }
 
+  -- where there is no room for more, the list stays that of the least below the next
   full : length held ≡ HELD → AreLeastBelow holds t (n + 1) held
   full all = record {
     rising = l.rising;

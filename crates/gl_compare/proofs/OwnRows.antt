@@ -42,12 +42,15 @@ module _ (h log : List Stamp) (now : State) (allowed : Allows trace_setting log 
   abbrev it : Stamp
   it = record { thread = t; event = Commits xs }
 
+  -- the commit is one event more
   long : length log ≡ length h + 1
   long = ap length is ∙ length_push h it
 
+  -- so many events of the list are all of it
   whole : take (length h + 1) log ≡ log
   whole = take_all (length h + 1) log (omega (arith, long))
 
+  -- no event stands after it
   nothing : slice_range log (length h + 1) i.pos ≡ []
   nothing =
       let at = n.pos in
@@ -55,6 +58,7 @@ module _ (h log : List Stamp) (now : State) (allowed : Allows trace_setting log 
       let none : i.pos - (length h + 1) ≡ 0 = omega arith in
       ap (λ k. take k (drop (length h + 1) log)) none
 
+  -- the new Info stands for the part of the commit on y, as a write where it writes y
   pub commit_info : InfoFor trace_setting log i (record { thread = t; block = length h; variables = Some xs }) i.write
   commit_info =
       let at = n.pos in

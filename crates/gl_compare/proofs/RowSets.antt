@@ -73,13 +73,16 @@ abbrev pub Each : (ℕ → Question) → ℕ → List Row → List Row → Type 
 Each asked at old mid = (y : ℕ) → (row_of mid y ≡ row_of old y) ⊎ IsNoted (row_of old y) (asked y) at (row_of mid y)
 
 module _ (items : List ℕ) (i : ℕ) (n : i < length items) where
+  -- a variable of one more is one of those before, or the one at i
   next_var : (y : ℕ) → Contains (take (i + 1) items) y → Contains (take i items) y ⊎ (get_or items i 0 ≡ y)
   next_var y c = Contains-push_cases (take i items) (get_or items i 0) y (subst (λ zs. Contains zs y) (take_more items i 0 n) c)
 
+  -- those before stay among them
   kept_var : (y : ℕ) → Contains (take i items) y → Contains (take (i + 1) items) y
   kept_var y c = subst (λ zs. Contains zs y) (sym (take_more items i 0 n))
       (Contains-append_left (take i items) (get_or items i 0 ∷ []) y c)
 
+  -- the one at i is among them
   this_var : Contains (take (i + 1) items) (get_or items i 0)
   this_var = subst (λ zs. Contains zs (get_or items i 0)) (sym (take_more items i 0 n)) (Contains-push (take i items) (get_or items i 0))
 
@@ -88,12 +91,15 @@ module _ (items : List ℕ) (i : ℕ) (n : i < length items) where
       (note : IsNoted (row_of mid (get_or items i 0)) q at (row_of new (get_or items i 0)))
       (else : (y : ℕ) → (y ≡ get_or items i 0 → ⊥) → row_of new y ≡ row_of mid y)
       (before : AreNoted (take i items) asked at old mid) (each : Each asked at old mid) where
+    -- the variable at i
     x : ℕ
     x = get_or items i 0
 
+    -- its row is noted with what is asked of it
     here : IsNoted (row_of mid (get_or items i 0)) (asked (get_or items i 0)) at (row_of new (get_or items i 0))
     here = subst (λ z. IsNoted (row_of mid (get_or items i 0)) z at (row_of new (get_or items i 0))) is note
 
+    -- its row is the old one, noted: once, or twice with the same
     since_old : IsNoted (row_of old (get_or items i 0)) (asked (get_or items i 0)) at (row_of new (get_or items i 0))
     since_old = elim (each (get_or items i 0)) [
       | inl e ↦ subst (λ r. IsNoted r (asked (get_or items i 0)) at (row_of new (get_or items i 0))) e here
@@ -101,9 +107,11 @@ module _ (items : List ℕ) (i : ℕ) (n : i < length items) where
           (asked (get_or items i 0)) at first here
     ]
 
+    -- so is the row of each variable that is equal to it
     at_var : (y : ℕ) → y ≡ get_or items i 0 → IsNoted (row_of old y) (asked y) at (row_of new y)
     at_var y e = subst (λ z. IsNoted (row_of old z) (asked z) at (row_of new z)) (sym e) since_old
 
+    -- with the one at i, the rows of one variable more are noted, and the others are as they were
     pub noted_more : AreNoted (take (i + 1) items) asked at old new
     noted_more = record {
       noted = λ y c. elim (ℕ_discrete y (get_or items i 0)) [
@@ -117,6 +125,7 @@ module _ (items : List ℕ) (i : ℕ) (n : i < length items) where
           ∙ before.others y (λ c. none (kept_var y c));
     }
 
+    -- each row is still as it was, or noted
     pub each_more : Each asked at old new
     each_more y = elim (ℕ_discrete y (get_or items i 0)) [
       | yes e ↦ inr (at_var y e)

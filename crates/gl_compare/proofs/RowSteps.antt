@@ -8,7 +8,6 @@ use Rattle.gl_model.specs.declared.event.Act.TheVariants.{Begin, Join}
 use Rattle.gl_model.specs.declared.event.Event.TheVariants.{Act as Does, Commit as CommitsEvent}
 use Rattle.gl_model.specs.declared.event.Stamp.{Stamp}
 use Rattle.gl_model.specs.declared.limits.TheConstants.{THREADS, TX_VARIABLES}
-use Rattle.gl_model.specs.declared.row.Info.{Info}
 use Rattle.gl_model.specs.declared.row.Item.{Item}
 use Rattle.gl_model.specs.declared.row.Item.TheVariants.{Act as Acts, Access, Commit as CommitsOn}
 use Rattle.gl_model.specs.declared.row.Judged.{Judged}
@@ -132,10 +131,12 @@ module _ (lines : List Line) (t x : ℕ) (write : Bool) (kept kept' : List Row) 
   abbrev stands : (y : ℕ) → RowStands trace_setting (history lines) y (draws_of lines y) (row_of kept y)
   stands = f.rows
 
+  -- what the row tells is whether one of its Infos fails
   says : (b : Bool) → Tells (history lines) (row_of kept x) (asked_plain t write held) b
       → IsTrue b ↔ SomeFails (history lines) (row_of kept x) (asked_plain t write held)
   says b tells = tells next (rows_stand trace_setting (history lines) x (draws_of lines x) (row_of kept x) (f.rows x))
 
+  -- an access that is done by its row is judged by whether an Info of the row fails
   pub plain_judged : (judged : Judged)
       → PlainDone (history lines) (row_of kept x) (asked_plain t write held) x judged (row_of kept' x)
       → IsJudgedBy (λ y. SomeFails (history lines) (row_of kept y) (asked_plain t write held)) (Access x write) judged
@@ -217,12 +218,15 @@ module _ (lines : List Line) (t : ℕ) (reads writes : List ℕ) (kept kept' : L
   abbrev Fails : ℕ → Type 0
   Fails y = SomeFails (history lines) (row_of kept y) (asked_part (asked_commit t (with_all writes reads) held) writes y)
 
+  -- what the row of y tells of the commit is whether one of its Infos fails
   says_part : (y : ℕ) (b : Bool) → Tells (history lines) (row_of kept y) (asked y) b → IsTrue b ↔ Fails y
   says_part y b tells = tells (next y) (rows_stand trace_setting (history lines) y (draws_of lines y) (row_of kept y) (stands y))
 
+  -- where it tells that none fails, none does
   says_no : (y : ℕ) → Tells (history lines) (row_of kept y) (asked y) false → Fails y → ⊥
   says_no y tells = told_no (history lines) (row_of kept y) (asked y) (says_part y false tells)
 
+  -- a commit that is done by the rows of its variables is judged by the first of them in whose row an Info fails
   pub commit_judged : (h' : List Stamp) (judged : Judged) → Rises (with_all writes reads)
       → CommitDone (history lines) kept t (with_all writes reads) asked judged h' kept' → IsJudgedBy Fails (CommitsOn reads writes) judged
   commit_judged h' NoAccess rising d = d
