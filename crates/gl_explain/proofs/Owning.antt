@@ -1,10 +1,9 @@
 -- The monitors that a thread owns, one after another.
-use Rattle.std.proofs.Common.{◌≡◌, ◌∙◌, ℕ, zero, suc, ◌+◌, ◌<◌, ◌≤◌, List, [], ◌∷◌, ◌++◌, map, refl, sym, ap, subst, arith, inl, inr, Some, None, true, false, ne_eqb, replicate}
-use Rattle.std.specs.Prelude.{◌⊎◌, ◌↔◌, Contains, slice_get, slice_index_or}
-use Rattle.std.specs.List.{AllByRecursion, fold}
+use Rattle.std.proofs.Common.{◌≡◌, ◌∙◌, ℕ, suc, ◌+◌, ◌<◌, ◌≤◌, List, [], ◌∷◌, ◌++◌, map, refl, sym, ap, subst, arith, inl, inr, Some, None, true, false, ne_eqb, replicate}
+use Rattle.std.specs.Prelude.{◌↔◌, Contains, slice_get, slice_index_or}
+use Rattle.std.specs.List.{fold}
 use Rattle.std.proofs.lemmas.Bool.{cases_lt}
 use Rattle.std.proofs.lemmas.List.{get_or-replicate}
-use Rattle.std.proofs.lemmas.List.Elements.{Contains-append_left, Contains-append_right, Contains-append_cases}
 use Rattle.gl_model.specs.declared.event.Act.{Act}
 use Rattle.gl_model.specs.declared.event.Act.TheVariants.{Begin, End, Acq, Rel, VRead, VWrite, Fork, Join, Alloc, Print, Input, Fail}
 use Rattle.gl_model.specs.declared.limits.TheConstants.{MONITORS}
@@ -15,43 +14,12 @@ use Rattle.gl_model.specs.TraceSteps.{Step, Hold, IsLineItem, item_leaves, act_l
 use Rattle.gl_explain.specs.declared.told.Told.{Told}
 use Rattle.gl_explain.specs.Owned.{AreOwned, AreHolders}
 use Rattle.gl_explain.specs.Told.{step_of}
+use Rattle.gl_model.proofs.RisingPushes.{in_none, in_push, rises_push}
 
 -- these are the monitors below n that thread t owns, by the table
 pub record AreOwnedBelow (holders : List Hold) (t n : ℕ) (monitors : List ℕ) : Type 0 where
   pub rises : Rises monitors
   pub each : (m : ℕ) → Contains monitors m ↔ ((m < n) × (is_held_by t (slice_index_or holders m None) ≡ true))
-
--- what holds of all of a list, and of one more, holds of all of the list with that put last
-all_push : (P : ℕ → Type 0) (xs : List ℕ) (x : ℕ) → AllByRecursion P xs → P x → AllByRecursion P (xs ++ x ∷ [])
-all_push P [] x all p = (p, tt)
-all_push P (y ∷ xs) x all p = (all.0, all_push P xs x all.1 p)
-
--- nothing is in an empty list
-in_none : (y : ℕ) → Contains [] y → ⊥
-in_none y (k, near, at) = absurd (omega arith)
-
--- what is in a one-element list is its element
-in_one : (x y : ℕ) → Contains (x ∷ []) y → y ≡ x
-in_one x y (zero, near, at) = sym at
-in_one x y (suc k, near, at) = absurd (omega arith)
-
--- what is in a list with one put last was in it, or is that one
-in_push : (xs : List ℕ) (x y : ℕ) → Contains (xs ++ x ∷ []) y ↔ (Contains xs y ⊎ (y ≡ x))
-in_push xs x y = (
-  λ c. elim (Contains-append_cases xs (x ∷ []) y c) [ inl a ↦ inl a | inr b ↦ inr (in_one x y b) ],
-  λ w. elim w [
-    | inl a ↦ Contains-append_left xs (x ∷ []) y a
-    | inr e ↦ Contains-append_right xs (x ∷ []) y (subst (Contains (x ∷ [])) (sym e) (0, omega arith, refl))
-  ],
-)
-
--- a rising list with a greater one put last rises
-rises_push : (xs : List ℕ) (x : ℕ) → ((y : ℕ) → Contains xs y → y < x) → Rises xs → Rises (xs ++ x ∷ [])
-rises_push [] x below rises = (tt, tt)
-rises_push (y ∷ xs) x below rises = (
-  all_push (λ z. y < z) xs x rises.0 (below y (0, omega arith, refl)),
-  rises_push xs x (λ z c. below z (Contains-append_right (y ∷ []) xs z c)) rises.1,
-)
 
 module _ (holders : List Hold) (t : ℕ) where
   -- below 0 thread t owns no monitor

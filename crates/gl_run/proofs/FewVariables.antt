@@ -22,7 +22,7 @@ use Rattle.gl_bytecode.specs.Machine.{Attempt, ask_of, next, takes}
 use Rattle.gl_bytecode.specs.Programs.{Bytecode}
 use Rattle.gl_bytecode.specs.Runs.{Exchange, Made, Quiet, Progress, Runs, entries_of, is_its_end, is_quiet, is_word, known_word, knows, looks_after, outset, reply_in, reply_of, reply_of_abort, reply_of_act, reply_of_commit, same_words, told, told_one, touched, with_word, without_trims, word_of, writes_after}
 use Rattle.gl_bytecode.proofs.AttemptWords.{words_same}
-use Rattle.gl_bytecode.proofs.Exchanges.{told_cons, when_true}
+use Rattle.gl_bytecode.proofs.Exchanges.{Told, told_cons, told_of, when_true}
 use Rattle.gl_model.specs.Kept.{IsRecord}
 use Rattle.gl_model.specs.Lists.{lists_of}
 use Rattle.gl_journal.specs.Written.{AllEntries, NamesFew, TxNamesFew}
@@ -488,41 +488,8 @@ entry_few p ask (Ended ending) r is old = tt
 
 -- ## Along a run
 
--- one exchange, with the reply that it gives
-record Answered (P : Bytecode) (x : Exchange) (p q : Progress) : Type 0 where
-  reply : Reply
-  gives : reply_of p (ask_of p.config.stage) x ≡ Some reply
-  looks : q.looks ≡ looks_after p (ask_of p.config.stage) reply
-  writes : q.writes ≡ writes_after p (ask_of p.config.stage) reply
-
--- a step of the telling is a reply to an exchange, and what follows from it
-answered : (P : Bytecode) (x : Exchange) (p q : Progress) → told_one P x p ≡ Some q → Answered P x p q
-answered P x p q is = by_reply (reply_of p (ask_of p.config.stage) x) refl where
-  made : Reply → Progress
-  made r = record {
-    config = next P p.config r;
-    looks = looks_after p (ask_of p.config.stage) r;
-    writes = writes_after p (ask_of p.config.stage) r;
-  }
-
-  by_test : (r : Reply) (t : Bool) → reply_of p (ask_of p.config.stage) x ≡ Some r → takes p.config r ≡ t → Answered P x p q
-  by_test r true gives fits =
-      let e : told_one P x p ≡ Some (made r) = rw (gives, fits) refl in
-      let same : q ≡ made r = cc in
-      record {
-        reply = r;
-        gives = gives;
-        looks = ap (λ (m : Progress). m.looks) same;
-        writes = ap (λ (m : Progress). m.writes) same;
-      }
-  by_test r false gives fits = (let e : told_one P x p ≡ None = rw (gives, fits) refl in cc)
-
-  by_reply : (o : Option Reply) → reply_of p (ask_of p.config.stage) x ≡ o → Answered P x p q
-  by_reply None none = (let e : told_one P x p ≡ None = rw none refl in cc)
-  by_reply (Some r) gives = by_test r (takes p.config r) gives refl
-
 -- looks and writes stay few after an exchange that is answered
-next_few : (P : Bytecode) (x : Exchange) (p q : Progress) → Answered P x p q → AreFew p.looks p.writes → AreFew q.looks q.writes
+next_few : (P : Bytecode) (x : Exchange) (p q : Progress) → Told P x p q → AreFew p.looks p.writes → AreFew q.looks q.writes
 next_few P x p q one old =
     subst (λ ls. AreFew ls q.writes) (sym one.looks)
     (subst (λ ws. AreFew (looks_after p (ask_of p.config.stage) one.reply) ws) (sym one.writes)
@@ -534,13 +501,13 @@ exchanges_few : (P : Bytecode) (xs : List Exchange) (p q : Progress) → told P 
 exchanges_few P [] p q is old = tt
 exchanges_few P (Made e ∷ xs) p q is old =
     let parts = told_cons P (Made e) xs p q is in
-    let one = answered P (Made e) p parts.mid parts.first in (
+    let one = told_of P (Made e) p parts.mid parts.first in (
       entry_few p (ask_of p.config.stage) e one.reply one.gives old,
       exchanges_few P xs parts.mid q parts.rest (next_few P (Made e) p parts.mid one old),
     )
 exchanges_few P (Quiet r ∷ xs) p q is old =
     let parts = told_cons P (Quiet r) xs p q is in
-    let one = answered P (Quiet r) p parts.mid parts.first in
+    let one = told_of P (Quiet r) p parts.mid parts.first in
     exchanges_few P xs parts.mid q parts.rest (next_few P (Quiet r) p parts.mid one old)
 
 -- ## The list of a thread

@@ -9,7 +9,7 @@ use Rattle.gl_bytecode.specs.Programs.{Bytecode}
 use Rattle.gl_model.specs.Entries.{Entry}
 use Rattle.gl_model.specs.Kept.{IsRecord}
 use Rattle.gl_run.specs.Listed.{Refuses}
-use Rattle.gl_run.specs.Output.{line_end}
+use Rattle.gl_trace.specs.Verdicts.{line_end}
 use Rattle.gl_run.specs.declared.kept.Kept.{Kept}
 use Rattle.gl_run.specs.declared.status.TheConstants.{ALL_WELL, NOT_LAWFUL}
 
