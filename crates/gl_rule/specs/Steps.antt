@@ -25,7 +25,7 @@ use Rattle.gl_rule.specs.Closed.{IsDone}
 use Rattle.gl_rule.specs.Commits.{MayCommit, MayPay, paid, drew_commit}
 use Rattle.gl_rule.specs.Fitting.{MayLeave, SaysQuiet, MayWalk, MayPublish, MayStoreWord, MayRaise, MayTrim, MayMark, MayOpen}
 use Rattle.gl_rule.specs.Objects.{Key, capacity, objects, stop_word, cell_at}
-use Rattle.gl_rule.specs.Opened.{first_words, first_slots, sixteen}
+use Rattle.gl_rule.specs.Opened.{first_words, first_slots, empty_shelves}
 use Rattle.gl_rule.specs.Rule.{Rule}
 use Rattle.gl_rule.specs.Told.{Took, Left, SawTail, Saw, SawStop, SawHold, SawFloor, SawCell, SawEvent, PutWord, Published, PublishedAct, Raised, Lowered, Marked, Opened}
 use Rattle.gl_rule.specs.View.{View, Shelf, shelf, Held, HasObject, SetStop, blank, both}
@@ -157,7 +157,7 @@ RecordsAdded =
 abbrev pub Begins : Type 0
 Begins =
     (key : Key) (l : ListView) → IsStateOf l (start key.setting) →
-    Rule key (table.opening (first_words key) (first_slots l) (blank sixteen))
+    Rule key (table.opening (first_words key) (first_slots l) (blank empty_shelves))
 
 -- a seat that knows nothing comes in
 abbrev pub EntersSeat : Type 0
