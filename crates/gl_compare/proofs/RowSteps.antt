@@ -1,5 +1,5 @@
 -- A line more: what the judge by rows keeps follows it, and what it said of it is right.
-use Rattle.std.proofs.Common.{◌≡◌, ℕ, ◌+◌, ◌≤◌, List, [], ◌∷◌, ◌++◌, length, replicate, zero, suc, refl, sym, ◌∙◌, ap, subst, arith, Ok, Err, None, true, false, Bool}
+use Rattle.std.proofs.Common.{◌≡◌, ℕ, ◌≤◌, List, [], ◌∷◌, ◌++◌, length, replicate, zero, suc, refl, sym, ◌∙◌, ap, subst, arith, Ok, Err, None, true, false, Bool}
 use Rattle.std.specs.Prelude.{Result, ◌||◌, ◌↔◌, IfOk, IsTrue, Contains, slice_index_or}
 use Rattle.std.proofs.lemmas.Bool.{ltb-false}
 use native.Mathlib.Decide.{ℕ_discrete}
@@ -8,7 +8,6 @@ use Rattle.gl_model.specs.declared.event.Act.TheVariants.{Begin, Join}
 use Rattle.gl_model.specs.declared.event.Event.TheVariants.{Act as Does, Commit as CommitsEvent}
 use Rattle.gl_model.specs.declared.event.Stamp.{Stamp}
 use Rattle.gl_model.specs.declared.limits.TheConstants.{THREADS, TX_VARIABLES}
-use Rattle.gl_model.specs.declared.row.Info.{Info}
 use Rattle.gl_model.specs.declared.row.Item.{Item}
 use Rattle.gl_model.specs.declared.row.Item.TheVariants.{Act as Acts, Access, Commit as CommitsOn}
 use Rattle.gl_model.specs.declared.row.Judged.{Judged}
