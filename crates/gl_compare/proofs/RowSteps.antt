@@ -1,5 +1,5 @@
 -- A line more: what the judge by rows keeps follows it, and what it said of it is right.
-use Rattle.std.proofs.Common.{◌≡◌, ℕ, ◌+◌, ◌≤◌, List, [], ◌∷◌, ◌++◌, length, replicate, zero, suc, refl, sym, ◌∙◌, ap, subst, arith, Ok, Err, None, true, false, Bool}
+use Rattle.std.proofs.Common.{◌≡◌, ℕ, ◌≤◌, List, [], ◌∷◌, ◌++◌, length, replicate, zero, suc, refl, sym, ◌∙◌, ap, subst, arith, Ok, Err, None, true, false, Bool}
 use Rattle.std.specs.Prelude.{Result, ◌||◌, ◌↔◌, IfOk, IsTrue, Contains, slice_index_or}
 use Rattle.std.proofs.lemmas.Bool.{ltb-false}
 use native.Mathlib.Decide.{ℕ_discrete}

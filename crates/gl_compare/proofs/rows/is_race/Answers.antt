@@ -1,4 +1,4 @@
-use Rattle.std.proofs.Common.{◌-◌, sym, refl}
+use Rattle.std.proofs.Common.{sym, refl}
 use Rattle.gl_model.specs.Machine.{trace_setting}
 use Rattle.gl_judge.proofs.Walked.{take_rest}
 use Rattle.gl_compare.proofs.rows.is_race.Goals as goal
