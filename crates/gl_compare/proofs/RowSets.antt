@@ -144,7 +144,7 @@ pub all_noted : (items variables : List ℕ) (i : ℕ) (asked : ℕ → Question
 all_noted items variables i asked at old new same past noted =
     subst (λ xs. AreNoted xs asked at old new) (take_all i items past ∙ same) noted
 
--- the answer for one variable more is no
+-- what holds of all variables before the one at i, and of it, holds of all before the next
 pub told_more : (xs : List ℕ) (P : ℕ → Type 0) (i : ℕ) (x : ℕ) → slice_get xs i ≡ Some x → P x
     → ((k y : ℕ) → k < i → slice_get xs k ≡ Some y → P y) → (k y : ℕ) → k < i + 1 → slice_get xs k ≡ Some y → P y
 told_more xs P i x here this before k y l there = elim (cases_lt k i) [

@@ -75,7 +75,7 @@ followed_push lines l h h' kept kept' over over' f e holds rows ended = record {
       ∙ sym (ended_push (steps_of lines) (l.thread, l.item) u) ∙ ap (λ ss. is_ended ss u) (sym (steps_push lines l));
 }
 
--- before the first line
+-- in a list of threads of which none has ended none has
 none_ended : (n u : ℕ) → slice_index_or (replicate n false) u false ≡ false
 none_ended zero u = refl
 none_ended (suc n) zero = refl
@@ -115,7 +115,7 @@ stepped_act t act h h' kept kept' over over' joined same joins events ends lines
           ends,
     )
 
--- a no says that no Info fails, and a yes that one does
+-- a no says that no Info fails
 told_no : (h : List Stamp) (row : Row) (q : Question) → IsTrue false ↔ SomeFails h row q → SomeFails h row q → ⊥
 told_no h row q tells fails = let e = tells.1 fails in absurd (cc)
 

@@ -10,7 +10,7 @@ use Rattle.gl_compare.specs.declared.row_judge.RowJudge.{RowJudge}
 abbrev pub AreWithin : ℕ → List Row → Type 0
 AreWithin n rows = All (λ row. IsWithin row n) rows
 
--- there are more events, of threads and ids that there are
+-- there are no fewer events, of threads and ids that there are
 abbrev pub GoesOn : List Stamp → List Stamp → Type 0
 GoesOn h h' = All IsStampInRange h' × (length h ≤ length h')
 

@@ -23,7 +23,7 @@ untouched = record { value = pos 0; last_write = None; reads = replicate THREADS
 abbrev pub row_of : List Row → ℕ → Row
 row_of rows y = slice_index_or rows y untouched
 
--- what a plain access asks, what a commit on these variables asks of any of them, and what of the variable y
+-- what a plain access asks, what a commit on these variables asks of any of them but for whether it writes, and what of the variable y
 abbrev pub asked_plain : ℕ → Bool → List ℕ → Question
 asked_plain t write held = record { thread = t; write = write; commit = None; held = held }
 

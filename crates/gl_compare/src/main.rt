@@ -24,7 +24,7 @@ use small::{WITH_ALL, WITH_DISJOINT, compare_small};
 use std::io;
 use std::process::ExitCode;
 
-// Says what was compared, and whether both agreed.
+// Says what was compared, and whether all three agreed.
 fn told(rt: &impl Print, name: &str, outcome: &Outcome) -> io::Result<bool> {
     let tally = &outcome.tally;
     println!(rt;

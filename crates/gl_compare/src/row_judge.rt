@@ -77,7 +77,7 @@ impl RowJudge {
         })
     }
 
-    /// Judges the next line, which a trace can have and which has no fault behind those before it.
+    /// Judges the next line, which a trace can have. Of a line that has a fault after those before it nothing is promised.
     pub fn step(&mut self, thread: u8, item: &Item) -> Result<Judged, AllocError>
         requires ready { IsReady self.old }
         requires step { IsStep (thread, item.now) }

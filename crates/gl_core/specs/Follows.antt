@@ -39,7 +39,7 @@ IsStepped t item judged old new =
     AreVerdicts (lines ++ record { thread = t; item = item; judged = judged } ∷ []) ×
     Follows (lines ++ record { thread = t; item = item; judged = judged } ∷ []) new
 
--- the most ticks that a line looks at or moves: of an act the clocks of two events, what it acquires, what it releases and its thread's;
+-- the most ticks that are counted of a line: of an act the clocks of two events, what it acquires, what it releases and its thread's;
 -- of a plain access those of the last write or of the reads; of a commit what is kept of each variable that it reads and of each that it
 -- writes, the clocks of each variable when it acquires, the same when it releases or, where it is racy, what is kept of each once more, and
 -- its thread's clock

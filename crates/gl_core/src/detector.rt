@@ -117,9 +117,9 @@ impl Detector {
         })
     }
 
-    /// Judges the next line, which a trace can have and which has no fault behind those before it. It takes no memory: the error says
-    /// that no more events can be counted, and the detector is as before. How many ticks a line looks at and moves is bounded by its item
-    /// alone.
+    /// Judges the next line, which a trace can have; of a line that has a fault after those before it nothing is promised. It takes no
+    /// memory: the error says that no more events can be counted, and the detector is as before. How many ticks are counted of a line is
+    /// bounded by its item alone.
     pub fn step(&mut self, thread: u8, item: &Item, _cuts: &Cuts) -> Result<Judged, AllocError>
         requires ready { IsReady self.old }
         requires step { IsStep (thread, item.now) }
@@ -142,8 +142,8 @@ impl Detector {
         }
     }
 
-    /// How many ticks of clocks and of what is kept of variables were looked at or moved so far, counted up to `u64::MAX`. All that is
-    /// kept of one thread's accesses of a variable counts as one.
+    /// How many ticks of clocks and of what is kept of variables were counted so far, as looked at or moved, up to `u64::MAX`. All that is
+    /// kept of one thread's accesses of a variable counts as one. docs/DECISIONS.md says what is not counted.
     pub fn ticks(&self) -> u64
         ensures { result ≡ self.now.ticks }
     {

@@ -90,7 +90,7 @@ or_some : (o : _) (p : ℕ) → (q : ℕ) × (or_else o (Some p) ≡ Some q)
 or_some None p = (p, refl)
 or_some (Some q) p = (q, refl)
 
--- it has an event
+-- the list of a thread that runs has an event
 pub has_block : (es : List Entry) → life_of es ≡ Running → (p : ℕ) × (last_position es ≡ Some p)
 has_block [] run = absurd (cc)
 has_block (Sync a b c ∷ es) run = or_some (last_position es) a
@@ -100,7 +100,7 @@ has_block (Abort a b ∷ es) run = let r = has_block es run in (r.0, ap (λ o. o
 has_block (Trim a ∷ es) run = let r = has_block es run in (r.0, ap (λ o. or_else o None) r.1)
 has_block (Over a ∷ es) run = absurd (closed_stays es run)
 
--- and an entry that is no Trim
+-- it has an entry that is no Trim
 pub has_begun : (es : List Entry) → life_of es ≡ Running → (i : ℕ) × ((e : Entry) × At es i e × (IsTrim e → ⊥))
 has_begun [] run = absurd (cc)
 has_begun (Sync a b c ∷ es) run = (0, (Sync a b c, refl, λ t. t))

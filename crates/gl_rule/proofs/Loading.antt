@@ -341,7 +341,7 @@ small_code setting old new x value step code is =
     subst (λ z. Effect setting old x.thread z value new) is step.effect in
     refused_small setting old x.thread code value e.0
 
--- loading the last word of an event that the pass has seen and may walk to tells the event
+-- loading the last word of an event that the pass has seen and may walk from tells the event
 pub loads_event : (key : Key) (slots id p : ℕ) (v : View) (c : List (ℕ × Slot)) → p < v.seen → MayWalk v p
     → table.Allows (Rule key) slots id (v, c) (cell_at (capacity key) p 4) (λ n. n) (SawEvent (capacity key) p v c)
 loads_event key slots id p v c below may s rule long here fits =

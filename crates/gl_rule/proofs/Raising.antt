@@ -68,7 +68,7 @@ trim_held setting w trims' hold drew zero (slot.Row r) s = absurd s
 trim_held setting w trims' hold drew (suc x) slot.Empty s = absurd s
 trim_held setting w trims' hold drew (suc x) (slot.List l) s = absurd s
 
--- a view fits still where holds rose, but none of what it holds
+-- a view fits still where holds rose, but none of a row that it holds
 pub fits_holds : (key : Key) (b b' : Board) (w : World) (trims' : List (ℕ × ℕ)) (j : ℕ) (v : View) → SameTurns b b' → SameCells b b'
     → ((h : Held) → HeldOne b.turn w.holder j v.shelves h → h.object ≢ 0 → b'.hold h.object ≡ b.hold h.object)
     → ((k : ℕ) → k < objects → b.hold k ≤ b'.hold k)

@@ -22,7 +22,7 @@ no_stop : (asked : Option Command) (s : ℕ) → IsPageStatus asked s → (s ≡
 no_stop asked s (inl none) stop = (let one = none.1 in grind arith)
 no_stop asked s (inr some) stop = (let verdict = some.1 in grind arith)
 
--- the status of words that are no command is that of no command's page
+-- a status that tells a verdict is not that of no command
 no_usage_of : (s : ℕ) → IsVerdict s → s ≡ NO_COMMAND → ⊥
 no_usage_of s verdict is = grind arith
 
