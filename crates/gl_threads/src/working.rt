@@ -10,6 +10,7 @@ ghost use Rattle.gl_threads.specs.Dealing.{AreReady};
 ghost use Rattle.gl_threads.specs.Options.{AreOptions};
 ghost use Rattle.gl_riders.specs.Sparing.{IsSpared};
 ghost use Rattle.gl_riders.specs.Riding.{IsSetFor};
+ghost use Rattle.gl_riders.specs.Threads.{IsSetUp};
 
 use crate::crew::{Crew, run_crew};
 use crate::dealing::{deal, gather};
@@ -17,6 +18,7 @@ use crate::gate::Gate;
 use crate::options::Options;
 use crate::roll::RollCall;
 use gl_bytecode::Program;
+use gl_riders::Run;
 use gl_shortcut::Cuts;
 use gl_table::{Pass, Shared};
 use std::alloc::{AllocError, Global};
@@ -28,18 +30,16 @@ use std::thread::Threads;
 fn run_crews<G: Gate, R: Threads + Wait + Sync>(
     rt: &R,
     crews: &mut Vec<Crew>,
-    shared: &Shared,
-    program: &Program,
-    limit: u32,
+    run: &Run,
     cuts: &Cuts,
     gate: &G,
     workers: usize,
 )
     requires workers { 0 < workers }
-    requires set { IsSetFor program.now shared.now.key.setting }
-    requires ready { AreReady program.now limit shared.now crews.old.items }
+    requires set { IsSetUp run.now }
+    requires ready { AreReady run.now.program.now run.now.steps run.now.table.now crews.old.items }
     ensures long { length crews.new.items ≡ length crews.old.items }
-    ensures done { (c : ℕ) (d : ACrew) → c < length crews.old.items → CrewIsDone program.now limit shared.now.id (slice_index_or crews.old.items c d) (slice_index_or crews.new.items c d) }
+    ensures done { (c : ℕ) (d : ACrew) → c < length crews.old.items → CrewIsDone run.now.program.now run.now.steps run.now.table.now.id (slice_index_or crews.old.items c d) (slice_index_or crews.new.items c d) }
 {
     let roll = RollCall::of(crews.len() as u64);
     thread::for_each_mut(
@@ -47,9 +47,9 @@ fn run_crews<G: Gate, R: Threads + Wait + Sync>(
         crews.as_mut_slice(),
         workers,
         &|_, crew: &mut Crew|
-            requires { IsSetFor program.now shared.now.key.setting × IsReady program.now limit shared.now crew.now }
-            ensures { CrewIsDone program.entry.now limit shared.entry.now.id crew.entry.now crew.exit.now }
-        { run_crew(rt, crew, shared, program, limit, cuts, gate, &roll) },
+            requires { IsSetUp run.now × IsReady run.now.program.now run.now.steps run.now.table.now crew.now }
+            ensures { CrewIsDone run.entry.now.program.now run.entry.now.steps run.entry.now.table.now.id crew.entry.now crew.exit.now }
+        { run_crew(rt, crew, run, cuts, gate, &roll) },
     );
 }
 
@@ -81,20 +81,16 @@ pub fn work<G: Gate, R: Threads + Wait + Sync>(
     ensures sparing { IfOk result (λ v. All (λ p. IsSpared p.own.mine) v.items) }
 {
     let workers = options.workers as usize;
-    let mut crews = deal(alloc, program, passes, workers, options.steps, shared)?;
-    run_crews(
-        rt,
-        &mut crews,
-        shared,
+    let run = Run {
+        table: shared,
         program,
-        options.steps,
-        cuts,
-        gate,
-        workers,
-    );
+        steps: options.steps,
+    };
+    let mut crews = deal(alloc, &run, passes, workers)?;
+    run_crews(rt, &mut crews, &run, cuts, gate, workers);
     if has_stopped(&crews) {
         return Err(AllocError);
     }
-    let back = gather(alloc, program, crews, workers, options.steps, shared)?;
+    let back = gather(alloc, &run, crews, workers)?;
     Ok(back)
 }
