@@ -8,7 +8,7 @@ use gl_vm::Machine;
 use std::alloc::Global;
 
 /// What all threads of a run share: the table, the program, and how many instructions each thread has.
-#[derive(Clone, Copy)]
+#[derive(Drop)]
 pub struct Run<'a> {
     pub table: &'a Shared,
     pub program: &'a Program,

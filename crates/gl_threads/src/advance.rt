@@ -6,10 +6,10 @@ ghost use Rattle.gl_riders.specs.Riding.{Rides};
 ghost use Rattle.gl_riders.specs.Threads.{GoesOnBy, HasOnlyPaid, HasWords, IsAsked, IsRiding, IsSetUp};
 ghost use Rattle.gl_riders.specs.Tries.{IfAgain, IfAnswered, IfFull};
 
+use crate::aids::Aids;
 use crate::gate::{Gate, kind_of};
 use gl_riders::{Lent, Run, Thread, Tried, try_one};
 use gl_rows::sweep;
-use gl_shortcut::Cuts;
 use gl_table::Pass;
 use gl_txn::Txn;
 use gl_vm::{Ask, Machine, Reply};
@@ -28,9 +28,8 @@ fn try_gated<G: Gate>(
     run: &Run,
     thread: &mut Thread,
     ask: Ask,
-    cuts: &Cuts,
+    aids: &Aids<G>,
     lent: &mut Lent,
-    gate: &G,
 ) -> Result<Tried, AllocError>
     requires set { IsSetUp run.now }
     requires rides { IsRiding run.now thread.old }
@@ -51,10 +50,10 @@ fn try_gated<G: Gate>(
     let id = thread.pass.id();
     let kind = kind_of(ask, thread.machine.in_tx());
     if let Some(kind) = kind {
-        gate.before(id, kind);
+        aids.gate.before(id, kind);
     }
-    let tried = try_one(run, thread, ask, cuts, lent)?;
-    tell_after(gate, id, kind, &tried);
+    let tried = try_one(run, thread, ask, aids.cuts, lent)?;
+    tell_after(aids.gate, id, kind, &tried);
     Ok(tried)
 }
 
@@ -69,9 +68,8 @@ fn turn<G: Gate>(
     run: &Run,
     thread: &mut Thread,
     ask: Ask,
-    cuts: &Cuts,
+    aids: &Aids<G>,
     lent: &mut Lent,
-    gate: &G,
 ) -> Result<Went, AllocError>
     requires set { IsSetUp run.now }
     requires rides { IsRiding run.now thread.old }
@@ -88,7 +86,7 @@ fn turn<G: Gate>(
     ensures table { thread.new.pass.own.table ≡ thread.old.pass.own.table }
     ensures window { lent.new.window ≡ lent.old.window }
 {
-    match try_gated(run, thread, ask, cuts, lent, gate)? {
+    match try_gated(run, thread, ask, aids, lent)? {
         Tried::Answered(reply) => {
             thread.machine.step(run.program, reply);
             Ok(Went::On)
@@ -131,9 +129,8 @@ fn go_on(run: &Run, machine: &mut Machine, pass: &Pass, txn: &Option<Txn>)
 pub(crate) fn advance<G: Gate>(
     run: &Run,
     thread: &mut Thread,
-    cuts: &Cuts,
+    aids: &Aids<G>,
     lent: &mut Lent,
-    gate: &G,
 ) -> Result<Went, AllocError>
     requires set { IsSetUp run.now }
     requires rides { IsRiding run.now thread.old }
@@ -155,6 +152,6 @@ pub(crate) fn advance<G: Gate>(
             thread.pass.over(ending);
             Ok(Went::Home)
         }
-        ask => turn(run, thread, ask, cuts, lent, gate),
+        ask => turn(run, thread, ask, aids, lent),
     }
 }

@@ -4,11 +4,11 @@ ghost use Rattle.gl_threads.specs.Aboard.{AreAboard, AreFinished, rider_id};
 ghost use Rattle.gl_threads.specs.Crews.{CrewIsDone, IsReady};
 ghost use Rattle.gl_riders.specs.Threads.{IsSetUp};
 
+use crate::aids::Aids;
 use crate::gate::Gate;
 use crate::rider::{Pace, Rider, are_home, round};
 use crate::roll::RollCall;
 use gl_riders::{Lent, Run};
-use gl_shortcut::Cuts;
 use std::sync::Wait;
 use std::sync::atomic::AtomicU64;
 use std::thread;
@@ -40,8 +40,7 @@ pub(crate) fn run_crew<G: Gate, R: Wait>(
     rt: &R,
     crew: &mut Crew,
     run: &Run,
-    cuts: &Cuts,
-    gate: &G,
+    aids: &Aids<G>,
     roll: &RollCall,
 )
     requires set { IsSetUp run.now }
@@ -52,7 +51,7 @@ pub(crate) fn run_crew<G: Gate, R: Wait>(
         crew.stopped = true;
         return;
     }
-    let done = run_riders(rt, crew, run, cuts, gate, roll);
+    let done = run_riders(rt, crew, run, aids, roll);
     crew.stopped = !done;
 }
 
@@ -61,8 +60,7 @@ fn run_riders<G: Gate, R: Wait>(
     rt: &R,
     crew: &mut Crew,
     run: &Run,
-    cuts: &Cuts,
-    gate: &G,
+    aids: &Aids<G>,
     roll: &RollCall,
 ) -> bool
     requires set { IsSetUp run.now }
@@ -77,7 +75,7 @@ fn run_riders<G: Gate, R: Wait>(
         if are_home(&crew.riders) {
             return true;
         }
-        match round(run, &mut crew.riders, cuts, &mut crew.lent, gate) {
+        match round(run, &mut crew.riders, aids, &mut crew.lent) {
             Pace::Moved => idle = 0,
             Pace::Idle => {
                 if roll.gives_up(idle) {

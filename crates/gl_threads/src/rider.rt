@@ -5,9 +5,9 @@ ghost use Rattle.gl_threads.specs.Aboard.{AreAboard, IfPace, IsAboard, rider_id}
 ghost use Rattle.gl_riders.specs.Threads.{IsSetUp};
 
 use crate::advance::{Went, advance};
+use crate::aids::Aids;
 use crate::gate::Gate;
 use gl_riders::{Lent, Run, Thread};
-use gl_shortcut::Cuts;
 use gl_table::{Pass, Shared};
 
 // A thread of the program that a worker runs, and whether it is done.
@@ -53,7 +53,7 @@ fn is_stopped(shared: &Shared, pass: &mut Pass) -> bool
 }
 
 // A try of one thread: where the run is to stop, nothing is done.
-fn ride_once<G: Gate>(run: &Run, rider: &mut Rider, cuts: &Cuts, lent: &mut Lent, gate: &G) -> Pace
+fn ride_once<G: Gate>(run: &Run, rider: &mut Rider, aids: &Aids<G>, lent: &mut Lent) -> Pace
     requires set { IsSetUp run.now }
     requires aboard { IsAboard run.now.program.now run.now.steps run.now.table.now.id rider.old }
     requires window { capacity run.now.table.now.key ≤ lent.old.window }
@@ -64,10 +64,10 @@ fn ride_once<G: Gate>(run: &Run, rider: &mut Rider, cuts: &Cuts, lent: &mut Lent
     if rider.home {
         return Pace::Idle;
     }
-    go_ahead(run, rider, cuts, lent, gate)
+    go_ahead(run, rider, aids, lent)
 }
 
-fn go_ahead<G: Gate>(run: &Run, rider: &mut Rider, cuts: &Cuts, lent: &mut Lent, gate: &G) -> Pace
+fn go_ahead<G: Gate>(run: &Run, rider: &mut Rider, aids: &Aids<G>, lent: &mut Lent) -> Pace
     requires set { IsSetUp run.now }
     requires aboard { IsAboard run.now.program.now run.now.steps run.now.table.now.id rider.old }
     requires window { capacity run.now.table.now.key ≤ lent.old.window }
@@ -83,7 +83,7 @@ fn go_ahead<G: Gate>(run: &Run, rider: &mut Rider, cuts: &Cuts, lent: &mut Lent,
         rider.left -= 1;
         return Pace::Idle;
     }
-    match advance(run, &mut rider.thread, cuts, lent, gate) {
+    match advance(run, &mut rider.thread, aids, lent) {
         Ok(Went::On) => {
             rider.pause = 0;
             Pace::Moved
@@ -109,7 +109,7 @@ fn go_ahead<G: Gate>(run: &Run, rider: &mut Rider, cuts: &Cuts, lent: &mut Lent,
 const TRIES: usize = 32;
 
 // A turn of one thread: its tries, as long as they are answered.
-fn ride<G: Gate>(run: &Run, rider: &mut Rider, cuts: &Cuts, lent: &mut Lent, gate: &G) -> Pace
+fn ride<G: Gate>(run: &Run, rider: &mut Rider, aids: &Aids<G>, lent: &mut Lent) -> Pace
     requires set { IsSetUp run.now }
     requires aboard { IsAboard run.now.program.now run.now.steps run.now.table.now.id rider.old }
     requires window { capacity run.now.table.now.key ≤ lent.old.window }
@@ -119,7 +119,7 @@ fn ride<G: Gate>(run: &Run, rider: &mut Rider, cuts: &Cuts, lent: &mut Lent, gat
 {
     let mut pace = Pace::Idle;
     for _ in 0..TRIES {
-        match ride_once(run, rider, cuts, lent, gate) {
+        match ride_once(run, rider, aids, lent) {
             Pace::Moved => pace = Pace::Moved,
             Pace::Idle => return pace,
             Pace::Stopped => return Pace::Stopped,
@@ -132,9 +132,8 @@ fn ride<G: Gate>(run: &Run, rider: &mut Rider, cuts: &Cuts, lent: &mut Lent, gat
 pub(crate) fn round<G: Gate>(
     run: &Run,
     riders: &mut Vec<Rider>,
-    cuts: &Cuts,
+    aids: &Aids<G>,
     lent: &mut Lent,
-    gate: &G,
 ) -> Pace
     requires set { IsSetUp run.now }
     requires aboard { AreAboard run.now.program.now run.now.steps run.now.table.now.id riders.old.items }
@@ -145,7 +144,7 @@ pub(crate) fn round<G: Gate>(
 {
     let mut moved = false;
     for i in 0..riders.len() {
-        match ride(run, &mut riders[i], cuts, lent, gate) {
+        match ride(run, &mut riders[i], aids, lent) {
             Pace::Moved => moved = true,
             Pace::Idle => {}
             Pace::Stopped => return Pace::Stopped,

@@ -12,6 +12,7 @@ ghost use Rattle.gl_riders.specs.Sparing.{IsSpared};
 ghost use Rattle.gl_riders.specs.Riding.{IsSetFor};
 ghost use Rattle.gl_riders.specs.Threads.{IsSetUp};
 
+use crate::aids::Aids;
 use crate::crew::{Crew, run_crew};
 use crate::dealing::{deal, gather};
 use crate::gate::Gate;
@@ -31,8 +32,7 @@ fn run_crews<G: Gate, R: Threads + Wait + Sync>(
     rt: &R,
     crews: &mut Vec<Crew>,
     run: &Run,
-    cuts: &Cuts,
-    gate: &G,
+    aids: &Aids<G>,
     workers: usize,
 )
     requires workers { 0 < workers }
@@ -49,7 +49,7 @@ fn run_crews<G: Gate, R: Threads + Wait + Sync>(
         &|_, crew: &mut Crew|
             requires { IsSetUp run.now × IsReady run.now.program.now run.now.steps run.now.table.now crew.now }
             ensures { CrewIsDone run.entry.now.program.now run.entry.now.steps run.entry.now.table.now.id crew.entry.now crew.exit.now }
-        { run_crew(rt, crew, run, cuts, gate, &roll) },
+        { run_crew(rt, crew, run, aids, &roll) },
     );
 }
 
@@ -86,8 +86,9 @@ pub fn work<G: Gate, R: Threads + Wait + Sync>(
         program,
         steps: options.steps,
     };
+    let aids = Aids { cuts, gate };
     let mut crews = deal(alloc, &run, passes, workers)?;
-    run_crews(rt, &mut crews, &run, cuts, gate, workers);
+    run_crews(rt, &mut crews, &run, &aids, workers);
     if has_stopped(&crews) {
         return Err(AllocError);
     }
