@@ -10,7 +10,7 @@ ghost use Rattle.gl_riders.specs.Unanswered.{IsNoAccess, IsUnanswered, TableStop
 use crate::thread::{Lent, Run, Thread};
 use crate::tried::Tried;
 use crate::tries::{try_begin, try_end, try_event, try_plain, try_read, try_write};
-use crate::words::flush;
+use crate::words::{Access, flush};
 use gl_shortcut::Cuts;
 use gl_vm::Ask;
 use std::alloc::AllocError;
@@ -182,9 +182,14 @@ fn try_outside(
     ensures window { lent.new.window ≡ lent.old.window }
 {
     match ask {
-        Ask::Read { var } => { Ok(try_plain(run, thread, var, None, cuts, &mut lent.window)) }
+        Ask::Read { var } => {
+            let wanted = Access { var, write: None };
+            Ok(try_plain(run, thread, wanted, cuts, &mut lent.window))
+        }
         Ask::Write { var, value } => {
-            Ok(try_plain(run, thread, var, Some(value), cuts, &mut lent.window))
+            let write = Some(value);
+            let wanted = Access { var, write };
+            Ok(try_plain(run, thread, wanted, cuts, &mut lent.window))
         }
         _ => try_flushed(run, thread, ask, cuts, lent),
     }

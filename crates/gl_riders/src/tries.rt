@@ -11,7 +11,7 @@ ghost use Rattle.gl_riders.specs.Unanswered.{AccessStops, EventStops, TableStops
 use crate::events::{event, reply_of};
 use crate::thread::{Run, Thread};
 use crate::tried::Tried;
-use crate::words::plain;
+use crate::words::{Access, plain};
 use gl_bytecode::{RACE, TX_TOO_LARGE};
 use gl_events::Stop;
 use gl_rows::{Seen, Window};
@@ -63,36 +63,27 @@ pub(crate) fn try_event(run: &Run, thread: &mut Thread, ask: Ask) -> Tried
 pub(crate) fn try_plain(
     run: &Run,
     thread: &mut Thread,
-    var: u16,
-    write: Option<i64>,
+    wanted: Access,
     cuts: &Cuts,
     window: &mut Window,
 ) -> Tried
     requires rides { IsRiding run.now thread.old }
     requires kept { HasWords thread.old }
-    requires asked { IsAsked (access_ask var write) thread.old }
+    requires asked { IsAsked (access_ask wanted.var wanted.write) thread.old }
     requires outside { thread.old.txn ≡ None }
     requires spare { 0 < thread.old.pass.spare }
     requires window { capacity run.now.table.now.key ≤ window.old }
-    ensures answered { IfAnswered result (GoesOnBy run.now (access_ask var write) thread.old thread.new) }
+    ensures answered { IfAnswered result (GoesOnBy run.now (access_ask wanted.var wanted.write) thread.old thread.new) }
     ensures kept { HasWords thread.new }
     ensures again { IfAgain result (thread.new.pass.own ≡ thread.old.pass.own) }
     ensures whole { IfFull result ⊥ }
-    ensures cause { IfAgain result (AccessStops (access_ask var write) thread.old.pass thread.new.pass result) }
+    ensures cause { IfAgain result (AccessStops (access_ask wanted.var wanted.write) thread.old.pass thread.new.pass result) }
     ensures machine { thread.new.machine ≡ thread.old.machine }
     ensures txn { thread.new.txn ≡ thread.old.txn }
     ensures window { window.new ≡ window.old }
 {
-    match plain(
-        run.table,
-        &mut thread.pass,
-        &mut thread.words,
-        var,
-        write,
-        cuts,
-        window,
-    ) {
-        Ok(seen) => Tried::Answered(access_reply(write, seen)),
+    match plain(run.table, thread, wanted, cuts, window) {
+        Ok(seen) => Tried::Answered(access_reply(wanted.write, seen)),
         Err(_) => Tried::Again,
     }
 }
