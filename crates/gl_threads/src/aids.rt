@@ -1,9 +1,9 @@
 use crate::gate::Gate;
 use gl_shortcut::Cuts;
 
-// What a run goes by and tells beside its table: the short cuts of its judgements, and the gate.
+/// What a run goes by and tells beside its table: the short cuts of its judgements, and the gate.
 #[derive(Drop)]
-pub(crate) struct Aids<'a, G: Gate> {
-    pub(crate) cuts: &'a Cuts,
-    pub(crate) gate: &'a G,
+pub struct Aids<'a, G: Gate> {
+    pub cuts: &'a Cuts,
+    pub gate: &'a G,
 }

@@ -15,6 +15,7 @@ mod run;
 mod stated;
 mod working;
 
+pub use aids::Aids;
 pub use gate::{Gate, Open};
 pub use options::{MOST_STEPS, MOST_WORKERS, Options};
 pub use run::run_program;

@@ -7,22 +7,17 @@ ghost use Rattle.gl_table.specs.Beginning.{fresh_from};
 ghost use Rattle.gl_table.specs.Ending.{AreAllDone};
 ghost use Rattle.gl_table.specs.PassView.{PassView};
 ghost use Rattle.gl_threads.specs.Dealing.{AreReady};
-ghost use Rattle.gl_threads.specs.Options.{AreOptions};
 ghost use Rattle.gl_riders.specs.Sparing.{IsSpared};
-ghost use Rattle.gl_riders.specs.Riding.{IsSetFor};
 ghost use Rattle.gl_riders.specs.Threads.{IsSetUp};
 
 use crate::aids::Aids;
 use crate::crew::{Crew, run_crew};
 use crate::dealing::{deal, gather};
 use crate::gate::Gate;
-use crate::options::Options;
 use crate::roll::RollCall;
-use gl_bytecode::Program;
 use gl_riders::Run;
-use gl_shortcut::Cuts;
-use gl_table::{Pass, Shared};
-use std::alloc::{AllocError, Global};
+use gl_table::Pass;
+use std::alloc::AllocError;
 use std::sync::Wait;
 use std::thread;
 use std::thread::Threads;
@@ -65,33 +60,24 @@ fn has_stopped(crews: &Vec<Crew>) -> bool
 /// memory.
 pub fn work<G: Gate, R: Threads + Wait + Sync>(
     rt: &R,
-    alloc: Global,
-    shared: &Shared,
+    run: &Run,
     passes: Vec<Pass>,
-    program: &Program,
-    options: &Options,
-    cuts: &Cuts,
-    gate: &G,
+    aids: &Aids<G>,
+    workers: usize,
 ) -> Result<Vec<Pass>, AllocError>
-    requires options { AreOptions options.now }
-    requires set { IsSetFor program.now shared.now.key.setting }
-    requires new { passes.items ≡ fresh_from shared.now.id 0 16 }
-    ensures done { IfOk result (λ v. AreAllDone shared.now.id v.items) }
-    ensures runs { IfOk result (λ v. (j : ℕ) (p : PassView) → slice_get v.items j ≡ Some p → p.own.mine ≢ [] → Runs program.now options.now.steps j p.own.mine) }
+    requires workers { 0 < workers }
+    requires set { IsSetUp run.now }
+    requires new { passes.items ≡ fresh_from run.now.table.now.id 0 16 }
+    ensures done { IfOk result (λ v. AreAllDone run.now.table.now.id v.items) }
+    ensures runs { IfOk result (λ v. (j : ℕ) (p : PassView) → slice_get v.items j ≡ Some p → p.own.mine ≢ [] → Runs run.now.program.now run.now.steps j p.own.mine) }
     ensures sparing { IfOk result (λ v. All (λ p. IsSpared p.own.mine) v.items) }
 {
-    let workers = options.workers as usize;
-    let run = Run {
-        table: shared,
-        program,
-        steps: options.steps,
-    };
-    let aids = Aids { cuts, gate };
-    let mut crews = deal(alloc, &run, passes, workers)?;
-    run_crews(rt, &mut crews, &run, &aids, workers);
+    let alloc = *passes.allocator();
+    let mut crews = deal(alloc, run, passes, workers)?;
+    run_crews(rt, &mut crews, run, aids, workers);
     if has_stopped(&crews) {
         return Err(AllocError);
     }
-    let back = gather(alloc, &run, crews, workers)?;
+    let back = gather(alloc, run, crews, workers)?;
     Ok(back)
 }

@@ -5,28 +5,28 @@ use Rattle.gl_threads.proofs.working.work.Goals as goal
 
 pub deal-requires : goal.deal-requires
 deal-requires g c = record {
-  workers = c.requires.options.some_workers;
-  few = ap length c.requires.new ∙ fresh_long c.args.shared.now.id 0 16;
-  new = fresh_new c.args.shared.now.id c.args.passes.items c.requires.new;
+  workers = c.requires.workers;
+  few = ap length c.requires.new ∙ fresh_long c.args.run.now.table.now.id 0 16;
+  new = fresh_new c.args.run.now.table.now.id c.args.passes.items c.requires.new;
 }
 
 pub gather-requires-clause-dealt : goal.gather-requires-clause-dealt
 gather-requires-clause-dealt g c =
-    (crews_through c.args.program.now c.args.options.now.steps c.args.shared.now.id c.args.options.now.workers c.in_ok-crews.crews.items
+    (crews_through c.args.run.now.program.now c.args.run.now.steps c.args.run.now.table.now.id c.args.workers c.in_ok-crews.crews.items
     c.run_crews.new.crews.items
     c.in_ok-crews.ensures.dealt c.run_crews.ensures.long c.run_crews.ensures.done (sym c.has_stopped.ensures
     ∙ c.if-has_stopped.false)).dealt
 
 pub gather-requires-clause-done : goal.gather-requires-clause-done
 gather-requires-clause-done g c =
-    (crews_through c.args.program.now c.args.options.now.steps c.args.shared.now.id c.args.options.now.workers c.in_ok-crews.crews.items
+    (crews_through c.args.run.now.program.now c.args.run.now.steps c.args.run.now.table.now.id c.args.workers c.in_ok-crews.crews.items
     c.run_crews.new.crews.items
     c.in_ok-crews.ensures.dealt c.run_crews.ensures.long c.run_crews.ensures.done (sym c.has_stopped.ensures ∙ c.if-has_stopped.false)).done
 
 pub returns : goal.returns
 returns g c = record {
-  done = back_done c.args.program.now c.args.options.now.steps c.args.shared.now.id c.in_ok-back.back.items c.in_ok-back.ensures.all
+  done = back_done c.args.run.now.program.now c.args.run.now.steps c.args.run.now.table.now.id c.in_ok-back.back.items c.in_ok-back.ensures.all
       c.in_ok-back.ensures.back;
-  runs = back_runs c.args.program.now c.args.options.now.steps c.args.shared.now.id c.in_ok-back.back.items c.in_ok-back.ensures.back;
-  sparing = back_spared c.args.program.now c.args.options.now.steps c.args.shared.now.id c.in_ok-back.back.items c.in_ok-back.ensures.back;
+  runs = back_runs c.args.run.now.program.now c.args.run.now.steps c.args.run.now.table.now.id c.in_ok-back.back.items c.in_ok-back.ensures.back;
+  sparing = back_spared c.args.run.now.program.now c.args.run.now.steps c.args.run.now.table.now.id c.in_ok-back.back.items c.in_ok-back.ensures.back;
 }
