@@ -1,7 +1,7 @@
+ghost use Rattle.gl_threads.specs.InRun.{AreAboardIn, AreFinishedIn, CrewIsDoneIn, IsReadyIn};
 ghost use Rattle.std.specs.Prelude.{◌≡◌, ◌≤◌, true, false, map};
 ghost use Rattle.gl_rule.specs.Objects.{capacity};
-ghost use Rattle.gl_threads.specs.Aboard.{AreAboard, AreFinished, rider_id};
-ghost use Rattle.gl_threads.specs.Crews.{CrewIsDone, IsReady};
+ghost use Rattle.gl_threads.specs.Aboard.{rider_id};
 ghost use Rattle.gl_riders.specs.Threads.{IsSetUp};
 
 use crate::aids::Aids;
@@ -44,8 +44,8 @@ pub(crate) fn run_crew<G: Gate, R: Wait>(
     roll: &RollCall,
 )
     requires set { IsSetUp run.now }
-    requires ready { IsReady run.now.program.now run.now.steps run.now.table.now crew.old }
-    ensures done { CrewIsDone run.now.program.now run.now.steps run.now.table.now.id crew.old crew.new }
+    requires ready { IsReadyIn run.now crew.old }
+    ensures done { CrewIsDoneIn run.now crew.old crew.new }
 {
     if !roll.begin() {
         crew.stopped = true;
@@ -64,9 +64,9 @@ fn run_riders<G: Gate, R: Wait>(
     roll: &RollCall,
 ) -> bool
     requires set { IsSetUp run.now }
-    requires aboard { AreAboard run.now.program.now run.now.steps run.now.table.now.id crew.old.riders.items }
+    requires aboard { AreAboardIn run.now crew.old.riders.items }
     requires window { capacity run.now.table.now.key ≤ crew.old.lent.window }
-    ensures done { result ≡ true → AreFinished run.now.program.now run.now.steps run.now.table.now.id crew.new.riders.items }
+    ensures done { result ≡ true → AreFinishedIn run.now crew.new.riders.items }
     ensures ids { map rider_id crew.new.riders.items ≡ map rider_id crew.old.riders.items }
 {
     let mut idle = 0u32;

@@ -1,9 +1,10 @@
+ghost use Rattle.gl_threads.specs.InRun.{AreBackIn, AreDoneIn, AreReadyIn};
 ghost use Rattle.std.specs.Prelude.{◌≡◌, ◌<◌, ◌*◌, ◌++◌, ◌∷◌, [], false, slice_set, slice_index_or, length, vec_len, IfOk, OnOk, IfNone};
 ghost use Rattle.std.specs.List.{All};
 ghost use Rattle.std.specs.Option.{option_to_list};
 ghost use Rattle.gl_threads.specs.Aboard.{IsAboard, rider_id};
 ghost use Rattle.gl_segments.specs.Rings.{IsRing};
-ghost use Rattle.gl_threads.specs.Dealing.{AreBack, AreDealt, AreDone, AreNew, AreReady, IsEmptyCrew, new_own};
+ghost use Rattle.gl_threads.specs.Dealing.{AreDealt, AreNew, IsEmptyCrew, new_own};
 ghost use Rattle.gl_threads.specs.declared.crew.Crew.{Crew as ACrew};
 
 use crate::crew::Crew;
@@ -102,7 +103,7 @@ pub(crate) fn deal(
     requires few { length passes.items ≡ 16 }
     requires new { AreNew run.now.table.now.id passes.items }
     ensures dealt { IfOk result (λ v. AreDealt workers 0 16 v.items) }
-    ensures ready { IfOk result (λ v. AreReady run.now.program.now run.now.steps run.now.table.now v.items) }
+    ensures ready { IfOk result (λ v. AreReadyIn run.now v.items) }
 {
     let mut crews = no_crews(alloc, workers, run.table.ring())?;
     let mut left = passes;
@@ -127,9 +128,9 @@ pub(crate) fn gather(
 ) -> Result<Vec<Pass>, AllocError>
     requires workers { 0 < workers }
     requires dealt { AreDealt workers 0 16 crews.items }
-    requires done { AreDone run.now.program.now run.now.steps run.now.table.now.id crews.items }
+    requires done { AreDoneIn run.now crews.items }
     ensures all { IfOk result (λ v. length v.items ≡ 16) }
-    ensures back { IfOk result (λ v. AreBack run.now.program.now run.now.steps run.now.table.now.id v.items) }
+    ensures back { IfOk result (λ v. AreBackIn run.now v.items) }
 {
     let _run = run;
     let mut passes = Vec::new(alloc);

@@ -1,7 +1,8 @@
+ghost use Rattle.gl_threads.specs.InRun.{AreAboardIn, IsAboardIn};
 ghost use Rattle.std.specs.Prelude.{◌≡◌, ◌<◌, true, map, false, ◌≤◌};
 ghost use Rattle.std.specs.List.{list_all};
 ghost use Rattle.gl_rule.specs.Objects.{capacity};
-ghost use Rattle.gl_threads.specs.Aboard.{AreAboard, IfPace, IsAboard, rider_id};
+ghost use Rattle.gl_threads.specs.Aboard.{IfPace, rider_id};
 ghost use Rattle.gl_riders.specs.Threads.{IsSetUp};
 
 use crate::advance::{Went, advance};
@@ -55,9 +56,9 @@ fn is_stopped(shared: &Shared, pass: &mut Pass) -> bool
 // A try of one thread: where the run is to stop, nothing is done.
 fn ride_once<G: Gate>(run: &Run, rider: &mut Rider, aids: &Aids<G>, lent: &mut Lent) -> Pace
     requires set { IsSetUp run.now }
-    requires aboard { IsAboard run.now.program.now run.now.steps run.now.table.now.id rider.old }
+    requires aboard { IsAboardIn run.now rider.old }
     requires window { capacity run.now.table.now.key ≤ lent.old.window }
-    ensures aboard { IfPace result (IsAboard run.now.program.now run.now.steps run.now.table.now.id rider.new) }
+    ensures aboard { IfPace result (IsAboardIn run.now rider.new) }
     ensures id { rider_id rider.new ≡ rider_id rider.old }
     ensures window { lent.new.window ≡ lent.old.window }
 {
@@ -69,10 +70,10 @@ fn ride_once<G: Gate>(run: &Run, rider: &mut Rider, aids: &Aids<G>, lent: &mut L
 
 fn go_ahead<G: Gate>(run: &Run, rider: &mut Rider, aids: &Aids<G>, lent: &mut Lent) -> Pace
     requires set { IsSetUp run.now }
-    requires aboard { IsAboard run.now.program.now run.now.steps run.now.table.now.id rider.old }
+    requires aboard { IsAboardIn run.now rider.old }
     requires window { capacity run.now.table.now.key ≤ lent.old.window }
     requires out { rider.old.home ≡ false }
-    ensures aboard { IfPace result (IsAboard run.now.program.now run.now.steps run.now.table.now.id rider.new) }
+    ensures aboard { IfPace result (IsAboardIn run.now rider.new) }
     ensures id { rider_id rider.new ≡ rider_id rider.old }
     ensures window { lent.new.window ≡ lent.old.window }
 {
@@ -111,9 +112,9 @@ const TRIES: usize = 32;
 // A turn of one thread: its tries, as long as they are answered.
 fn ride<G: Gate>(run: &Run, rider: &mut Rider, aids: &Aids<G>, lent: &mut Lent) -> Pace
     requires set { IsSetUp run.now }
-    requires aboard { IsAboard run.now.program.now run.now.steps run.now.table.now.id rider.old }
+    requires aboard { IsAboardIn run.now rider.old }
     requires window { capacity run.now.table.now.key ≤ lent.old.window }
-    ensures aboard { IfPace result (IsAboard run.now.program.now run.now.steps run.now.table.now.id rider.new) }
+    ensures aboard { IfPace result (IsAboardIn run.now rider.new) }
     ensures id { rider_id rider.new ≡ rider_id rider.old }
     ensures window { lent.new.window ≡ lent.old.window }
 {
@@ -136,9 +137,9 @@ pub(crate) fn round<G: Gate>(
     lent: &mut Lent,
 ) -> Pace
     requires set { IsSetUp run.now }
-    requires aboard { AreAboard run.now.program.now run.now.steps run.now.table.now.id riders.old.items }
+    requires aboard { AreAboardIn run.now riders.old.items }
     requires window { capacity run.now.table.now.key ≤ lent.old.window }
-    ensures aboard { IfPace result (AreAboard run.now.program.now run.now.steps run.now.table.now.id riders.new.items) }
+    ensures aboard { IfPace result (AreAboardIn run.now riders.new.items) }
     ensures ids { map rider_id riders.new.items ≡ map rider_id riders.old.items }
     ensures window { lent.new.window ≡ lent.old.window }
 {

@@ -1,12 +1,11 @@
+ghost use Rattle.gl_threads.specs.InRun.{AreReadyIn, CrewIsDoneIn, IsReadyIn};
 ghost use Rattle.std.specs.Prelude.{◌≡◌, ◌≢◌, ◌<◌, [], length, IfOk, ℕ, slice_get, slice_index_or, Some};
 ghost use Rattle.gl_threads.specs.declared.crew.Crew.{Crew as ACrew};
 ghost use Rattle.std.specs.List.{All, list_any};
-ghost use Rattle.gl_threads.specs.Crews.{CrewIsDone, IsReady};
 ghost use Rattle.gl_bytecode.specs.Runs.{Runs};
 ghost use Rattle.gl_table.specs.Beginning.{fresh_from};
 ghost use Rattle.gl_table.specs.Ending.{AreAllDone};
 ghost use Rattle.gl_table.specs.PassView.{PassView};
-ghost use Rattle.gl_threads.specs.Dealing.{AreReady};
 ghost use Rattle.gl_riders.specs.Sparing.{IsSpared};
 ghost use Rattle.gl_riders.specs.Threads.{IsSetUp};
 
@@ -32,9 +31,9 @@ fn run_crews<G: Gate, R: Threads + Wait + Sync>(
 )
     requires workers { 0 < workers }
     requires set { IsSetUp run.now }
-    requires ready { AreReady run.now.program.now run.now.steps run.now.table.now crews.old.items }
+    requires ready { AreReadyIn run.now crews.old.items }
     ensures long { length crews.new.items ≡ length crews.old.items }
-    ensures done { (c : ℕ) (d : ACrew) → c < length crews.old.items → CrewIsDone run.now.program.now run.now.steps run.now.table.now.id (slice_index_or crews.old.items c d) (slice_index_or crews.new.items c d) }
+    ensures done { (c : ℕ) (d : ACrew) → c < length crews.old.items → CrewIsDoneIn run.now (slice_index_or crews.old.items c d) (slice_index_or crews.new.items c d) }
 {
     let roll = RollCall::of(crews.len() as u64);
     thread::for_each_mut(
@@ -42,8 +41,8 @@ fn run_crews<G: Gate, R: Threads + Wait + Sync>(
         crews.as_mut_slice(),
         workers,
         &|_, crew: &mut Crew|
-            requires { IsSetUp run.now × IsReady run.now.program.now run.now.steps run.now.table.now crew.now }
-            ensures { CrewIsDone run.entry.now.program.now run.entry.now.steps run.entry.now.table.now.id crew.entry.now crew.exit.now }
+            requires { IsSetUp run.now × IsReadyIn run.now crew.now }
+            ensures { CrewIsDoneIn run.entry.now crew.entry.now crew.exit.now }
         { run_crew(rt, crew, run, aids, &roll) },
     );
 }
