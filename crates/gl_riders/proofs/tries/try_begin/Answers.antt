@@ -9,4 +9,7 @@ returns c = record {
       c.requires.asked refl
       c.requires.rides c.in_ok-begun.ensures;
   kept = within_kept c.args.thread.now.pass.own c.args.thread.now.pass.own _ c.in_ok-begun.begun refl c.requires.clear refl;
+  machine = refl;
+  words = refl;
+  pass = refl;
 }
