@@ -146,7 +146,8 @@ pub(crate) fn gather(
 fn pass_of(rider: Rider) -> Pass
     ensures { result ≡ rider.thread.pass }
 {
-    rider.thread.pass
+    let thread = rider.thread;
+    thread.pass
 }
 
 impl Crew {
