@@ -123,7 +123,7 @@ fn try_flushed(
 }
 
 /// What the machine asks: a plain access by the private words or by the table, anything else by the table once nothing is owed. Where it
-/// is answered, the machine, the pass and the attempt go on by one exchange; else only words that were owed may have been written back.
+/// is answered, the pass and the attempt go on by one exchange; else only words that were owed may have been written back.
 /// `Full` comes exactly where the ring had no room, `Unforked` where the thread was not forked and no thread was live, and `Again` where
 /// the state of the list made the thread wait, or a turn that the ask or an owed word needs was held by another pass.
 pub fn try_one(

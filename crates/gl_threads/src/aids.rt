@@ -7,3 +7,9 @@ pub struct Aids<'a, G: Gate> {
     pub cuts: &'a Cuts,
     pub gate: &'a G,
 }
+
+impl<'a, G: Gate> Aids<'a, G> {
+    pub(crate) fn of(cuts: &'a Cuts, gate: &'a G) -> Aids<'a, G> {
+        Aids { cuts, gate }
+    }
+}

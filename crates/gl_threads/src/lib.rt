@@ -15,7 +15,6 @@ mod run;
 mod stated;
 mod working;
 
-pub use aids::Aids;
 pub use gate::{Gate, Open};
 pub use options::{MOST_STEPS, MOST_WORKERS, Options};
 pub use run::run_program;

@@ -4,14 +4,12 @@ ghost use Rattle.gl_model.specs.Lists.{lists_of};
 ghost use Rattle.gl_bytecode.specs.Lawful.{Lawful};
 ghost use Rattle.gl_threads.specs.Options.{AreOptions};
 
-use crate::aids::Aids;
 use crate::gate::Gate;
 use crate::layout::layout_of;
 use crate::options::Options;
 use crate::working::work;
 use gl_bytecode::Program;
 use gl_model::Inputs;
-use gl_riders::Run;
 use gl_shortcut::Cuts;
 use gl_table::{Sealed, Shared};
 use std::alloc::{AllocError, Global};
@@ -39,13 +37,7 @@ pub fn run_program<G: Gate, R: Threads + Wait + Sync>(
         Ok(made) => made,
         Err(_) => return Err(AllocError),
     };
-    let run = Run {
-        table: &shared,
-        program,
-        steps: options.steps,
-    };
-    let aids = Aids { cuts, gate };
-    let passes = work(rt, &run, passes, &aids, options.workers as usize)?;
+    let passes = work(rt, &shared, passes, program, options, cuts, gate)?;
     match shared.close(passes) {
         Ok(sealed) => Ok(sealed),
         Err(_) => Err(AllocError),

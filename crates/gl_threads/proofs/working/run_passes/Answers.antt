@@ -1,7 +1,7 @@
-use Rattle.std.proofs.Common.{◌∙◌, sym, ap, length}
+use Rattle.std.proofs.Common.{◌∙◌, sym, ap, length, arith}
 use Rattle.gl_threads.proofs.Boarding.{fresh_long, fresh_new}
 use Rattle.gl_threads.proofs.Closing.{back_done, back_runs, back_spared, crews_through}
-use Rattle.gl_threads.proofs.working.work.Goals as goal
+use Rattle.gl_threads.proofs.working.run_passes.Goals as goal
 
 pub deal-requires : goal.deal-requires
 deal-requires g c = record {
@@ -9,6 +9,9 @@ deal-requires g c = record {
   few = ap length c.requires.new ∙ fresh_long c.args.run.now.table.now.id 0 16;
   new = fresh_new c.args.run.now.table.now.id c.args.passes.items c.requires.new;
 }
+
+pub run_crews-requires-clause-some : goal.run_crews-requires-clause-some
+run_crews-requires-clause-some g c = omega (arith, c.requires.workers, c.in_ok-crews.ensures.dealt.long)
 
 pub gather-requires-clause-dealt : goal.gather-requires-clause-dealt
 gather-requires-clause-dealt g c =
