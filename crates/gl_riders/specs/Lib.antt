@@ -6,3 +6,4 @@ pub mod Sweeping
 pub mod Owing
 pub mod Tries
 pub mod Unanswered
+pub mod Threads

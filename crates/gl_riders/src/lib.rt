@@ -3,9 +3,11 @@
 
 mod events;
 mod one;
+mod thread;
 mod tried;
 mod tries;
 mod words;
 
 pub use one::try_one;
+pub use thread::{Lent, Run, Thread};
 pub use tried::Tried;

@@ -1,26 +1,23 @@
 ghost use Rattle.std.specs.Prelude.{◌≡◌, ◌≢◌, ◌<◌, ◌≤◌, Option, Some, None, IfOk, OnOk, []};
-ghost use Rattle.gl_bytecode.specs.Machine.{ask_of};
 ghost use Rattle.gl_cache.specs.Words.{no_words};
 ghost use Rattle.gl_rule.specs.Objects.{capacity};
 ghost use Rattle.gl_bytecode.specs.declared.ask.Ask.TheVariants.{Read, Write, TxBegin, TxEnd as EndAsk};
 ghost use Rattle.gl_riders.specs.Events.{IsEvent};
-ghost use Rattle.gl_riders.specs.Exchanges.{IsAnswered};
 ghost use Rattle.gl_riders.specs.Owing.{AreKept};
-ghost use Rattle.gl_riders.specs.Riding.{IsSetFor, Rides};
+ghost use Rattle.gl_riders.specs.Threads.{GoesOnBy, HasWords, IsAsked, IsRiding, IsSetUp};
 ghost use Rattle.gl_riders.specs.Tries.{IfAgain, IfAnswered, IfFull, access_ask, access_reply, end_reply};
 ghost use Rattle.gl_riders.specs.Unanswered.{AccessStops, EventStops, TableStops, stopped, waited};
 
 use crate::events::{event, reply_of};
+use crate::thread::{Run, Thread};
 use crate::tried::Tried;
-use crate::words::plain;
-use gl_bytecode::{Program, RACE, TX_TOO_LARGE};
-use gl_cache::WordCache;
+use crate::words::{Access, plain};
+use gl_bytecode::{RACE, TX_TOO_LARGE};
 use gl_events::Stop;
 use gl_rows::{Seen, Window};
 use gl_shortcut::Cuts;
-use gl_table::{Pass, Shared};
 use gl_txn::{TxEnd, TxStop, TxWait, Txn};
-use gl_vm::{Ask, Machine, Reply};
+use gl_vm::{Ask, Reply};
 use std::alloc::{AllocError, Global};
 
 // An event call that stopped is tried again.
@@ -41,26 +38,22 @@ fn stopped_by(stop: Stop) -> Tried
 }
 
 // An event.
-pub(crate) fn try_event(
-    shared: &Shared,
-    machine: &Machine,
-    pass: &mut Pass,
-    txn: &Option<Txn>,
-    program: &Program,
-    ask: Ask,
-) -> Tried
-    requires set { IsSetFor program.now shared.now.key.setting }
-    requires rides { Rides program.now shared.now.id machine.now pass.old.own txn.now }
-    requires asked { ask ≡ ask_of machine.now.stage }
+pub(crate) fn try_event(run: &Run, thread: &mut Thread, ask: Ask) -> Tried
+    requires set { IsSetUp run.now }
+    requires rides { IsRiding run.now thread.old }
+    requires asked { IsAsked ask thread.old }
     requires event { IsEvent ask }
-    requires spare { 0 < pass.old.spare }
-    requires clear { pass.old.own.owed ≡ [] }
-    ensures answered { IfAnswered result (λ reply. IsAnswered program.now machine.now ask reply pass.old.own pass.new.own txn.now txn.now) }
-    ensures kept { IfAnswered result (λ reply. AreKept txn.now no_words pass.new.own) }
-    ensures again { IfAgain result (pass.new.own ≡ pass.old.own) }
-    ensures cause { IfAgain result (EventStops shared.now ask pass.old pass.new result) }
+    requires spare { 0 < thread.old.pass.spare }
+    requires clear { thread.old.pass.own.owed ≡ [] }
+    ensures answered { IfAnswered result (GoesOnBy run.now ask thread.old thread.new) }
+    ensures kept { IfAnswered result (λ reply. AreKept thread.new.txn no_words thread.new.pass.own) }
+    ensures again { IfAgain result (thread.new.pass.own ≡ thread.old.pass.own) }
+    ensures cause { IfAgain result (EventStops run.now.table.now ask thread.old.pass thread.new.pass result) }
+    ensures machine { thread.new.machine ≡ thread.old.machine }
+    ensures words { thread.new.words ≡ thread.old.words }
+    ensures txn { thread.new.txn ≡ thread.old.txn }
 {
-    match event(shared, pass, program, ask) {
+    match event(run.table, &mut thread.pass, run.program, ask) {
         Ok(done) => Tried::Answered(reply_of(ask, done)),
         Err(stop) => stopped_by(stop),
     }
@@ -68,35 +61,29 @@ pub(crate) fn try_event(
 
 // A plain access.
 pub(crate) fn try_plain(
-    shared: &Shared,
-    machine: &Machine,
-    pass: &mut Pass,
-    txn: &Option<Txn>,
-    words: &mut WordCache,
-    program: &Program,
-    var: u16,
-    write: Option<i64>,
+    run: &Run,
+    thread: &mut Thread,
+    wanted: Access,
     cuts: &Cuts,
     window: &mut Window,
 ) -> Tried
-    requires rides { Rides program.now shared.now.id machine.now pass.old.own txn.now }
-    requires kept { AreKept txn.now words.old pass.old.own }
-    requires asked { access_ask var write ≡ ask_of machine.now.stage }
-    requires outside { txn.now ≡ None }
-    requires spare { 0 < pass.old.spare }
-    requires window { capacity shared.now.key ≤ window.old }
-    ensures answered { IfAnswered result (λ reply. IsAnswered program.now machine.now (access_ask var write) reply pass.old.own pass.new.own txn.now txn.now) }
-    ensures kept { AreKept txn.now words.new pass.new.own }
-    ensures again { IfAgain result (pass.new.own ≡ pass.old.own) }
+    requires rides { IsRiding run.now thread.old }
+    requires kept { HasWords thread.old }
+    requires asked { IsAsked (access_ask wanted.var wanted.write) thread.old }
+    requires outside { thread.old.txn ≡ None }
+    requires spare { 0 < thread.old.pass.spare }
+    requires window { capacity run.now.table.now.key ≤ window.old }
+    ensures answered { IfAnswered result (GoesOnBy run.now (access_ask wanted.var wanted.write) thread.old thread.new) }
+    ensures kept { HasWords thread.new }
+    ensures again { IfAgain result (thread.new.pass.own ≡ thread.old.pass.own) }
     ensures whole { IfFull result ⊥ }
-    ensures cause { IfAgain result (AccessStops (access_ask var write) pass.old pass.new result) }
+    ensures cause { IfAgain result (AccessStops (access_ask wanted.var wanted.write) thread.old.pass thread.new.pass result) }
+    ensures machine { thread.new.machine ≡ thread.old.machine }
+    ensures txn { thread.new.txn ≡ thread.old.txn }
     ensures window { window.new ≡ window.old }
 {
-    let _machine = machine;
-    let _program = program;
-    let _txn = txn;
-    match plain(shared, pass, words, var, write, cuts, window) {
-        Ok(seen) => Tried::Answered(access_reply(write, seen)),
+    match plain(run.table, thread, wanted, cuts, window) {
+        Ok(seen) => Tried::Answered(access_reply(wanted.write, seen)),
         Err(_) => Tried::Again,
     }
 }
@@ -124,53 +111,39 @@ fn end_reply(end: TxEnd) -> Reply
 }
 
 // The beginning of an attempt.
-pub(crate) fn try_begin(
-    alloc: Global,
-    shared: &Shared,
-    machine: &Machine,
-    pass: &Pass,
-    txn: &mut Option<Txn>,
-    program: &Program,
-) -> Result<Reply, AllocError>
-    requires rides { Rides program.now shared.now.id machine.now pass.now.own txn.old }
-    requires asked { TxBegin ≡ ask_of machine.now.stage }
-    requires clear { pass.now.own.owed ≡ [] }
-    ensures answered { IfOk result (λ reply. IsAnswered program.now machine.now TxBegin reply pass.now.own pass.now.own txn.old txn.new) }
-    ensures kept { OnOk result (AreKept txn.new no_words pass.now.own) }
+pub(crate) fn try_begin(alloc: Global, run: &Run, thread: &mut Thread) -> Result<Reply, AllocError>
+    requires rides { IsRiding run.now thread.old }
+    requires asked { IsAsked TxBegin thread.old }
+    requires clear { thread.old.pass.own.owed ≡ [] }
+    ensures answered { IfOk result (GoesOnBy run.now TxBegin thread.old thread.new) }
+    ensures kept { OnOk result (AreKept thread.new.txn no_words thread.new.pass.own) }
+    ensures machine { thread.new.machine ≡ thread.old.machine }
+    ensures words { thread.new.words ≡ thread.old.words }
+    ensures pass { thread.new.pass ≡ thread.old.pass }
 {
-    let _shared = shared;
-    let _machine = machine;
-    let _pass = pass;
-    let _program = program;
+    let _run = run;
     let begun = Txn::begin(alloc)?;
-    *txn = Some(begun);
+    thread.txn = Some(begun);
     Ok(Reply::Go)
 }
 
 // A read inside an attempt.
-pub(crate) fn try_read(
-    shared: &Shared,
-    machine: &Machine,
-    pass: &mut Pass,
-    txn: &mut Option<Txn>,
-    program: &Program,
-    var: u16,
-) -> Tried
-    requires rides { Rides program.now shared.now.id machine.now pass.old.own txn.old }
-    requires asked { Read var ≡ ask_of machine.now.stage }
-    requires inside { txn.old ≢ None }
-    requires spare { 0 < pass.old.spare }
-    requires clear { pass.old.own.owed ≡ [] }
-    ensures answered { IfAnswered result (λ reply. IsAnswered program.now machine.now (Read var) reply pass.old.own pass.new.own txn.old txn.new) }
-    ensures kept { IfAnswered result (λ reply. AreKept txn.new no_words pass.new.own) }
-    ensures again { IfAgain result (pass.new.own ≡ pass.old.own) }
-    ensures same { IfAgain result (txn.new ≡ txn.old) }
-    ensures cause { IfAgain result (TableStops shared.now txn.old (Read var) pass.old pass.new result) }
+pub(crate) fn try_read(run: &Run, thread: &mut Thread, var: u16) -> Tried
+    requires rides { IsRiding run.now thread.old }
+    requires asked { IsAsked (Read var) thread.old }
+    requires inside { thread.old.txn ≢ None }
+    requires spare { 0 < thread.old.pass.spare }
+    requires clear { thread.old.pass.own.owed ≡ [] }
+    ensures answered { IfAnswered result (GoesOnBy run.now (Read var) thread.old thread.new) }
+    ensures kept { IfAnswered result (λ reply. AreKept thread.new.txn no_words thread.new.pass.own) }
+    ensures again { IfAgain result (thread.new.pass.own ≡ thread.old.pass.own) }
+    ensures same { IfAgain result (thread.new.txn ≡ thread.old.txn) }
+    ensures cause { IfAgain result (TableStops run.now.table.now thread.old.txn (Read var) thread.old.pass thread.new.pass result) }
+    ensures machine { thread.new.machine ≡ thread.old.machine }
+    ensures words { thread.new.words ≡ thread.old.words }
 {
-    let _machine = machine;
-    let _program = program;
-    match txn {
-        Some(attempt) => match attempt.read(shared, pass, var) {
+    match &mut thread.txn {
+        Some(attempt) => match attempt.read(run.table, &mut thread.pass, var) {
             Ok(value) => Tried::Answered(Reply::Value(value)),
             Err(TxStop::TooLarge) => Tried::Answered(Reply::Raise(TX_TOO_LARGE)),
             Err(TxStop::Busy { .. }) => Tried::Again,
@@ -180,28 +153,20 @@ pub(crate) fn try_read(
 }
 
 // A write inside an attempt.
-pub(crate) fn try_write(
-    shared: &Shared,
-    machine: &Machine,
-    pass: &Pass,
-    txn: &mut Option<Txn>,
-    program: &Program,
-    var: u16,
-    value: i64,
-) -> Tried
-    requires rides { Rides program.now shared.now.id machine.now pass.now.own txn.old }
-    requires asked { Write var value ≡ ask_of machine.now.stage }
-    requires inside { txn.old ≢ None }
-    requires clear { pass.now.own.owed ≡ [] }
-    ensures answered { IfAnswered result (λ reply. IsAnswered program.now machine.now (Write var value) reply pass.now.own pass.now.own txn.old txn.new) }
-    ensures kept { IfAnswered result (λ reply. AreKept txn.new no_words pass.now.own) }
+pub(crate) fn try_write(run: &Run, thread: &mut Thread, var: u16, value: i64) -> Tried
+    requires rides { IsRiding run.now thread.old }
+    requires asked { IsAsked (Write var value) thread.old }
+    requires inside { thread.old.txn ≢ None }
+    requires clear { thread.old.pass.own.owed ≡ [] }
+    ensures answered { IfAnswered result (GoesOnBy run.now (Write var value) thread.old thread.new) }
+    ensures kept { IfAnswered result (λ reply. AreKept thread.new.txn no_words thread.new.pass.own) }
     ensures always { IfAgain result ⊥ }
+    ensures machine { thread.new.machine ≡ thread.old.machine }
+    ensures words { thread.new.words ≡ thread.old.words }
+    ensures pass { thread.new.pass ≡ thread.old.pass }
 {
-    let _shared = shared;
-    let _machine = machine;
-    let _pass = pass;
-    let _program = program;
-    match txn {
+    let _run = run;
+    match &mut thread.txn {
         Some(attempt) => match attempt.write(var, value) {
             Ok(()) => Tried::Answered(Reply::Go),
             Err(TxStop::TooLarge) => Tried::Answered(Reply::Raise(TX_TOO_LARGE)),
@@ -223,34 +188,31 @@ fn waited_for(wait: TxWait) -> Tried
 
 // The end of an attempt.
 pub(crate) fn try_end(
-    shared: &Shared,
-    machine: &Machine,
-    pass: &mut Pass,
-    txn: &mut Option<Txn>,
-    program: &Program,
+    run: &Run,
+    thread: &mut Thread,
     keep: bool,
     cuts: &Cuts,
     window: &mut Window,
 ) -> Tried
-    requires rides { Rides program.now shared.now.id machine.now pass.old.own txn.old }
-    requires asked { EndAsk keep ≡ ask_of machine.now.stage }
-    requires spare { 0 < pass.old.spare }
-    requires clear { pass.old.own.owed ≡ [] }
-    requires window { capacity shared.now.key ≤ window.old }
-    ensures answered { IfAnswered result (λ reply. IsAnswered program.now machine.now (EndAsk keep) reply pass.old.own pass.new.own txn.old txn.new) }
-    ensures kept { IfAnswered result (λ reply. AreKept txn.new no_words pass.new.own) }
-    ensures again { IfAgain result (pass.new.own ≡ pass.old.own) }
-    ensures same { IfAgain result (txn.new ≡ txn.old) }
-    ensures cause { IfAgain result (TableStops shared.now txn.old (EndAsk keep) pass.old pass.new result) }
+    requires rides { IsRiding run.now thread.old }
+    requires asked { IsAsked (EndAsk keep) thread.old }
+    requires spare { 0 < thread.old.pass.spare }
+    requires clear { thread.old.pass.own.owed ≡ [] }
+    requires window { capacity run.now.table.now.key ≤ window.old }
+    ensures answered { IfAnswered result (GoesOnBy run.now (EndAsk keep) thread.old thread.new) }
+    ensures kept { IfAnswered result (λ reply. AreKept thread.new.txn no_words thread.new.pass.own) }
+    ensures again { IfAgain result (thread.new.pass.own ≡ thread.old.pass.own) }
+    ensures same { IfAgain result (thread.new.txn ≡ thread.old.txn) }
+    ensures cause { IfAgain result (TableStops run.now.table.now thread.old.txn (EndAsk keep) thread.old.pass thread.new.pass result) }
+    ensures machine { thread.new.machine ≡ thread.old.machine }
+    ensures words { thread.new.words ≡ thread.old.words }
     ensures window { window.new ≡ window.old }
 {
-    let _machine = machine;
-    let _program = program;
-    match txn.take() {
-        Some(attempt) => match attempt.commit(shared, pass, keep, cuts, window) {
+    match thread.txn.take() {
+        Some(attempt) => match attempt.commit(run.table, &mut thread.pass, keep, cuts, window) {
             Ok(end) => Tried::Answered(end_reply(end)),
             Err((attempt, wait)) => {
-                *txn = Some(attempt);
+                thread.txn = Some(attempt);
                 waited_for(wait)
             }
         },

@@ -10,10 +10,18 @@ ghost use Rattle.gl_riders.specs.Owing.{MayMark, Owns, PlainBy, repeat_number, r
 ghost use Rattle.gl_riders.specs.Unanswered.{IsPaid, PayStops};
 ghost use Rattle.gl_table.specs.Repeating.{MayRepeat};
 
+use crate::thread::Thread;
 use gl_cache::WordCache;
 use gl_rows::{Seen, Window, access, write_back};
 use gl_shortcut::Cuts;
 use gl_table::{Busy, Pass, Shared};
+
+// A plain access that the machine asks: a read of the variable, or a write of this value.
+#[derive(Clone, Copy)]
+pub(crate) struct Access {
+    pub(crate) var: u16,
+    pub(crate) write: Option<i64>,
+}
 
 // Writes back what is owed, the least variable first, and says whether nothing is owed any more.
 pub(crate) fn flush(shared: &Shared, pass: &mut Pass, words: &mut WordCache) -> bool
@@ -116,28 +124,29 @@ fn repeat(pass: &mut Pass, words: &mut WordCache, var: u16, nth: u64, write: Opt
 
 // An access by the table, whose word is kept where it is performed.
 fn first_access(
-    shared: &Shared,
-    pass: &mut Pass,
-    words: &mut WordCache,
-    var: u16,
-    write: Option<i64>,
+    table: &Shared,
+    thread: &mut Thread,
+    wanted: Access,
     cuts: &Cuts,
     window: &mut Window,
 ) -> Result<Seen, Busy>
-    requires may { MayMark shared.now pass.old }
-    requires right { repeat_number (right_of pass.old.own.mine var) write ≡ None }
-    requires there { var < VARIABLES }
-    requires owns { Owns words.old pass.old.own }
-    requires window { capacity shared.now.key ≤ window.old }
-    ensures done { IfOk result (λ s. HasEntry var write pass.old.own s pass.new.own) }
-    ensures kept { OnErr result (pass.new.own ≡ pass.old.own) }
-    ensures busy { IfErr result (λ b. ReadBusy var b.by pass.old pass.new) }
-    ensures owns { Owns words.new pass.new.own }
+    requires may { MayMark table.now thread.old.pass }
+    requires right { repeat_number (right_of thread.old.pass.own.mine wanted.var) wanted.write ≡ None }
+    requires there { wanted.var < VARIABLES }
+    requires owns { Owns thread.old.words thread.old.pass.own }
+    requires window { capacity table.now.key ≤ window.old }
+    ensures done { IfOk result (λ s. HasEntry wanted.var wanted.write thread.old.pass.own s thread.new.pass.own) }
+    ensures kept { OnErr result (thread.new.pass.own ≡ thread.old.pass.own) }
+    ensures busy { IfErr result (λ b. ReadBusy wanted.var b.by thread.old.pass thread.new.pass) }
+    ensures owns { Owns thread.new.words thread.new.pass.own }
+    ensures machine { thread.new.machine ≡ thread.old.machine }
+    ensures txn { thread.new.txn ≡ thread.old.txn }
     ensures window { window.new ≡ window.old }
 {
-    match access(shared, pass, var, write, cuts, window) {
+    let Access { var, write } = wanted;
+    match access(table, &mut thread.pass, var, write, cuts, window) {
         Ok(Seen::Value(value)) => {
-            words.put(var, write.unwrap_or(value), false);
+            thread.words.put(var, write.unwrap_or(value), false);
             Ok(Seen::Value(value))
         }
         Ok(Seen::Raised { nth }) => Ok(Seen::Raised { nth }),
@@ -147,27 +156,28 @@ fn first_access(
 
 // A plain access: repeated exactly where there is a right to.
 pub(crate) fn plain(
-    shared: &Shared,
-    pass: &mut Pass,
-    words: &mut WordCache,
-    var: u16,
-    write: Option<i64>,
+    table: &Shared,
+    thread: &mut Thread,
+    wanted: Access,
     cuts: &Cuts,
     window: &mut Window,
 ) -> Result<Seen, Busy>
-    requires may { MayMark shared.now pass.old }
-    requires there { var < VARIABLES }
-    requires owns { Owns words.old pass.old.own }
-    requires window { capacity shared.now.key ≤ window.old }
-    ensures done { IfOk result (λ s. PlainBy (repeat_number (right_of pass.old.own.mine var) write) var write s pass.old.own pass.new.own) }
-    ensures kept { OnErr result (pass.new.own ≡ pass.old.own) }
-    ensures busy { IfErr result (λ b. ReadBusy var b.by pass.old pass.new) }
-    ensures unrepeated { OnErr result (repeat_number (right_of pass.old.own.mine var) write ≡ None) }
-    ensures owns { Owns words.new pass.new.own }
+    requires may { MayMark table.now thread.old.pass }
+    requires there { wanted.var < VARIABLES }
+    requires owns { Owns thread.old.words thread.old.pass.own }
+    requires window { capacity table.now.key ≤ window.old }
+    ensures done { IfOk result (λ s. PlainBy (repeat_number (right_of thread.old.pass.own.mine wanted.var) wanted.write) wanted.var wanted.write s thread.old.pass.own thread.new.pass.own) }
+    ensures kept { OnErr result (thread.new.pass.own ≡ thread.old.pass.own) }
+    ensures busy { IfErr result (λ b. ReadBusy wanted.var b.by thread.old.pass thread.new.pass) }
+    ensures unrepeated { OnErr result (repeat_number (right_of thread.old.pass.own.mine wanted.var) wanted.write ≡ None) }
+    ensures owns { Owns thread.new.words thread.new.pass.own }
+    ensures machine { thread.new.machine ≡ thread.old.machine }
+    ensures txn { thread.new.txn ≡ thread.old.txn }
     ensures window { window.new ≡ window.old }
 {
-    match number_of(pass.right(var), write) {
-        Some(nth) => Ok(repeat(pass, words, var, nth, write)),
-        None => first_access(shared, pass, words, var, write, cuts, window),
+    let Access { var, write } = wanted;
+    match number_of(thread.pass.right(var), write) {
+        Some(nth) => Ok(repeat(&mut thread.pass, &mut thread.words, var, nth, write)),
+        None => first_access(table, thread, wanted, cuts, window),
     }
 }

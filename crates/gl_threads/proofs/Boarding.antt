@@ -112,7 +112,7 @@ dealt_more W n k crews crew rider dealt' less id gets = record {
 pub ready_more :
     (P : Bytecode) (steps : ℕ) (t : TableView) (crews : List Crew) (c : ℕ) (crew : Crew) (rider : Rider) → AreReady P steps t crews
     → c < length crews → IsAboard P steps t.id rider →
-    crew.riders.items ≡ (slice_index_or crews c crew).riders.items ++ rider ∷ [] → crew.window ≡ (slice_index_or crews c crew).window
+    crew.riders.items ≡ (slice_index_or crews c crew).riders.items ++ rider ∷ [] → crew.lent.window ≡ (slice_index_or crews c crew).lent.window
     → AreReady P steps t (slice_set crews c crew)
 ready_more P steps t crews c crew rider ready less aboard gets window = λ j d low. elim (ℕ_discrete j c) [
   | yes same ↦
@@ -214,9 +214,9 @@ pub done_less :
     (P : Bytecode) (steps : ℕ) (z : TableId) (crews : List Crew) (c : ℕ) (crew : Crew) (rider : Rider) → AreDone P steps z crews
     → c < length crews →
     (slice_index_or crews c crew).riders.items ≡ crew.riders.items ++ rider ∷ [] → AreDone P steps z (slice_set crews c crew)
-    × IsFinished P steps z rider.pass
+    × IsFinished P steps z rider.thread.pass
 done_less P steps z crews c crew rider done less gives =
-    let F : Rider → Type 0 = λ r. IsFinished P steps z r.pass in
+    let F : Rider → Type 0 = λ r. IsFinished P steps z r.thread.pass in
     let both : AreFinished P steps z (crew.riders.items ++ rider ∷ []) = rw gives at (done c crew less) in
     let parts = All-pop F (crew.riders.items ++ rider ∷ []) crew.riders.items (Some rider) refl both in (
       λ j d low. elim (ℕ_discrete j c) [
@@ -300,7 +300,7 @@ module _ (P : Bytecode) (steps : ℕ) (z : TableId) (W : ℕ) where
   pub gathers_more :
       (n : ℕ) (crews : List Crew) (ps : List PassView) (crew : Crew) (rider : Rider) → Gathers n crews ps → n < 16 → n % W < W →
       (slice_index_or crews (n % W) crew).riders.items ≡ crew.riders.items ++ rider ∷ []
-      → Gathers (n + 1) (slice_set crews (n % W) crew) (ps ++ rider.pass ∷ [])
+      → Gathers (n + 1) (slice_set crews (n % W) crew) (ps ++ rider.thread.pass ∷ [])
   gathers_more n crews ps crew rider g less low gives =
       let sum = g.sum in
       let m = suc_of g.k (omega arith) in
@@ -315,8 +315,8 @@ module _ (P : Bytecode) (steps : ℕ) (z : TableId) (W : ℕ) where
         sum = omega arith;
         dealt = (let at : ℕ → Type 0 = λ j. AreDealt W j m.0 (slice_set crews (n % W) crew) in subst at next gone.dealt);
         done = rest.0;
-        long = length-append ps (rider.pass ∷ []) ∙ (let l = g.long in omega arith);
-        back = back_more P steps z n ps rider.pass g.back g.long gone.id rest.1;
+        long = length-append ps (rider.thread.pass ∷ []) ∙ (let l = g.long in omega arith);
+        back = back_more P steps z n ps rider.thread.pass g.back g.long gone.id rest.1;
       }
 
 -- ## Dealing
@@ -335,7 +335,7 @@ module _ (P : Bytecode) (steps : ℕ) (t : TableView) (W : ℕ) where
       → length left % W < W →
       (v.own ≡ new_own v.own.table v.own.id → IsAboard P steps v.own.table rider × (rider_id rider ≡ v.own.id)) →
       crew.riders.items ≡ (slice_index_or crews (length left % W) crew).riders.items ++ rider ∷ [] →
-      crew.window ≡ (slice_index_or crews (length left % W) crew).window → Deals left (slice_set crews (length left % W) crew)
+      crew.lent.window ≡ (slice_index_or crews (length left % W) crew).lent.window → Deals left (slice_set crews (length left % W) crew)
   deals_more ps left v crews crew rider g is low boards gets window =
       let sum = g.sum in
       let long : length ps ≡ suc (length left) = has_last 0 left v ps is in

@@ -31,7 +31,7 @@ all_finished P steps z [] home aboard = λ k d less. absurd (omega arith)
 all_finished P steps z (r ∷ rs) home aboard =
     let b = both r.home (list_all (λ q. q.home) rs) home in
     let here : IsAboard P steps z r = All-head (IsAboard P steps z) r rs aboard in
-    All-cons (λ q. IsFinished P steps z q.pass) r rs (finished_by P steps z r.home r.machine r.pass r.txn r.words b.0 here.0 here.1)
+    All-cons (λ q. IsFinished P steps z q.thread.pass) r rs (finished_by P steps z r.home r.thread.machine r.thread.pass r.thread.txn r.thread.words b.0 here.0 here.1)
     (all_finished P steps z rs b.1 (All-tail (IsAboard P steps z) r rs aboard))
 
 -- a thread after its turn keeps its number

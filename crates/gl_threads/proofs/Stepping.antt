@@ -117,14 +117,14 @@ pub goes_on :
 goes_on P z c d own mid txn r rides same asks steps is range attempt =
     answered_on P z c d own mid mid txn txn Go r Gone rides same asks (rw same (go_answered P z c own txn rides)) steps is range attempt
 
--- nothing was done but to write some words back
+-- nothing was done but to write some words back, and the machine stands where it stood
 pub rides_again :
-    (P : Bytecode) (z : TableId) (c : Config) (own new : Own) (txn after : Option Attempting) → Rides P z c own txn → new
+    (P : Bytecode) (z : TableId) (c d : Config) (own new : Own) (txn after : Option Attempting) → Rides P z c own txn → d ≡ c → new
     ≡ record own { owed = new.owed } → after ≡ txn →
-    Stays P z c c own new after
-rides_again P z c own new txn after rides paid idle = record {
-  rides = rw idle (rides_paid P z c own new txn rides paid);
-  limit = refl;
+    Stays P z c d own new after
+rides_again P z c d own new txn after rides still paid idle = record {
+  rides = rw (still, idle) (rides_paid P z c own new txn rides paid);
+  limit = ap (λ (e : Config). e.limit) still;
   id = ap (λ (v : Own). v.id) paid;
   table = ap (λ (v : Own). v.table) paid;
 }

@@ -42,16 +42,16 @@ AboardBy true P z c v txn words = IsFinished P c.limit z v
 AboardBy false P z c v txn words = Rides P z c v.own txn × AreKept txn words v.own
 
 abbrev pub IsAboard : Bytecode → ℕ → TableId → Rider → Type 0
-IsAboard P steps z r = AboardBy r.home P z r.machine r.pass r.txn r.words × (r.machine.limit ≡ steps)
+IsAboard P steps z r = AboardBy r.home P z r.thread.machine r.thread.pass r.thread.txn r.thread.words × (r.thread.machine.limit ≡ steps)
 
 abbrev pub AreAboard : Bytecode → ℕ → TableId → List Rider → Type 0
 AreAboard P steps z rs = All (IsAboard P steps z) rs
 
 abbrev pub rider_id : Rider → ℕ
-rider_id r = r.pass.own.id
+rider_id r = r.thread.pass.own.id
 
 abbrev pub AreFinished : Bytecode → ℕ → TableId → List Rider → Type 0
-AreFinished P steps z rs = All (λ r. IsFinished P steps z r.pass) rs
+AreFinished P steps z rs = All (λ r. IsFinished P steps z r.thread.pass) rs
 
 abbrev pub IfPace : Pace → Type 0 → Type 0
 IfPace Stopped fact = Unit {0}

@@ -10,7 +10,7 @@ use Rattle.gl_threads.specs.declared.crew.Crew.{Crew}
 -- all are aboard, and there is room for the events of a walk
 pub record IsReady (P : Bytecode) (steps : ℕ) (t : TableView) (crew : Crew) : Type 0 where
   pub aboard : AreAboard P steps t.id crew.riders.items
-  pub room : capacity t.key ≤ crew.window
+  pub room : capacity t.key ≤ crew.lent.window
 
 -- the same threads, which are all done where the crew did not stop
 pub record CrewIsDone (P : Bytecode) (steps : ℕ) (z : TableId) (old new : Crew) : Type 0 where

@@ -45,4 +45,4 @@ pub record AreBack (P : Bytecode) (steps : ℕ) (z : TableId) (ps : List PassVie
 -- a worker without threads, with room for so many events
 pub record IsEmptyCrew (room : ℕ) (crew : Crew) : Type 0 where
   pub none : crew.riders.items ≡ []
-  pub has_room : room ≤ crew.window
+  pub has_room : room ≤ crew.lent.window

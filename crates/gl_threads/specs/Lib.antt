@@ -2,3 +2,4 @@ pub mod Options
 pub mod Aboard
 pub mod Crews
 pub mod Dealing
+pub mod InRun

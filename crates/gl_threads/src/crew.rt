@@ -1,27 +1,24 @@
+ghost use Rattle.gl_threads.specs.InRun.{AreAboardIn, AreFinishedIn, CrewIsDoneIn, IsReadyIn};
 ghost use Rattle.std.specs.Prelude.{◌≡◌, ◌≤◌, true, false, map};
 ghost use Rattle.gl_rule.specs.Objects.{capacity};
-ghost use Rattle.gl_threads.specs.Aboard.{AreAboard, AreFinished, rider_id};
-ghost use Rattle.gl_threads.specs.Crews.{CrewIsDone, IsReady};
-ghost use Rattle.gl_riders.specs.Riding.{IsSetFor};
+ghost use Rattle.gl_threads.specs.Aboard.{rider_id};
+ghost use Rattle.gl_riders.specs.Threads.{IsSetUp};
 
+use crate::aids::Aids;
 use crate::gate::Gate;
 use crate::rider::{Pace, Rider, are_home, round};
 use crate::roll::RollCall;
-use gl_bytecode::Program;
-use gl_rows::Window;
-use gl_shortcut::Cuts;
-use gl_table::Shared;
-use std::alloc::Global;
+use gl_riders::{Lent, Run};
 use std::sync::Wait;
 use std::sync::atomic::AtomicU64;
 use std::thread;
 use std::time::Duration;
 
-// The threads of one worker, and whether it stopped before they were done.
+// The threads of one worker, what it lends them, and whether it stopped before they were done.
 #[derive(Drop)]
 pub(crate) struct Crew {
     pub(crate) riders: Vec<Rider>,
-    pub(crate) window: Window,
+    pub(crate) lent: Lent,
     pub(crate) stopped: bool,
 }
 
@@ -42,62 +39,43 @@ fn rest<R: Wait>(rt: &R, idle: u32) {
 pub(crate) fn run_crew<G: Gate, R: Wait>(
     rt: &R,
     crew: &mut Crew,
-    shared: &Shared,
-    program: &Program,
-    limit: u32,
-    cuts: &Cuts,
-    gate: &G,
+    run: &Run,
+    aids: &Aids<G>,
     roll: &RollCall,
 )
-    requires set { IsSetFor program.now shared.now.key.setting }
-    requires ready { IsReady program.now limit shared.now crew.old }
-    ensures done { CrewIsDone program.now limit shared.now.id crew.old crew.new }
+    requires set { IsSetUp run.now }
+    requires ready { IsReadyIn run.now crew.old }
+    ensures done { CrewIsDoneIn run.now crew.old crew.new }
 {
     if !roll.begin() {
         crew.stopped = true;
         return;
     }
-    let alloc = *crew.riders.allocator();
-    crew.stopped = !run_riders(
-        rt,
-        alloc,
-        &mut crew.riders,
-        shared,
-        program,
-        limit,
-        cuts,
-        &mut crew.window,
-        gate,
-        roll,
-    );
+    let done = run_riders(rt, crew, run, aids, roll);
+    crew.stopped = !done;
 }
 
 // The same, which says whether all are done.
 fn run_riders<G: Gate, R: Wait>(
     rt: &R,
-    alloc: Global,
-    riders: &mut Vec<Rider>,
-    shared: &Shared,
-    program: &Program,
-    limit: u32,
-    cuts: &Cuts,
-    window: &mut Window,
-    gate: &G,
+    crew: &mut Crew,
+    run: &Run,
+    aids: &Aids<G>,
     roll: &RollCall,
 ) -> bool
-    requires set { IsSetFor program.now shared.now.key.setting }
-    requires aboard { AreAboard program.now limit shared.now.id riders.old.items }
-    requires window { capacity shared.now.key ≤ window.old }
-    ensures done { result ≡ true → AreFinished program.now limit shared.now.id riders.new.items }
-    ensures ids { map rider_id riders.new.items ≡ map rider_id riders.old.items }
+    requires set { IsSetUp run.now }
+    requires aboard { AreAboardIn run.now crew.old.riders.items }
+    requires window { capacity run.now.table.now.key ≤ crew.old.lent.window }
+    ensures done { result ≡ true → AreFinishedIn run.now crew.new.riders.items }
+    ensures ids { map rider_id crew.new.riders.items ≡ map rider_id crew.old.riders.items }
 {
     let mut idle = 0u32;
     for turn in rt.forever() {
         let _turn = turn;
-        if are_home(riders) {
+        if are_home(&crew.riders) {
             return true;
         }
-        match round(alloc, riders, shared, program, limit, cuts, window, gate) {
+        match round(run, &mut crew.riders, aids, &mut crew.lent) {
             Pace::Moved => idle = 0,
             Pace::Idle => {
                 if roll.gives_up(idle) {

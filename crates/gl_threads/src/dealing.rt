@@ -1,18 +1,20 @@
+ghost use Rattle.gl_threads.specs.InRun.{AreBackIn, AreDoneIn, AreReadyIn};
 ghost use Rattle.std.specs.Prelude.{◌≡◌, ◌<◌, ◌*◌, ◌++◌, ◌∷◌, [], false, slice_set, slice_index_or, length, vec_len, IfOk, OnOk, IfNone};
 ghost use Rattle.std.specs.List.{All};
 ghost use Rattle.std.specs.Option.{option_to_list};
 ghost use Rattle.gl_threads.specs.Aboard.{IsAboard, rider_id};
 ghost use Rattle.gl_segments.specs.Rings.{IsRing};
-ghost use Rattle.gl_threads.specs.Dealing.{AreBack, AreDealt, AreDone, AreNew, AreReady, IsEmptyCrew, new_own};
+ghost use Rattle.gl_threads.specs.Dealing.{AreDealt, AreNew, IsEmptyCrew, new_own};
 ghost use Rattle.gl_threads.specs.declared.crew.Crew.{Crew as ACrew};
 
 use crate::crew::Crew;
 use crate::rider::Rider;
 use gl_bytecode::Program;
 use gl_cache::WordCache;
+use gl_riders::{Lent, Run, Thread};
 use gl_rows::Window;
 use gl_segments::Ring;
-use gl_table::{Pass, Shared};
+use gl_table::Pass;
 use gl_vm::Machine;
 use std::alloc::{AllocError, Global};
 
@@ -28,10 +30,12 @@ fn board(alloc: Global, program: &Program, pass: Pass, limit: u32) -> Result<Rid
     let machine = Machine::new(alloc, program, pass.id(), limit)?;
     let words = WordCache::new(alloc)?;
     Ok(Rider {
-        machine,
-        pass,
-        txn: None,
-        words,
+        thread: Thread {
+            machine,
+            pass,
+            txn: None,
+            words,
+        },
         home: false,
         pause: 0,
         left: 0,
@@ -58,7 +62,10 @@ fn empty_crew(alloc: Global, ring: Ring) -> Result<Crew, AllocError>
 {
     Ok(Crew {
         riders: Vec::new(alloc),
-        window: Window::new(alloc, ring)?,
+        lent: Lent {
+            alloc,
+            window: Window::new(alloc, ring)?,
+        },
         stopped: false,
     })
 }
@@ -66,7 +73,7 @@ fn empty_crew(alloc: Global, ring: Ring) -> Result<Crew, AllocError>
 // Worker c gets a thread more.
 fn take_on(crews: &mut Vec<Crew>, c: usize, rider: Rider) -> Result<(), AllocError>
     requires { c < length crews.old.items }
-    ensures { OnOk result ((crew : ACrew) × (crew.riders.items ≡ (slice_index_or crews.old.items c crew).riders.items ++ rider ∷ []) × (crew.window ≡ (slice_index_or crews.old.items c crew).window) × (crews.new.items ≡ slice_set crews.old.items c crew)) }
+    ensures { OnOk result ((crew : ACrew) × (crew.riders.items ≡ (slice_index_or crews.old.items c crew).riders.items ++ rider ∷ []) × (crew.lent.window ≡ (slice_index_or crews.old.items c crew).lent.window) × (crews.new.items ≡ slice_set crews.old.items c crew)) }
 {
     let crew = &mut crews[c];
     match crew.add(rider) {
@@ -88,25 +95,23 @@ fn let_go(crews: &mut Vec<Crew>, c: usize) -> Option<Rider>
 // All passes, each with its machine, dealt to the workers.
 pub(crate) fn deal(
     alloc: Global,
-    program: &Program,
+    run: &Run,
     passes: Vec<Pass>,
     workers: usize,
-    limit: u32,
-    shared: &Shared,
 ) -> Result<Vec<Crew>, AllocError>
     requires workers { 0 < workers }
     requires few { length passes.items ≡ 16 }
-    requires new { AreNew shared.now.id passes.items }
+    requires new { AreNew run.now.table.now.id passes.items }
     ensures dealt { IfOk result (λ v. AreDealt workers 0 16 v.items) }
-    ensures ready { IfOk result (λ v. AreReady program.now limit shared.now v.items) }
+    ensures ready { IfOk result (λ v. AreReadyIn run.now v.items) }
 {
-    let mut crews = no_crews(alloc, workers, shared.ring())?;
+    let mut crews = no_crews(alloc, workers, run.table.ring())?;
     let mut left = passes;
     'deals: loop {
         match left.pop() {
             Some(pass) => {
                 let c = pass.id() as usize % workers;
-                let rider = board(alloc, program, pass, limit)?;
+                let rider = board(alloc, run.program, pass, run.steps)?;
                 take_on(&mut crews, c, rider)?;
             }
             None => return Ok(crews),
@@ -117,21 +122,17 @@ pub(crate) fn deal(
 // The passes of all workers' threads, in their order.
 pub(crate) fn gather(
     alloc: Global,
-    program: &Program,
+    run: &Run,
     mut crews: Vec<Crew>,
     workers: usize,
-    limit: u32,
-    shared: &Shared,
 ) -> Result<Vec<Pass>, AllocError>
     requires workers { 0 < workers }
     requires dealt { AreDealt workers 0 16 crews.items }
-    requires done { AreDone program.now limit shared.now.id crews.items }
+    requires done { AreDoneIn run.now crews.items }
     ensures all { IfOk result (λ v. length v.items ≡ 16) }
-    ensures back { IfOk result (λ v. AreBack program.now limit shared.now.id v.items) }
+    ensures back { IfOk result (λ v. AreBackIn run.now v.items) }
 {
-    let _program = program;
-    let _limit = limit;
-    let _shared = shared;
+    let _run = run;
     let mut passes = Vec::new(alloc);
     for n in 0..PASSES {
         match let_go(&mut crews, n % workers) {
@@ -143,15 +144,16 @@ pub(crate) fn gather(
 }
 
 fn pass_of(rider: Rider) -> Pass
-    ensures { result ≡ rider.pass }
+    ensures { result ≡ rider.thread.pass }
 {
-    rider.pass
+    let thread = rider.thread;
+    thread.pass
 }
 
 impl Crew {
     fn add(&mut self, rider: Rider) -> Result<(), AllocError>
         ensures riders { OnOk result (self.new.riders.items ≡ self.old.riders.items ++ rider ∷ []) }
-        ensures window { OnOk result (self.new.window ≡ self.old.window) }
+        ensures window { OnOk result (self.new.lent.window ≡ self.old.lent.window) }
     {
         self.riders.push(rider)?;
         Ok(())

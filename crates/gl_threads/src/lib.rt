@@ -2,6 +2,7 @@
 #![tactic(auto)]
 
 mod advance;
+mod aids;
 mod crew;
 mod dealing;
 mod gate;

@@ -1,27 +1,20 @@
+ghost use Rattle.gl_threads.specs.InRun.{AreAboardIn, IsAboardIn};
 ghost use Rattle.std.specs.Prelude.{◌≡◌, ◌<◌, true, map, false, ◌≤◌};
 ghost use Rattle.std.specs.List.{list_all};
 ghost use Rattle.gl_rule.specs.Objects.{capacity};
-ghost use Rattle.gl_threads.specs.Aboard.{AreAboard, IfPace, IsAboard, rider_id};
-ghost use Rattle.gl_riders.specs.Riding.{IsSetFor};
+ghost use Rattle.gl_threads.specs.Aboard.{IfPace, rider_id};
+ghost use Rattle.gl_riders.specs.Threads.{IsSetUp};
 
 use crate::advance::{Went, advance};
+use crate::aids::Aids;
 use crate::gate::Gate;
-use gl_bytecode::Program;
-use gl_cache::WordCache;
-use gl_rows::Window;
-use gl_shortcut::Cuts;
+use gl_riders::{Lent, Run, Thread};
 use gl_table::{Pass, Shared};
-use gl_txn::Txn;
-use gl_vm::Machine;
-use std::alloc::Global;
 
-// A thread of the program that a worker runs.
+// A thread of the program that a worker runs, and whether it is done.
 #[derive(Drop)]
 pub(crate) struct Rider {
-    pub(crate) machine: Machine,
-    pub(crate) pass: Pass,
-    pub(crate) txn: Option<Txn>,
-    pub(crate) words: WordCache,
+    pub(crate) thread: Thread,
     pub(crate) home: bool,
     // so many rounds it waits, where its last try was not answered, and so many are left
     pub(crate) pause: u8,
@@ -61,68 +54,37 @@ fn is_stopped(shared: &Shared, pass: &mut Pass) -> bool
 }
 
 // A try of one thread: where the run is to stop, nothing is done.
-fn ride_once<G: Gate>(
-    alloc: Global,
-    rider: &mut Rider,
-    shared: &Shared,
-    program: &Program,
-    limit: u32,
-    cuts: &Cuts,
-    window: &mut Window,
-    gate: &G,
-) -> Pace
-    requires set { IsSetFor program.now shared.now.key.setting }
-    requires aboard { IsAboard program.now limit shared.now.id rider.old }
-    requires window { capacity shared.now.key ≤ window.old }
-    ensures aboard { IfPace result (IsAboard program.now limit shared.now.id rider.new) }
+fn ride_once<G: Gate>(run: &Run, rider: &mut Rider, aids: &Aids<G>, lent: &mut Lent) -> Pace
+    requires set { IsSetUp run.now }
+    requires aboard { IsAboardIn run.now rider.old }
+    requires window { capacity run.now.table.now.key ≤ lent.old.window }
+    ensures aboard { IfPace result (IsAboardIn run.now rider.new) }
     ensures id { rider_id rider.new ≡ rider_id rider.old }
-    ensures window { window.new ≡ window.old }
+    ensures window { lent.new.window ≡ lent.old.window }
 {
-    let _limit = limit;
     if rider.home {
         return Pace::Idle;
     }
-    go_ahead(alloc, rider, shared, program, limit, cuts, window, gate)
+    go_ahead(run, rider, aids, lent)
 }
 
-fn go_ahead<G: Gate>(
-    alloc: Global,
-    rider: &mut Rider,
-    shared: &Shared,
-    program: &Program,
-    limit: u32,
-    cuts: &Cuts,
-    window: &mut Window,
-    gate: &G,
-) -> Pace
-    requires set { IsSetFor program.now shared.now.key.setting }
-    requires aboard { IsAboard program.now limit shared.now.id rider.old }
-    requires window { capacity shared.now.key ≤ window.old }
+fn go_ahead<G: Gate>(run: &Run, rider: &mut Rider, aids: &Aids<G>, lent: &mut Lent) -> Pace
+    requires set { IsSetUp run.now }
+    requires aboard { IsAboardIn run.now rider.old }
+    requires window { capacity run.now.table.now.key ≤ lent.old.window }
     requires out { rider.old.home ≡ false }
-    ensures aboard { IfPace result (IsAboard program.now limit shared.now.id rider.new) }
+    ensures aboard { IfPace result (IsAboardIn run.now rider.new) }
     ensures id { rider_id rider.new ≡ rider_id rider.old }
-    ensures window { window.new ≡ window.old }
+    ensures window { lent.new.window ≡ lent.old.window }
 {
-    let _limit = limit;
-    if is_stopped(shared, &mut rider.pass) {
+    if is_stopped(run.table, &mut rider.thread.pass) {
         return Pace::Stopped;
     }
     if rider.left > 0 {
         rider.left -= 1;
         return Pace::Idle;
     }
-    match advance(
-        alloc,
-        shared,
-        &mut rider.machine,
-        &mut rider.pass,
-        &mut rider.txn,
-        &mut rider.words,
-        program,
-        cuts,
-        window,
-        gate,
-    ) {
+    match advance(run, &mut rider.thread, aids, lent) {
         Ok(Went::On) => {
             rider.pause = 0;
             Pace::Moved
@@ -137,7 +99,7 @@ fn go_ahead<G: Gate>(
             Pace::Moved
         }
         Err(_) => {
-            shared.set_stop(&mut rider.pass);
+            run.table.set_stop(&mut rider.thread.pass);
             Pace::Stopped
         }
     }
@@ -148,26 +110,17 @@ fn go_ahead<G: Gate>(
 const TRIES: usize = 32;
 
 // A turn of one thread: its tries, as long as they are answered.
-fn ride<G: Gate>(
-    alloc: Global,
-    rider: &mut Rider,
-    shared: &Shared,
-    program: &Program,
-    limit: u32,
-    cuts: &Cuts,
-    window: &mut Window,
-    gate: &G,
-) -> Pace
-    requires set { IsSetFor program.now shared.now.key.setting }
-    requires aboard { IsAboard program.now limit shared.now.id rider.old }
-    requires window { capacity shared.now.key ≤ window.old }
-    ensures aboard { IfPace result (IsAboard program.now limit shared.now.id rider.new) }
+fn ride<G: Gate>(run: &Run, rider: &mut Rider, aids: &Aids<G>, lent: &mut Lent) -> Pace
+    requires set { IsSetUp run.now }
+    requires aboard { IsAboardIn run.now rider.old }
+    requires window { capacity run.now.table.now.key ≤ lent.old.window }
+    ensures aboard { IfPace result (IsAboardIn run.now rider.new) }
     ensures id { rider_id rider.new ≡ rider_id rider.old }
-    ensures window { window.new ≡ window.old }
+    ensures window { lent.new.window ≡ lent.old.window }
 {
     let mut pace = Pace::Idle;
     for _ in 0..TRIES {
-        match ride_once(alloc, rider, shared, program, limit, cuts, window, gate) {
+        match ride_once(run, rider, aids, lent) {
             Pace::Moved => pace = Pace::Moved,
             Pace::Idle => return pace,
             Pace::Stopped => return Pace::Stopped,
@@ -178,34 +131,21 @@ fn ride<G: Gate>(
 
 // A turn of each thread.
 pub(crate) fn round<G: Gate>(
-    alloc: Global,
+    run: &Run,
     riders: &mut Vec<Rider>,
-    shared: &Shared,
-    program: &Program,
-    limit: u32,
-    cuts: &Cuts,
-    window: &mut Window,
-    gate: &G,
+    aids: &Aids<G>,
+    lent: &mut Lent,
 ) -> Pace
-    requires set { IsSetFor program.now shared.now.key.setting }
-    requires aboard { AreAboard program.now limit shared.now.id riders.old.items }
-    requires window { capacity shared.now.key ≤ window.old }
-    ensures aboard { IfPace result (AreAboard program.now limit shared.now.id riders.new.items) }
+    requires set { IsSetUp run.now }
+    requires aboard { AreAboardIn run.now riders.old.items }
+    requires window { capacity run.now.table.now.key ≤ lent.old.window }
+    ensures aboard { IfPace result (AreAboardIn run.now riders.new.items) }
     ensures ids { map rider_id riders.new.items ≡ map rider_id riders.old.items }
-    ensures window { window.new ≡ window.old }
+    ensures window { lent.new.window ≡ lent.old.window }
 {
     let mut moved = false;
     for i in 0..riders.len() {
-        match ride(
-            alloc,
-            &mut riders[i],
-            shared,
-            program,
-            limit,
-            cuts,
-            window,
-            gate,
-        ) {
+        match ride(run, &mut riders[i], aids, lent) {
             Pace::Moved => moved = true,
             Pace::Idle => {}
             Pace::Stopped => return Pace::Stopped,

@@ -37,7 +37,7 @@ pub fn run_program<G: Gate, R: Threads + Wait + Sync>(
         Ok(made) => made,
         Err(_) => return Err(AllocError),
     };
-    let passes = work(rt, alloc, &shared, passes, program, options, cuts, gate)?;
+    let passes = work(rt, &shared, passes, program, options, cuts, gate)?;
     match shared.close(passes) {
         Ok(sealed) => Ok(sealed),
         Err(_) => Err(AllocError),

@@ -5,8 +5,11 @@ use Rattle.gl_riders.proofs.tries.try_begin.Goals as goal
 pub returns : goal.returns
 returns c = record {
   answered =
-      begin_tried c.args.program.now c.args.shared.now c.args.machine.now c.args.pass.now.own c.args.txn.now _ c.in_ok-begun.begun
+      begin_tried c.args.run.now.program.now c.args.run.now.table.now c.args.thread.now.machine c.args.thread.now.pass.own c.args.thread.now.txn _ c.in_ok-begun.begun
       c.requires.asked refl
       c.requires.rides c.in_ok-begun.ensures;
-  kept = within_kept c.args.pass.now.own c.args.pass.now.own _ c.in_ok-begun.begun refl c.requires.clear refl;
+  kept = within_kept c.args.thread.now.pass.own c.args.thread.now.pass.own _ c.in_ok-begun.begun refl c.requires.clear refl;
+  machine = refl;
+  words = refl;
+  pass = refl;
 }

@@ -3,17 +3,17 @@ use Rattle.gl_riders.proofs.tries.try_event.Goals as goal
 
 pub event-requires-clause-may : goal.event-requires-clause-may
 event-requires-clause-may c =
-    event_may c.args.program.now c.args.shared.now c.args.machine.now c.args.pass.now c.args.txn.now c.args.ask c.requires.asked
+    event_may c.args.run.now.program.now c.args.run.now.table.now c.args.thread.now.machine c.args.thread.now.pass c.args.thread.now.txn c.args.ask c.requires.asked
     c.requires.rides
     c.requires.clear c.requires.spare c.requires.event
 
 pub returns-in-Ok-clause-answered : goal.returns-in-Ok-clause-answered
 returns-in-Ok-clause-answered c =
     rw c.reply_of.ensures
-    (event_tried c.args.program.now c.args.shared.now c.args.machine.now c.args.pass.now.own c.event.new.pass.own c.args.txn.now c.args.ask
+    (event_tried c.args.run.now.program.now c.args.run.now.table.now c.args.thread.now.machine c.args.thread.now.pass.own c.event.new.pass.own c.args.thread.now.txn c.args.ask
     c.in-Ok.done
     c.requires.asked c.requires.set c.requires.rides c.requires.event c.in-Ok.ensures.done c.in-Ok.ensures.entry)
 
 pub returns-in-Ok-clause-kept : goal.returns-in-Ok-clause-kept
-returns-in-Ok-clause-kept c = event_kept c.args.txn.now c.args.pass.now.own c.event.new.pass.own c.args.ask c.in-Ok.done c.requires.clear
+returns-in-Ok-clause-kept c = event_kept c.args.thread.now.txn c.args.thread.now.pass.own c.event.new.pass.own c.args.ask c.in-Ok.done c.requires.clear
     c.in-Ok.ensures.entry

@@ -7,18 +7,18 @@ use Rattle.gl_threads.proofs.advance.advance.Goals as goal
 
 pub go_on-requires : goal.go_on-requires
 go_on-requires g c =
-    let at : Own → Type 0 = λ v. Rides c.args.program.now c.args.shared.now.id c.args.machine.now v c.args.txn.now in
+    let at : Own → Type 0 = λ v. Rides c.args.run.now.program.now c.args.run.now.table.now.id c.args.thread.now.machine v c.args.thread.now.txn in
     record { rides = subst at (sym (ap (λ (v : PassView). v.own) c.in_ok-reserve.ensures.own)) c.requires.rides }
 
 pub over-requires-clause-ends : goal.over-requires-clause-ends
 over-requires-clause-ends g c =
-    ends_over c.args.program.now c.args.shared.now.id c.go_on.new.machine c.reserve.new.self.own c.args.txn.now c.in-Over.ending
+    ends_over c.args.run.now.program.now c.args.run.now.table.now.id c.go_on.new.machine c.reserve.new.self.own c.args.thread.now.txn c.in-Over.ending
     c.go_on.ensures.rides (sym c.in-Over.is ∙ c.asked.ensures.value)
 
 pub returns-in-Over-clause-home : goal.returns-in-Over-clause-home
 returns-in-Over-clause-home g c =
-    let at : ℕ → Type 0 = λ n. IsFinished c.args.program.now n c.args.shared.now.id c.over.new.self in
+    let at : ℕ → Type 0 = λ n. IsFinished c.args.run.now.program.now n c.args.run.now.table.now.id c.over.new.self in
     subst at c.go_on.ensures.limit
-    (home_over c.args.program.now c.args.shared.now.id c.go_on.new.machine c.reserve.new.self.own c.over.new.self c.args.txn.now
+    (home_over c.args.run.now.program.now c.args.run.now.table.now.id c.go_on.new.machine c.reserve.new.self.own c.over.new.self c.args.thread.now.txn
     c.in-Over.ending
     c.go_on.ensures.rides (ap (λ (v : PassView). v.own) c.over.ensures) (sym c.in-Over.is ∙ c.asked.ensures.value))

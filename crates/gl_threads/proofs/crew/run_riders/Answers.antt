@@ -4,7 +4,7 @@ use Rattle.gl_threads.proofs.crew.run_riders.Goals as goal
 
 pub returns-then-are_home-clause-done : goal.returns-then-are_home-clause-done
 returns-then-are_home-clause-done g c is =
-    all_finished c.args.program.now c.args.limit c.args.shared.now.id c.loop-turn.riders.items (sym c.are_home.ensures
+    all_finished c.args.run.now.program.now c.args.run.now.steps c.args.run.now.table.now.id c.loop-turn.crew.riders.items (sym c.are_home.ensures
     ∙ c.if-are_home.true) c.loop-turn.invariant.0
 
 pub round-requires-clause-window : goal.round-requires-clause-window

@@ -12,15 +12,15 @@ pub deals-init : goal.deals-init
 deals-init c =
     let ok = c.in_ok-crews.crews.ok.0 in
     let long : length c.in_ok-crews.crews.items ≡ c.args.workers = (let l = c.in_ok-crews.ensures.long in omega arith) in
-    let room : capacity c.args.shared.now.key
+    let room : capacity c.args.run.now.table.now.key
     ≡ c.ring.result.segments * c.ring.result.cells = (λ i. sym c.ring.ensures.is.0 i * sym c.ring.ensures.is.1 i) in
-    let e = crews_new c.args.workers (length c.args.passes.items) c.args.program.now c.args.limit c.args.shared.now
+    let e = crews_new c.args.workers (length c.args.passes.items) c.args.run.now.program.now c.args.run.now.steps c.args.run.now.table.now
     (c.ring.result.segments * c.ring.result.cells) c.in_ok-crews.crews.items long room c.in_ok-crews.ensures.none in
     record { k = 0; sum = (let n = c.requires.few in omega arith); new = c.requires.new; dealt = e.dealt; ready = e.ready }
 
 pub board-requires : goal.board-requires
 board-requires c =
-    let last = new_less c.args.shared.now.id (length c.pop.new.self.items) c.deals.left.items c.pop.new.self.items c.in-Some.pass
+    let last = new_less c.args.run.now.table.now.id (length c.pop.new.self.items) c.deals.left.items c.pop.new.self.items c.in-Some.pass
     c.deals.invariant.new c.in-Some.ensures.items refl in
     last.new ∙ (λ i. new_own (ap (λ (o : Own). o.table) (sym last.new) i) (ap (λ (o : Own). o.id) (sym last.new) i))
 
@@ -32,7 +32,7 @@ take_on-requires c =
 
 pub deals-preserved : goal.deals-preserved
 deals-preserved c =
-    let last = new_less c.args.shared.now.id (length c.pop.new.self.items) c.deals.left.items c.pop.new.self.items c.in-Some.pass
+    let last = new_less c.args.run.now.table.now.id (length c.pop.new.self.items) c.deals.left.items c.pop.new.self.items c.in-Some.pass
     c.deals.invariant.new c.in-Some.ensures.items refl in
     let id : c.id.result ≡ length c.pop.new.self.items = c.id.ensures.is ∙ ap (λ (o : Own). o.id) last.new in
     let taken = c.in_ok-take_on-in-Some.ensures in
@@ -43,23 +43,23 @@ deals-preserved c =
     ++ c.in_ok-rider-in-Some.rider ∷ [] =
     (let at : ℕ → Type 0 = λ n. crew.riders.items ≡ (slice_index_or c.deals.crews.items (n % c.args.workers) crew).riders.items
     ++ c.in_ok-rider-in-Some.rider ∷ [] in subst at id gets) in
-    let window : crew.window ≡ (slice_index_or c.deals.crews.items (length c.pop.new.self.items % c.args.workers) crew).window =
-    (let at : ℕ → Type 0 = λ n. crew.window ≡ (slice_index_or c.deals.crews.items (n % c.args.workers) crew).window in subst at id taken.2)
+    let window : crew.lent.window ≡ (slice_index_or c.deals.crews.items (length c.pop.new.self.items % c.args.workers) crew).lent.window =
+    (let at : ℕ → Type 0 = λ n. crew.lent.window ≡ (slice_index_or c.deals.crews.items (n % c.args.workers) crew).lent.window in subst at id taken.2)
     in
     let crews : c.take_on.new.crews.items ≡ slice_set c.deals.crews.items (c.id.result % c.args.workers) crew = taken.3 in
     let crews' : c.take_on.new.crews.items ≡ slice_set c.deals.crews.items (length c.pop.new.self.items % c.args.workers) crew =
     crews ∙ ap (λ n. slice_set c.deals.crews.items (n % c.args.workers) crew) id in
-    let more = deals_more c.args.program.now c.args.limit c.args.shared.now c.args.workers c.deals.left.items c.pop.new.self.items
+    let more = deals_more c.args.run.now.program.now c.args.run.now.steps c.args.run.now.table.now c.args.workers c.deals.left.items c.pop.new.self.items
     c.in-Some.pass c.deals.crews.items crew
     c.in_ok-rider-in-Some.rider c.deals.invariant c.in-Some.ensures.items
     (mod_below (length c.pop.new.self.items) c.args.workers c.requires.workers)
     (λ own. (c.in_ok-rider-in-Some.ensures.aboard, c.in_ok-rider-in-Some.ensures.id)) gets' window in
-    let at : List Crew → Type 0 = λ cs. Deals c.args.program.now c.args.limit c.args.shared.now c.args.workers c.pop.new.self.items cs in
+    let at : List Crew → Type 0 = λ cs. Deals c.args.run.now.program.now c.args.run.now.steps c.args.run.now.table.now c.args.workers c.pop.new.self.items cs in
     subst at (sym crews') more
 
 pub returns-in-None-clause-dealt : goal.returns-in-None-clause-dealt
 returns-in-None-clause-dealt c =
     let ok = c.deals.left.ok.0 in
     let none : length c.deals.left.items ≡ 0 = (let e = c.in-None.ensures.cases.0 in omega arith) in
-    deals_none c.args.program.now c.args.limit c.args.shared.now c.args.workers c.deals.left.items c.deals.crews.items c.deals.invariant
+    deals_none c.args.run.now.program.now c.args.run.now.steps c.args.run.now.table.now c.args.workers c.deals.left.items c.deals.crews.items c.deals.invariant
     none

@@ -21,7 +21,7 @@ loop-n-init c = record {
 pub unreachable-requires : goal.unreachable-requires
 unreachable-requires c =
     let given = c.let_go.ensures.given in
-    gathers_some c.args.program.now c.args.limit c.args.shared.now.id c.args.workers c.loop-n.n c.loop-n.crews.items c.loop-n.passes.items
+    gathers_some c.args.run.now.program.now c.args.run.now.steps c.args.run.now.table.now.id c.args.workers c.loop-n.n c.loop-n.crews.items c.loop-n.passes.items
     c.loop-n.invariant
     c.loop-n-test.true (mod_below c.loop-n.n c.args.workers c.requires.workers) c.in-None.ensures.none given.0
 
@@ -31,12 +31,12 @@ loop-n-preserved c =
     let crew : Crew = given.0 in
     let gives : (slice_index_or c.loop-n.crews.items (c.loop-n.n % c.args.workers) crew).riders.items ≡ crew.riders.items
     ++ c.in-Some.rider ∷ [] = given.1 in
-    let more = gathers_more c.args.program.now c.args.limit c.args.shared.now.id c.args.workers c.loop-n.n c.loop-n.crews.items
+    let more = gathers_more c.args.run.now.program.now c.args.run.now.steps c.args.run.now.table.now.id c.args.workers c.loop-n.n c.loop-n.crews.items
     c.loop-n.passes.items crew c.in-Some.rider
     c.loop-n.invariant c.loop-n-test.true (mod_below c.loop-n.n c.args.workers c.requires.workers) gives in
     let crews : c.let_go.new.crews.items ≡ _ = given.2 in
-    let passes : c.push.new.self.items ≡ c.loop-n.passes.items ++ c.in-Some.rider.pass ∷ [] = c.in_ok-push-in-Some.ensures.items
+    let passes : c.push.new.self.items ≡ c.loop-n.passes.items ++ c.in-Some.rider.thread.pass ∷ [] = c.in_ok-push-in-Some.ensures.items
     ∙ ap (λ (v : PassView). c.loop-n.passes.items ++ v ∷ []) c.pass_of.ensures in
     let at : List Crew × List PassView → Type 0 =
-    λ t. Gathers c.args.program.now c.args.limit c.args.shared.now.id c.args.workers (c.loop-n.n + 1) t.0 t.1 in
+    λ t. Gathers c.args.run.now.program.now c.args.run.now.steps c.args.run.now.table.now.id c.args.workers (c.loop-n.n + 1) t.0 t.1 in
     subst at (λ i. (sym crews i, sym passes i)) more

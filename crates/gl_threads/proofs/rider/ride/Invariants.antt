@@ -4,4 +4,4 @@ use Rattle.gl_threads.proofs.rider.ride.Given as goal
 
 abbrev pub invariant-loop : goal.invariant-loop
 invariant-loop g l =
-    IsAboard l.program l.limit l.shared.id l.rider × (rider_id l.rider ≡ rider_id l.initial.rider) × (l.window ≡ l.initial.window)
+    IsAboard l.run.program.now l.run.steps l.run.table.now.id l.rider × (rider_id l.rider ≡ rider_id l.initial.rider) × (l.lent.window ≡ l.initial.lent.window)

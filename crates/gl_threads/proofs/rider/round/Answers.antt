@@ -15,9 +15,9 @@ loop-i-preserved g c =
     let ids : map rider_id (slice_set c.loop-i.riders.items c.loop-i.i c.ride.new.rider) ≡ map rider_id c.args.riders.now.items =
     ids_set c.loop-i.riders.items c.loop-i.i c.ride.new.rider c.index_mut.result.now c.ride.ensures.id c.index_mut.ensures.value
     ∙ c.loop-i.invariant.1 in
-    let one : IsAboard c.args.program.now c.args.limit c.args.shared.now.id c.ride.new.rider =
+    let one : IsAboard c.args.run.now.program.now c.args.run.now.steps c.args.run.now.table.now.id c.ride.new.rider =
     elim c.match-ride.branch [ in-Moved w ↦ w.in-Moved.ensures.aboard | in-Idle w ↦ w.in-Idle.ensures.aboard ] in (
-      aboard_set c.args.program.now c.args.limit c.args.shared.now.id c.loop-i.riders.items c.loop-i.i c.ride.new.rider one
+      aboard_set c.args.run.now.program.now c.args.run.now.steps c.args.run.now.table.now.id c.loop-i.riders.items c.loop-i.i c.ride.new.rider one
           c.loop-i.invariant.0,
       ids,
       c.loop-i.invariant.2,

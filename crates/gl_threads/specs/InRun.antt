@@ -1,0 +1,33 @@
+-- What holds of threads and workers, of a run: by its program, its number of instructions and its table.
+use Rattle.std.specs.Prelude.{List}
+use Rattle.gl_riders.specs.declared.thread.Run.{Run}
+use Rattle.gl_table.specs.PassView.{PassView}
+use Rattle.gl_threads.specs.Aboard.{AreAboard, AreFinished, IsAboard}
+use Rattle.gl_threads.specs.Crews.{CrewIsDone, IsReady}
+use Rattle.gl_threads.specs.Dealing.{AreBack, AreDone, AreReady}
+use Rattle.gl_threads.specs.declared.crew.Crew.{Crew}
+use Rattle.gl_threads.specs.declared.rider.Rider.{Rider}
+
+abbrev pub IsAboardIn : Run → Rider → Type 0
+IsAboardIn r rider = IsAboard r.program.now r.steps r.table.now.id rider
+
+abbrev pub AreAboardIn : Run → List Rider → Type 0
+AreAboardIn r riders = AreAboard r.program.now r.steps r.table.now.id riders
+
+abbrev pub AreFinishedIn : Run → List Rider → Type 0
+AreFinishedIn r riders = AreFinished r.program.now r.steps r.table.now.id riders
+
+abbrev pub IsReadyIn : Run → Crew → Type 0
+IsReadyIn r crew = IsReady r.program.now r.steps r.table.now crew
+
+abbrev pub CrewIsDoneIn : Run → Crew → Crew → Type 0
+CrewIsDoneIn r old new = CrewIsDone r.program.now r.steps r.table.now.id old new
+
+abbrev pub AreReadyIn : Run → List Crew → Type 0
+AreReadyIn r crews = AreReady r.program.now r.steps r.table.now crews
+
+abbrev pub AreDoneIn : Run → List Crew → Type 0
+AreDoneIn r crews = AreDone r.program.now r.steps r.table.now.id crews
+
+abbrev pub AreBackIn : Run → List PassView → Type 0
+AreBackIn r passes = AreBack r.program.now r.steps r.table.now.id passes
