@@ -1,5 +1,5 @@
 -- A thread of a run, before a try of what its machine asks and after it.
-use Rattle.std.specs.Prelude.{◌≡◌, Option}
+use Rattle.std.specs.Prelude.{◌≡◌}
 use Rattle.gl_bytecode.specs.declared.ask.Ask.{Ask}
 use Rattle.gl_bytecode.specs.declared.ask.Reply.{Reply}
 use Rattle.gl_bytecode.specs.Machine.{ask_of}
