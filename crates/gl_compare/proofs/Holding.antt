@@ -151,20 +151,6 @@ module _ (holds : ℕ → Hold) (t n : ℕ) (held : List ℕ) (l : AreLeastBelow
             ∙ take-append-le HELD held (n ∷ []) (omega arith) ∙ take_all HELD held (omega arith))) (full (omega arith))
       ]
 
--- the least of all, where no monitor from n on is held
-pub least_of_all : (holds : ℕ → Hold) (t n : ℕ) (held : List ℕ) → AreLeastBelow holds t n held → ((m : ℕ) → n ≤ m → holds m ≡ None)
-    → AreLeastHeld holds t held
-least_of_all holds t n held l none = record {
-  rising = l.rising;
-  owned = l.owned;
-  few = l.few;
-  least = λ m has. elim (cases_lt m n) [
-    | inl below ↦ l.least m below has
-    | inr over ↦ absurd (let e = none m over in let z : is_held_by t None
-        ≡ true = subst (λ h. is_held_by t h ≡ true) e has in cc)
-  ];
-}
-
 -- the monitors that are held are those that are owned
 held_parts : (t : ℕ) (hold : Hold) → is_held_by t hold ≡ true → (d : ℕ) × (monitor_of hold ≡ Owned t d)
 held_parts t None e = absurd (cc)

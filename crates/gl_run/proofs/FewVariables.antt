@@ -18,9 +18,9 @@ use Rattle.gl_bytecode.specs.declared.ask.Ask.{Ask}
 use Rattle.gl_bytecode.specs.declared.ask.Ask.TheVariants.{Go, Begin, End, Over, Read, Write, VRead, VWrite, Enter, Exit, Fork, Join, Alloc, Print, Input, TxBegin, TxEnd}
 use Rattle.gl_bytecode.specs.declared.ask.Reply.{Reply}
 use Rattle.gl_bytecode.specs.declared.ask.Reply.TheVariants.{Go as Gone, Value, Start, Raise, Retry}
-use Rattle.gl_bytecode.specs.Machine.{Attempt, ask_of, next, takes}
+use Rattle.gl_bytecode.specs.Machine.{Attempt, ask_of}
 use Rattle.gl_bytecode.specs.Programs.{Bytecode}
-use Rattle.gl_bytecode.specs.Runs.{Exchange, Made, Quiet, Progress, Runs, entries_of, is_its_end, is_quiet, is_word, known_word, knows, looks_after, outset, reply_in, reply_of, reply_of_abort, reply_of_act, reply_of_commit, same_words, told, told_one, touched, with_word, without_trims, word_of, writes_after}
+use Rattle.gl_bytecode.specs.Runs.{Exchange, Made, Quiet, Progress, Runs, entries_of, is_its_end, is_quiet, is_word, known_word, knows, looks_after, outset, reply_in, reply_of, reply_of_abort, reply_of_act, reply_of_commit, same_words, told, touched, with_word, without_trims, word_of, writes_after}
 use Rattle.gl_bytecode.proofs.AttemptWords.{words_same}
 use Rattle.gl_bytecode.proofs.Exchanges.{Told, told_cons, told_of, when_true}
 use Rattle.gl_model.specs.Kept.{IsRecord}
