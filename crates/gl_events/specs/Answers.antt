@@ -1,5 +1,5 @@
 -- What is asked of a pass that makes an event, and what is true of its answer.
-use Rattle.std.specs.Prelude.{◌≡◌, ◌≢◌, ℕ, ℤ, suc, ◌+◌, ◌*◌, ◌<◌, ◌≤◌, ◌^◌, Bool, false, ◌==◌, List, [], ◌∷◌, ◌++◌, count_by}
+use Rattle.std.specs.Prelude.{◌≡◌, ◌≢◌, ℕ, ℤ, suc, ◌+◌, ◌*◌, ◌<◌, ◌≤◌, Bool, false, ◌==◌, List, [], ◌∷◌, ◌++◌, count_by}
 use Rattle.gl_model.specs.declared.event.Act.{Act}
 use Rattle.gl_model.specs.declared.event.Event.TheVariants.{Act as Does}
 use Rattle.gl_model.specs.declared.limits.TheConstants.{THREADS}
@@ -25,6 +25,7 @@ use Rattle.gl_events.specs.declared.call.Call.TheVariants as call
 use Rattle.gl_events.specs.declared.done.Done.{Done}
 use Rattle.gl_events.specs.declared.done.Stop.{Stop}
 use Rattle.gl_events.specs.declared.done.Stop.TheVariants as stop
+use Rattle.gl_rule.specs.Bounded.{most_entries}
 
 -- the pass is of this table, holds and owes nothing, and has room for an entry; its thread is as far as the call asks
 pub record MayCall (c : Call) (z : TableView) (p : PassView) : Type 0 where
@@ -33,7 +34,7 @@ pub record MayCall (c : Call) (z : TableView) (p : PassView) : Type 0 where
   pub drawn : p.own.drawn ≡ []
   pub owed : p.own.owed ≡ []
   pub spare : 0 < p.spare
-  pub few : counted p.own.mine < 2 ^ 50
+  pub few : counted p.own.mine < most_entries
   pub life : life_of p.own.mine ≡ life_for c
 
 -- the pass, which was p and is q, took the list with the state l, and then read this

@@ -1,8 +1,9 @@
-ghost use Rattle.std.specs.Prelude.{◌≡◌, ◌<◌, ◌≤◌, ◌+◌, ◌*◌, ◌^◌, [], ◌∷◌, IfSome, OnSome, Contains};
+ghost use Rattle.std.specs.Prelude.{◌≡◌, ◌<◌, ◌≤◌, ◌+◌, ◌*◌, [], ◌∷◌, IfSome, OnSome, Contains};
 ghost use Rattle.gl_draws.specs.Ties.{counted};
 ghost use Rattle.gl_model.specs.declared.limits.TheConstants.{MONITORS};
 ghost use Rattle.gl_events.specs.Answers.{MayCall};
 ghost use Rattle.gl_events.specs.declared.call.Call.TheVariants as call;
+ghost use Rattle.gl_rule.specs.Bounded.{most_entries};
 ghost use Rattle.gl_segments.specs.Rings.{IsRing};
 
 use crate::{Done, Stop, begin, end, enter, exit, fork, print};
@@ -93,7 +94,7 @@ fn one_thread_runs(rt: HostRuntime) -> Result<(), Fail> {
 // The thread enters the monitor, and may go on.
 fn entered(shared: &Shared, pass: &mut Pass, monitor: u16) -> Option<u64>
     requires may { MayCall call.End shared.now pass.old }
-    requires few { counted pass.old.own.mine + 1 < 2 ^ 50 }
+    requires few { counted pass.old.own.mine + 1 < most_entries }
     requires there { monitor < MONITORS }
     requires room { 1 < pass.old.spare }
     ensures may { OnSome result (MayCall call.End shared.now pass.new) }
@@ -109,7 +110,7 @@ fn entered(shared: &Shared, pass: &mut Pass, monitor: u16) -> Option<u64>
 // The thread leaves the monitor, or is told that it is not in it, and may go on.
 fn left(shared: &Shared, pass: &mut Pass, monitor: u16) -> Option<Done>
     requires may { MayCall call.End shared.now pass.old }
-    requires few { counted pass.old.own.mine + 1 < 2 ^ 50 }
+    requires few { counted pass.old.own.mine + 1 < most_entries }
     requires there { monitor < MONITORS }
     requires room { 1 < pass.old.spare }
     ensures may { OnSome result (MayCall call.End shared.now pass.new) }
@@ -125,7 +126,7 @@ fn left(shared: &Shared, pass: &mut Pass, monitor: u16) -> Option<Done>
 // One after the other; answers the position of the second event, or nothing where leaving had a code.
 fn round(shared: &Shared, pass: &mut Pass, monitor: u16) -> Option<u64>
     requires may { MayCall call.End shared.now pass.old }
-    requires few { counted pass.old.own.mine + 2 < 2 ^ 50 }
+    requires few { counted pass.old.own.mine + 2 < most_entries }
     requires there { monitor < MONITORS }
     requires room { 2 < pass.old.spare }
     ensures may { OnSome result (MayCall call.End shared.now pass.new) }
@@ -147,7 +148,7 @@ fn round(shared: &Shared, pass: &mut Pass, monitor: u16) -> Option<u64>
 // So many rounds; answers the position of the last event, or 0 where there was none.
 fn rounds(shared: &Shared, pass: &mut Pass, monitor: u16, count: u16) -> Option<u64>
     requires may { MayCall call.End shared.now pass.old }
-    requires few { counted pass.old.own.mine + 2 * count < 2 ^ 50 }
+    requires few { counted pass.old.own.mine + 2 * count < most_entries }
     requires there { monitor < MONITORS }
     requires room { 2 * count < pass.old.spare }
     ensures may { OnSome result (MayCall call.End shared.now pass.new) }
@@ -236,7 +237,7 @@ fn two_passes(alloc: Global) -> Option<(Shared, Pass, Pass)>
 // The thread forks another with function 1 and the value 9, and may go on.
 fn forked(shared: &Shared, pass: &mut Pass) -> Option<Done>
     requires may { MayCall call.End shared.now pass.old }
-    requires few { counted pass.old.own.mine + 1 < 2 ^ 50 }
+    requires few { counted pass.old.own.mine + 1 < most_entries }
     requires starts { Contains shared.now.key.setting.forkable 1 }
     requires room { 1 < pass.old.spare }
     ensures may { OnSome result (MayCall call.End shared.now pass.new) }
@@ -352,7 +353,7 @@ fn two_passes_meet(rt: HostRuntime) -> Result<(), Fail> {
 // The thread tries to print, and may go on either way; answers whether it did.
 fn printed(shared: &Shared, pass: &mut Pass) -> bool
     requires may { MayCall call.End shared.now pass.old }
-    requires few { counted pass.old.own.mine + 1 < 2 ^ 50 }
+    requires few { counted pass.old.own.mine + 1 < most_entries }
     requires room { 1 < pass.old.spare }
     ensures may { MayCall call.End shared.now pass.new }
     ensures count { counted pass.new.own.mine ≤ counted pass.old.own.mine + 1 }
@@ -367,7 +368,7 @@ fn printed(shared: &Shared, pass: &mut Pass) -> bool
 // How often the thread printed, in so many tries.
 fn prints(shared: &Shared, pass: &mut Pass, tries: u32) -> u32
     requires may { MayCall call.End shared.now pass.old }
-    requires few { counted pass.old.own.mine + tries < 2 ^ 50 }
+    requires few { counted pass.old.own.mine + tries < most_entries }
     requires room { tries < pass.old.spare }
     ensures few { result ≤ tries }
     ensures may { MayCall call.End shared.now pass.new }

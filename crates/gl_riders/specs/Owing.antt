@@ -1,5 +1,5 @@
 -- Private words beside a pass: what they have is what the pass may repeat, and what it owes.
-use Rattle.std.specs.Prelude.{◌≡◌, ◌↔◌, ℕ, ℤ, ◌<◌, ◌^◌, if◌then◌else◌, is_some, ◌++◌, ◌∷◌, [], Bool, true, false, List, length, Contains, Option, Some, None}
+use Rattle.std.specs.Prelude.{◌≡◌, ◌↔◌, ℕ, ℤ, ◌<◌, if◌then◌else◌, is_some, ◌++◌, ◌∷◌, [], Bool, true, false, List, length, Contains, Option, Some, None}
 use Rattle.gl_model.specs.Entries.{Entry, Plain}
 use Rattle.gl_model.specs.declared.limits.TheConstants.{VARIABLES}
 use Rattle.gl_draws.specs.Cached.{IsLastValue}
@@ -13,6 +13,7 @@ use Rattle.gl_rows.specs.declared.accessing.Seen.{Seen}
 use Rattle.gl_rows.specs.Accessing.{HasEntry, is_raised, value_told}
 use Rattle.gl_table.specs.RightOf.{right_of}
 use Rattle.gl_txn.specs.Attempts.{Attempting}
+use Rattle.gl_rule.specs.Bounded.{most_entries}
 
 -- the last performed access of the variable has this value
 abbrev pub IsLast : List Entry → ℕ → ℤ → Type 0
@@ -57,7 +58,7 @@ pub record MayMark (z : TableView) (p : PassView) : Type 0 where
   pub held : p.own.held ≡ []
   pub drawn : p.own.drawn ≡ []
   pub spare : 0 < p.spare
-  pub few : counted p.own.mine < 2 ^ 50
+  pub few : counted p.own.mine < most_entries
   pub runs : life_of p.own.mine ≡ Running
 
 -- private words beside a thread: inside an attempt there are none, and nothing is owed; the rights that the pass has then end with the

@@ -1,5 +1,5 @@
 -- What a checked access asks of its pass, and does.
-use Rattle.std.specs.Prelude.{◌≡◌, ◌↔◌, ◌⊎◌, ℕ, ℤ, suc, ◌<◌, ◌^◌, true, false, pos, Bool, if◌then◌else◌, List, [], ◌∷◌, ◌++◌, ◌+◌, ◌*◌, length, Option, Some, None, Contains}
+use Rattle.std.specs.Prelude.{◌≡◌, ◌↔◌, ◌⊎◌, ℕ, ℤ, suc, ◌<◌, true, false, pos, Bool, if◌then◌else◌, List, [], ◌∷◌, ◌++◌, ◌+◌, ◌*◌, length, Option, Some, None, Contains}
 use Rattle.std.specs.Option.{is_some}
 use Rattle.gl_model.specs.declared.event.Stamp.{Stamp}
 use Rattle.gl_model.specs.declared.limits.TheConstants.{THREADS}
@@ -27,6 +27,7 @@ use Rattle.gl_table.specs.PassView.{PassView, Own, shelf_of}
 use Rattle.gl_table.specs.TableView.{TableView}
 use Rattle.gl_rows.specs.Costs.{WalkCosts}
 use Rattle.gl_rows.specs.Walks.{placed_from}
+use Rattle.gl_rule.specs.Bounded.{most_entries}
 
 -- the pass is of this table, holds nothing, waits for no entry, does not owe the variable, has room for an entry, and its thread runs
 pub record MayAccess (z : TableView) (p : PassView) (x : ℕ) : Type 0 where
@@ -35,7 +36,7 @@ pub record MayAccess (z : TableView) (p : PassView) (x : ℕ) : Type 0 where
   pub drawn : p.own.drawn ≡ []
   pub owed : (o : ℕ × ℤ) → Contains p.own.owed o → o.0 ≡ x → ⊥
   pub spare : 0 < p.spare
-  pub few : counted p.own.mine < 2 ^ 50
+  pub few : counted p.own.mine < most_entries
   pub runs : life_of p.own.mine ≡ Running
 
 -- what an access to the row does, once it is judged: a raised read has the value 0

@@ -1,5 +1,6 @@
 // The steps on the table's words, each with what it tells its seat.
 ghost use Rattle.std.specs.Prelude.{◌≡◌, pos, ℕ, ℤ, ◌<◌, ◌%◌, ◌+◌, ◌*◌, ◌^◌, suc, ◌∷◌, [], List, length, Contains};
+ghost use Rattle.gl_model.specs.declared.limits.TheConstants.{VARIABLES};
 ghost use Rattle.gl_model.specs.declared.event.Event.TheVariants.{Act as Does};
 ghost use Rattle.gl_model.specs.declared.row.Row.{Row as ARow};
 ghost use Rattle.gl_model.specs.declared.row.Question.{Question};
@@ -159,7 +160,7 @@ pub fn draw_number<B: Told>(
 ) -> u64
     requires table { OfTable seat.old.table_id board.now.table_id (key_of board.now.key) }
     requires ready { IsReady seat.old.me.0 id mine.now.entries }
-    requires near { var < 1024 }
+    requires near { var < VARIABLES }
     requires told { (B.view ≡ caught_up seat.old.me.0 id mine.now.entries) × (B.mark ≡ record { shelf = shelf id mine.now.entries; block = block_of mine.now.entries; write = write; value = value; raised = raised }) × (B.object ≡ var) × (B.held ≡ held_at (var + 1) (caught_up seat.old.me.0 id mine.now.entries).held) }
     requires may { (taken : ARow) × (q : Question) × MayMark (key_of board.now.key).setting (shelf id mine.now.entries) (caught_up seat.old.me.0 id mine.now.entries) (held_at (var + 1) (caught_up seat.old.me.0 id mine.now.entries).held) var taken (block_of mine.now.entries) q write value raised }
     ensures seat { (seat.new.table_id ≡ seat.old.table_id) × (seat.new.id ≡ seat.old.id) }
@@ -172,7 +173,7 @@ pub fn draw_number<B: Told>(
 pub fn load_floor<B: Told>(board: &Board, seat: &mut Seat, id: u8, mine: &OwnList, var: u16) -> u64
     requires table { OfTable seat.old.table_id board.now.table_id (key_of board.now.key) }
     requires ready { IsReady seat.old.me.0 id mine.now.entries }
-    requires near { var < 1024 }
+    requires near { var < VARIABLES }
     requires told { (B.view ≡ caught_up seat.old.me.0 id mine.now.entries) × (B.held ≡ held_at (var + 1) (caught_up seat.old.me.0 id mine.now.entries).held) }
     requires held { Contains (caught_up seat.old.me.0 id mine.now.entries).held (held_at (var + 1) (caught_up seat.old.me.0 id mine.now.entries).held) × ((held_at (var + 1) (caught_up seat.old.me.0 id mine.now.entries).held).object ≡ suc var) }
     ensures seat { (seat.new.table_id ≡ seat.old.table_id) × (seat.new.id ≡ seat.old.id) }
@@ -193,7 +194,7 @@ pub fn raise_floor<B: Told>(
 )
     requires table { OfTable seat.old.table_id board.now.table_id (key_of board.now.key) }
     requires ready { IsReady seat.old.me.0 id mine.now.entries }
-    requires near { var < 1024 }
+    requires near { var < VARIABLES }
     requires told { (B.view ≡ caught_up seat.old.me.0 id mine.now.entries) × (B.held ≡ held_at (var + 1) (caught_up seat.old.me.0 id mine.now.entries).held) × (B.event.state ≡ slot.Row row.now) }
     requires may { (taken : ARow) × MayRaise (key_of board.now.key).setting (shelf id mine.now.entries) (caught_up seat.old.me.0 id mine.now.entries) (held_at (var + 1) (caught_up seat.old.me.0 id mine.now.entries).held) var taken row.now to }
     ensures seat { (seat.new.table_id ≡ seat.old.table_id) × (seat.new.id ≡ seat.old.id) }
@@ -248,7 +249,7 @@ pub fn open_number<B: Told>(
     requires table { OfTable seat.old.table_id board.now.table_id (key_of board.now.key) }
     requires ready { IsReady seat.old.me.0 id mine.now.entries }
     requires told { (B.view ≡ caught_up seat.old.me.0 id mine.now.entries) × (B.mark.shelf ≡ shelf id mine.now.entries) × (B.mark.block ≡ block_of mine.now.entries) × (B.object ≡ var) × (B.look ≡ look) }
-    requires near { var < 1024 }
+    requires near { var < VARIABLES }
     requires may { (taken : ARow) × MayOpen (shelf id mine.now.entries) (caught_up seat.old.me.0 id mine.now.entries) B.held var taken (block_of mine.now.entries) look }
     ensures seat { (seat.new.table_id ≡ seat.old.table_id) × (seat.new.id ≡ seat.old.id) }
     ensures drew { Opened (shelf id mine.now.entries) B.held var (block_of mine.now.entries) look (caught_up seat.old.me.0 id mine.now.entries) seat.old.me.1 result seat.new.me }
@@ -261,7 +262,7 @@ pub fn leave_paid<B: Told>(board: &Board, seat: &mut Seat, id: u8, mine: &OwnLis
     requires table { OfTable seat.old.table_id board.now.table_id (key_of board.now.key) }
     requires ready { IsReady seat.old.me.0 id mine.now.entries }
     requires told { (B.view ≡ caught_up seat.old.me.0 id mine.now.entries) × (B.object ≡ var) × (B.event.state ≡ head_slot seat.old.me.1) }
-    requires near { var < 1024 }
+    requires near { var < VARIABLES }
     requires back { (row : ARow) × (c : List (ℕ × ASlot)) × (seat.old.me.1 ≡ (var + 1, slot.Row row) ∷ c) × ((taken : ARow) × (value : ℤ) × MayPay (caught_up seat.old.me.0 id mine.now.entries) B.held var taken value × (row ≡ record taken { value = value })) }
     ensures seat { (seat.new.table_id ≡ seat.old.table_id) × (seat.new.id ≡ seat.old.id) }
     ensures left { PaidLeft var B.held (head_slot seat.old.me.1) (caught_up seat.old.me.0 id mine.now.entries) seat.old.me.1 seat.new.me }

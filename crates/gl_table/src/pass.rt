@@ -1,6 +1,6 @@
 // What one thread brings to the table and takes from it.
 ghost use Rattle.std.specs.Prelude.{◌≡◌, ◌≢◌, map, ◌||◌, ℕ, ◌<◌, ◌≤◌, ◌+◌, true, false, suc, Contains, OnOk, OnErr, IfOk, IfErr, Some};
-ghost use Rattle.gl_model.specs.declared.limits.TheConstants.{THREADS};
+ghost use Rattle.gl_model.specs.declared.limits.TheConstants.{THREADS, VARIABLES};
 ghost use Rattle.gl_model.specs.Entries.{Abort, Over, Plain};
 ghost use Rattle.gl_rule.specs.Lives.{Ended, life_of};
 ghost use Rattle.gl_model.specs.declared.row.Row.{Row as ARow};
@@ -257,7 +257,7 @@ pub(crate) fn put_object(board: &Board, pass: &mut Pass, k: u16, slot: Slot, qui
 // Loads the hold of a row that is held.
 pub(crate) fn see_floor(board: &Board, pass: &mut Pass, var: u16) -> u64
     requires table { OfTable pass.old.own.table board.now.table_id (key_of board.now.key) }
-    requires near { var < 1024 }
+    requires near { var < VARIABLES }
     requires held { Contains pass.old.own.held (held_at (var + 1) pass.old.own.held) × ((held_at (var + 1) pass.old.own.held).object ≡ suc var) }
     ensures pass { pass.new ≡ after pass.old (saw_floor (view_of pass.old) (held_at (var + 1) pass.old.own.held) result) }
     ensures same { (m : ℕ) → (held_at (var + 1) pass.old.own.held).floor ≡ Some m → result ≡ m }
@@ -268,7 +268,7 @@ pub(crate) fn see_floor(board: &Board, pass: &mut Pass, var: u16) -> u64
 // Raises the hold of a row that is held, whose Infos have been moved up.
 pub(crate) fn raise_hold(board: &Board, pass: &mut Pass, var: u16, row: &Row, to: u64)
     requires table { OfTable pass.old.own.table board.now.table_id (key_of board.now.key) }
-    requires near { var < 1024 }
+    requires near { var < VARIABLES }
     requires may { (taken : ARow) × MayRaise (key_of board.now.key).setting (shelf_of pass.old) (view_of pass.old) (held_at (var + 1) pass.old.own.held) var taken row.now to }
     ensures pass { pass.new ≡ after pass.old (raised (view_of pass.old) (held_at (var + 1) pass.old.own.held) (slot.Row row.now) to) }
 {

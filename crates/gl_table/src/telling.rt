@@ -1,5 +1,6 @@
 // Publishing an event whose words stand in its cell.
 ghost use Rattle.std.specs.Prelude.{◌≡◌, ◌<◌, ◌^◌, [], length};
+ghost use Rattle.gl_model.specs.declared.limits.TheConstants.{VARIABLES};
 ghost use Rattle.gl_model.specs.Entries.{Sync};
 ghost use Rattle.gl_model.specs.Records.{variables_of};
 ghost use Rattle.gl_table.specs.CaughtUp.{caught_up};
@@ -128,7 +129,7 @@ pub(crate) fn mark_plain(
     raised: bool,
 ) -> u64
     requires table { OfTable pass.old.own.table board.now.table_id (key_of board.now.key) }
-    requires near { var < 1024 }
+    requires near { var < VARIABLES }
     requires spare { 0 < pass.old.spare }
     requires may { MayMarkPlain (key_of board.now.key).setting pass.old var write value raised }
     ensures marked { pass.new ≡ marked_plain pass.old var result write value raised }
@@ -157,7 +158,7 @@ pub(crate) fn mark_plain(
 // Draws a number on a held row, for a look with this word or for the end of an attempt.
 pub(crate) fn open(board: &Board, pass: &mut Pass, var: u16, look: Option<i64>) -> u64
     requires table { OfTable pass.old.own.table board.now.table_id (key_of board.now.key) }
-    requires near { var < 1024 }
+    requires near { var < VARIABLES }
     requires may { MayOpenOn pass.old var look }
     ensures opened { pass.new ≡ opened pass.old var result look }
     ensures above { IsAboveDrawn var result pass.old.own.drawn }
@@ -168,7 +169,7 @@ pub(crate) fn open(board: &Board, pass: &mut Pass, var: u16, look: Option<i64>) 
 // Puts a row back, which has a value that was owed.
 pub(crate) fn put_paid(board: &Board, pass: &mut Pass, var: u16, row: KeptRow)
     requires table { OfTable pass.old.own.table board.now.table_id (key_of board.now.key) }
-    requires near { var < 1024 }
+    requires near { var < VARIABLES }
     requires may { MayPayOn pass.old var row }
     ensures { pass.new ≡ paid_back pass.old var row }
 {

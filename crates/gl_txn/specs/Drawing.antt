@@ -1,5 +1,5 @@
 -- Numbers that are drawn for the end of an attempt.
-use Rattle.std.specs.Prelude.{◌≡◌, ℕ, ℤ, ◌-◌, ◌<◌, ◌≤◌, ◌^◌, if◌then◌else◌, List, [], ◌∷◌, ◌++◌, map, length, Contains, Option, Some, None}
+use Rattle.std.specs.Prelude.{◌≡◌, ℕ, ℤ, ◌-◌, ◌<◌, ◌≤◌, if◌then◌else◌, List, [], ◌∷◌, ◌++◌, map, length, Contains, Option, Some, None}
 use Rattle.gl_model.specs.declared.tx.Number.{Number}
 use Rattle.gl_model.specs.declared.tx.Tx.{Tx}
 use Rattle.gl_model.specs.declared.tx.Why.{Why}
@@ -15,6 +15,7 @@ use Rattle.gl_table.specs.PassView.{PassView}
 use Rattle.gl_txn.specs.Attempts.{Attempting}
 use Rattle.gl_txn.specs.Holding.{AreHeld, undrawn}
 use Rattle.gl_txn.specs.declared.taken.TakenRow.{TakenRow}
+use Rattle.gl_rule.specs.Bounded.{most_entries}
 
 -- a number of an end that waits for its entry
 abbrev pub end_of : Number → Drawn
@@ -34,7 +35,7 @@ pub record MayNumber (p : PassView) (rows : List TakenRow) : Type 0 where
   pub tails : List ℕ
   pub held : AreHeld p.own.held list rows tails undrawn
   pub owed : p.own.owed ≡ []
-  pub few : counted p.own.mine < 2 ^ 50
+  pub few : counted p.own.mine < most_entries
   pub runs : life_of p.own.mine ≡ Running
   pub each : (y : ℕ) → count_on y p.own.drawn ≤ 1
 

@@ -1,5 +1,5 @@
 -- A pass that reaches for the list, and publishes a commit.
-use Rattle.std.specs.Prelude.{◌≡◌, ◌≢◌, ℕ, suc, false, slice_get, ◌<◌, ◌≤◌, ◌^◌, List, [], ◌∷◌, ◌++◌, map, Some, None}
+use Rattle.std.specs.Prelude.{◌≡◌, ◌≢◌, ℕ, suc, false, slice_get, ◌<◌, ◌≤◌, List, [], ◌∷◌, ◌++◌, map, Some, None}
 use Rattle.gl_model.specs.declared.limits.TheConstants.{THREADS}
 use Rattle.gl_model.specs.declared.tx.Tx.{Tx}
 use Rattle.gl_model.specs.Entries.{Commit}
@@ -26,6 +26,7 @@ use Rattle.gl_table.specs.TableView.{TableView}
 use Rattle.gl_txn.specs.Ending.{HasRoomAt}
 use Rattle.gl_txn.specs.declared.stops.TxWait.{TxWait}
 use Rattle.gl_txn.specs.declared.stops.TxWait.TheVariants as wait
+use Rattle.gl_rule.specs.Bounded.{most_entries}
 
 -- the list was taken, and the first segment and the tail loaded
 abbrev pub with_list : PassView → ListView → PassView
@@ -58,7 +59,7 @@ pub record IsReady (p : PassView) (rows : List TakenRow) (tx : Tx) : Type 0 wher
   pub held : AreHeld p.own.held None rows (p.seen ∷ []) undrawn
   pub below : AreBelow p.seen (shelf_of p)
   pub owed : p.own.owed ≡ []
-  pub few : counted p.own.mine < 2 ^ 50
+  pub few : counted p.own.mine < most_entries
   pub runs : life_of p.own.mine ≡ Running
   pub draws : Draws (attempt_in tx) p.own
   pub looks : AreVariables (map (λ l. l.var) tx.looks)

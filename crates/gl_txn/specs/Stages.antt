@@ -1,5 +1,5 @@
 -- What the parts of an attempt's end leave of the pass.
-use Rattle.std.specs.Prelude.{◌≡◌, ◌≢◌, ℕ, suc, ◌-◌, ◌<◌, ◌≤◌, ◌^◌, List, [], ◌∷◌, ◌++◌, None}
+use Rattle.std.specs.Prelude.{◌≡◌, ◌≢◌, ℕ, suc, ◌-◌, ◌<◌, ◌≤◌, List, [], ◌∷◌, ◌++◌, None}
 use Rattle.gl_model.specs.declared.tx.Tx.{Tx}
 use Rattle.gl_model.specs.Records.{variables_of}
 use Rattle.gl_model.specs.declared.event.Stamp.{Stamp}
@@ -20,13 +20,14 @@ use Rattle.gl_txn.specs.declared.stops.TxEnd.TheVariants as end
 use Rattle.gl_txn.specs.declared.stops.TxWait.{TxWait}
 use Rattle.gl_txn.specs.declared.stops.TxWait.TheVariants as wait
 use Rattle.gl_txn.specs.declared.taken.TakenRow.{TakenRow}
+use Rattle.gl_rule.specs.Bounded.{most_entries}
 
 -- the pass holds just the rows of the variables of tx, as they were taken; its thread runs
 pub record HoldsRows (p : PassView) (rows : List TakenRow) (tx : Tx) : Type 0 where
   pub of : vars_of rows ≡ variables_of tx
   pub held : AreHeld p.own.held None rows [] undrawn
   pub owed : p.own.owed ≡ []
-  pub few : counted p.own.mine < 2 ^ 50
+  pub few : counted p.own.mine < most_entries
   pub runs : life_of p.own.mine ≡ Running
   pub draws : Draws (attempt_in tx) p.own
   pub writes : HaveWrites tx.writes rows

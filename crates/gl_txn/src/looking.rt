@@ -1,5 +1,5 @@
 // A look: the word of a variable, under its row's turn, with a number.
-ghost use Rattle.std.specs.Prelude.{◌≡◌, ◌≢◌, ◌<◌, ◌^◌, suc, [], IfOk, IfErr};
+ghost use Rattle.std.specs.Prelude.{◌≡◌, ◌≢◌, ◌<◌, suc, [], IfOk, IfErr};
 ghost use Rattle.gl_model.specs.declared.limits.TheConstants.{VARIABLES, THREADS};
 ghost use Rattle.gl_draws.specs.Ties.{counted};
 ghost use Rattle.gl_rule.specs.Lives.{Running, life_of};
@@ -7,6 +7,7 @@ ghost use Rattle.gl_rule.specs.Numbers.{count_on};
 ghost use Rattle.gl_rule.specs.View.{refused};
 ghost use Rattle.gl_table.specs.PassView.{view_of, after};
 ghost use Rattle.gl_txn.specs.Looked.{IsLookAt};
+ghost use Rattle.gl_rule.specs.Bounded.{most_entries};
 
 use gl_model::Look;
 use gl_table::{Pass, Shared};
@@ -17,7 +18,7 @@ pub(crate) fn look_at(shared: &Shared, pass: &mut Pass, var: u16) -> Result<Look
     requires there { var < VARIABLES }
     requires held { pass.old.own.held ≡ [] }
     requires owed { pass.old.own.owed ≡ [] }
-    requires few { counted pass.old.own.mine < 2 ^ 50 }
+    requires few { counted pass.old.own.mine < most_entries }
     requires runs { life_of pass.old.own.mine ≡ Running }
     requires room { count_on var pass.old.own.drawn ≡ 0 }
     ensures look { IfOk result (λ l. IsLookAt var l pass.old pass.new) }
